@@ -1,0 +1,11 @@
+pub mod Refusal
+pub mod Test
+pub mod Plan
+pub mod Rules
+pub mod Field
+pub mod Reader
+pub mod Writer
+pub mod Table
+pub mod Measure
+pub mod Flat
+pub mod Cases

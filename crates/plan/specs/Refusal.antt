@@ -1,0 +1,39 @@
+-- Why an input is turned down (document 01, "Turned down"), and what an entry answers.
+--   numberOf cause == the number of a cause, as document 01's table has it
+--   Outcome A      == the number of a refusal, or what was asked for
+-- Assumes nothing.
+use Prim.Native.Nat.{ℕ}
+use Rattle.plan.specs.declared.refusal.Refusal.{Refusal}
+use Rattle.plan.specs.declared.refusal.Refusal.the-variants.{
+  RanOut, Form, Range, Spawn, Join, Fill, Workers, Choices, Short, Table, Schedule, Rule
+}
+
+abbrev pub numberOf : Refusal → ℕ
+-- bits run out in a plan
+numberOf RanOut = 1
+-- form is not 1
+numberOf Form = 2
+-- job count, frame, action count or sum outside its range
+numberOf Range = 3
+-- a spawn rule is broken
+numberOf Spawn = 4
+-- a join rule is broken
+numberOf Join = 5
+-- fill bit not 0, or bytes left over
+numberOf Fill = 6
+-- worker count 0 or above 16
+numberOf Workers = 7
+-- choice not below P, over 4,096 choices, or none with P above 1
+numberOf Choices = 8
+-- output buffer too short
+numberOf Short = 9
+-- open table empty, not whole rows, or breaks its row rules
+numberOf Table = 10
+-- schedule length, form, worker count, action count, zero bits or a round of 0
+numberOf Schedule = 11
+-- a schedule rule is broken
+numberOf Rule = 12
+
+pub data Outcome (A : Type 0) : Type 0 where
+  refused : ℕ → Outcome A
+  accepted : A → Outcome A
