@@ -1,10 +1,11 @@
 -- A plan as flat arrays, and what it is for the arrays to hold a plan.
---   starts k p     == the place of each job's first action in plan order, counted from k, and of the end
---   Laid p ..      == the arrays hold the plan's jobs and actions
---   Spawned p ..   == the arrays hold each job's parent and the position of its spawn
---   Entered p ..   == the array holds how many joins enter each action
---   Holds p f      == f holds the plan p: all of these
---   Read s r       == what reading the bytes s answers: the refusal, or arrays that hold the plan
+--   starts k p        == the place of each job's first action in plan order, counted from k, and of the end
+--   Frames, Firsts    == the array holds each job's frame, the place of its first action (and the end)
+--   Jobs, Spawns, Joins == the array holds each action's job, child number plus 1 or 0, target plus 1 or 0
+--   Spawned           == the arrays hold each job's parent and the position of its spawn
+--   Entered           == the array holds how many joins enter each action
+--   Holds p f         == f holds the plan p: all of these
+--   Read s r          == what reading the bytes s answers: the refusal, or arrays that hold the plan
 -- Assumes nothing.
 use Prim.Native.Nat.{ℕ, zero, suc, _+_, _≤_, _<_}
 use mathlib.Core.Path.{_≡_}
@@ -22,24 +23,36 @@ abbrev pub starts : ℕ → List Job → List ℕ
 starts k [] = k ∷ []
 starts k (b ∷ bs) = k ∷ starts (k + length (b .actions)) bs
 
-pub record Laid (p : Plan) (frame first job spawn join : List ℕ) : Type 0 where
-  pub frames : take (length p) frame ≡ map (λ b. b .frame) p
-  pub firsts : take (suc (length p)) first ≡ starts 0 p
-  pub jobs : take (work p) job ≡ map (λ a. a .job) (placed p)
-  pub spawns : take (work p) spawn ≡ map (λ a. a .spawn) (placed p)
-  pub joins : take (work p) join ≡ map (λ a. a .join) (placed p)
+abbrev pub Frames : Plan → List ℕ → Type 0
+Frames p l = take (length p) l ≡ map (λ b. b .frame) p
+
+abbrev pub Firsts : Plan → List ℕ → Type 0
+Firsts p l = take (suc (length p)) l ≡ starts 0 p
+
+abbrev pub Jobs : Plan → List ℕ → Type 0
+Jobs p l = take (work p) l ≡ map (λ a. a .job) (placed p)
+
+abbrev pub Spawns : Plan → List ℕ → Type 0
+Spawns p l = take (work p) l ≡ map (λ a. a .spawn) (placed p)
+
+abbrev pub Joins : Plan → List ℕ → Type 0
+Joins p l = take (work p) l ≡ map (λ a. a .join) (placed p)
 
 pub record Spawned (p : Plan) (jobs positions : List ℕ) : Type 0 where
   pub parents : (c : ℕ) → 1 ≤ c → c < length p → getD jobs c 0 ≡ parent p c
   pub spawns : (c : ℕ) → 1 ≤ c → c < length p → getD positions c 0 ≡ spawnAt p c
 
 abbrev pub Entered : Plan → List ℕ → Type 0
-Entered p counts = take (work p) counts ≡ map (λ a. entering p (a .job) (a .position)) (placed p)
+Entered p l = take (work p) l ≡ map (λ a. entering p (a .job) (a .position)) (placed p)
 
 pub record Holds (p : Plan) (f : FlatPlan) : Type 0 where
   pub jobs : f .jobs ≡ length p
   pub actions : f .actions ≡ work p
-  pub laid : Laid p (f .frame) (f .first) (f .job) (f .spawn) (f .join)
+  pub frames : Frames p (f .frame)
+  pub firsts : Firsts p (f .first)
+  pub owners : Jobs p (f .job)
+  pub spawns : Spawns p (f .spawn)
+  pub joins : Joins p (f .join)
   pub spawned : Spawned p (f .parent) (f .«spawn_position»)
   pub entered : Entered p (f .entering)
 

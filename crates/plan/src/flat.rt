@@ -1,6 +1,11 @@
+// A plan as flat arrays, and what reading one answers.
+ghost use mathlib.Core.Path.{_≡_};
+ghost use Prim.Native.Nat.{_<_};
+
 use crate::refusal::Refusal;
 
-// A plan as flat arrays: `first`, `job`, `spawn`, `join` and `entering` by the action's place in plan order, the others by job.
+// `frame`, `first`, `parent` and `spawn_position` go by job, and `first` has the end of the last job too; `job`, `spawn`, `join`
+// and `entering` go by an action's place in plan order. `spawn` and `join` hold a number plus 1, or 0 for none.
 pub struct FlatPlan {
     pub jobs: usize,
     pub actions: usize,
@@ -22,4 +27,17 @@ pub enum Verdict {
 pub struct Reading {
     pub verdict: Verdict,
     pub plan: FlatPlan,
+}
+
+// An element of an array as an index.
+pub fn wide8(x: u8) -> usize
+    ensures { λ r. ⌜ (r ≡ x) × (r < 256) ⌝ }
+{
+    x as usize
+}
+
+pub fn wide16(x: u16) -> usize
+    ensures { λ r. ⌜ (r ≡ x) × (r < 65536) ⌝ }
+{
+    x as usize
 }

@@ -1,8 +1,7 @@
-// The lower library of the build runner: bit fields, plans, their rules, their bytes, the open table and the measures.
+// The lower library of the build runner: bit fields, the rules of a plan, and the reader of plan bytes.
+// It assumes nothing. Every entry says for all inputs, refusals with them, what it answers.
 pub mod field;
 pub mod flat;
-pub mod measure;
 pub mod reader;
 pub mod refusal;
 pub mod rules;
-pub mod table;

@@ -1,4 +1,10 @@
 // Reading plan bytes into flat arrays (document 01, "Plan" and "Turned down").
+ghost use mathlib.Core.Path.{_≡_};
+ghost use Prim.Native.Nat.{_+_, _*_, _^_, _≤_, _<_};
+ghost use lib.ListN.{length, getD};
+ghost use Rattle.plan.specs.Reader.{numberAt, jobsAt, planAt, fills};
+ghost use Rattle.plan.specs.Flat.{Read};
+ghost use Rattle.plan.specs.Progress.{numberStep, RowsLong, ArraysLong, ActionRead, ActionsRead, HeaderRead, JobRead, PlanRead};
 use crate::field::Field;
 use crate::field::cut;
 use crate::flat::FlatPlan;
@@ -29,29 +35,65 @@ pub enum Header {
 // The job count, the action count, and where the fill bits begin.
 pub enum Body {
     Refused(Refusal),
-    Is { jobs: usize, actions: usize, next: usize },
+    Is {
+        jobs: usize,
+        actions: usize,
+        next: usize,
+    },
 }
 
 // A bit, and if it is 1 a number of 8 bits.
-fn number_at(s: &[u8], at: usize) -> Number {
-    let Field::Cut { value: there, next: after } = cut(s, at, 1) else {
+fn number_at(s: &[u8], at: usize) -> Number
+    requires { ⌜ at < 2 ^ 18 ⌝ }
+    ensures { λ r. ⌜ numberStep r ≡ numberAt (now (s .entry)) at ⌝ }
+{
+    let Field::Cut {
+        value: there,
+        next: after,
+    } = cut(s, at, 1)
+    else {
         return Number::Refused(Refusal::RanOut);
     };
     if there == 0 {
-        return Number::Is { value: 0, next: after };
+        return Number::Is {
+            value: 0,
+            next: after,
+        };
     }
     let Field::Cut { value, next } = cut(s, after, 8) else {
         return Number::Refused(Refusal::RanOut);
     };
-    Number::Is { value: value as u16 + 1, next }
+    Number::Is {
+        value: value as u16 + 1,
+        next,
+    }
 }
 
 // Reads the action at place `at` into place k of the arrays.
-fn read_action(s: &[u8], at: usize, number: u8, k: usize, job: &mut [u8; 2048], spawn: &mut [u16; 2048], join: &mut [u16; 2048]) -> Progress {
-    let Number::Is { value: child, next: after } = number_at(s, at) else {
+fn read_action(
+    s: &[u8],
+    at: usize,
+    number: u8,
+    k: usize,
+    job: &mut [u8; 2048],
+    spawn: &mut [u16; 2048],
+    join: &mut [u16; 2048],
+) -> Progress
+    requires { ⌜ (at < 2 ^ 17) × (k < 2048) × RowsLong (record { job = now job; spawn = now spawn; join = now join }) ⌝ }
+    ensures { λ r. ⌜ ActionRead (now (s .entry)) at number k (record { job = now (job .entry); spawn = now (spawn .entry); join = now (join .entry) }) (record { job = now (job .exit); spawn = now (spawn .exit); join = now (join .exit) }) r ⌝ }
+{
+    let Number::Is {
+        value: child,
+        next: after,
+    } = number_at(s, at)
+    else {
         return Progress::Refused(Refusal::RanOut);
     };
-    let Number::Is { value: target, next } = number_at(s, after) else {
+    let Number::Is {
+        value: target,
+        next,
+    } = number_at(s, after)
+    else {
         return Progress::Refused(Refusal::RanOut);
     };
     job[k] = number;
@@ -61,7 +103,19 @@ fn read_action(s: &[u8], at: usize, number: u8, k: usize, job: &mut [u8; 2048], 
 }
 
 // Reads `count` actions of one job into the arrays from place `from` on.
-fn read_actions(s: &[u8], at: usize, number: u8, from: usize, count: usize, job: &mut [u8; 2048], spawn: &mut [u16; 2048], join: &mut [u16; 2048]) -> Progress {
+fn read_actions(
+    s: &[u8],
+    at: usize,
+    number: u8,
+    from: usize,
+    count: usize,
+    job: &mut [u8; 2048],
+    spawn: &mut [u16; 2048],
+    join: &mut [u16; 2048],
+) -> Progress
+    requires { ⌜ (at + 18 * count < 2 ^ 17) × (from + count ≤ 2048) × RowsLong (record { job = now job; spawn = now spawn; join = now join }) ⌝ }
+    ensures { λ r. ⌜ ActionsRead (now (s .entry)) at count number from (record { job = now (job .entry); spawn = now (spawn .entry); join = now (join .entry) }) (record { job = now (job .exit); spawn = now (spawn .exit); join = now (join .exit) }) r ⌝ }
+{
     let mut place = at;
     let mut k = from;
     let mut left = count;
@@ -77,8 +131,15 @@ fn read_actions(s: &[u8], at: usize, number: u8, from: usize, count: usize, job:
 }
 
 // Reads a job's frame and action count, where `before` actions came before it.
-fn read_header(s: &[u8], at: usize, j: usize, before: usize, frame: &mut [u16; 256]) -> Header {
-    let Field::Cut { value: weight, next: after } = cut(s, at, 16) else {
+fn read_header(s: &[u8], at: usize, j: usize, before: usize, frame: &mut [u16; 256]) -> Header
+    requires { ⌜ (at < 2 ^ 16) × (j < 256) × (before ≤ 2048) × (length (now frame) ≡ 256) ⌝ }
+    ensures { λ r. ⌜ HeaderRead (now (s .entry)) before at j (now (frame .entry)) (now (frame .exit)) r ⌝ }
+{
+    let Field::Cut {
+        value: weight,
+        next: after,
+    } = cut(s, at, 16)
+    else {
         return Header::Refused(Refusal::RanOut);
     };
     if weight == 0 {
@@ -99,7 +160,20 @@ fn read_header(s: &[u8], at: usize, j: usize, before: usize, frame: &mut [u16; 2
 }
 
 // Reads job j, and tells how many actions there are up to its end.
-fn read_job(s: &[u8], at: usize, j: usize, before: usize, frame: &mut [u16; 256], first: &mut [u16; 257], job: &mut [u8; 2048], spawn: &mut [u16; 2048], join: &mut [u16; 2048]) -> Header {
+fn read_job(
+    s: &[u8],
+    at: usize,
+    j: usize,
+    before: usize,
+    frame: &mut [u16; 256],
+    first: &mut [u16; 257],
+    job: &mut [u8; 2048],
+    spawn: &mut [u16; 2048],
+    join: &mut [u16; 2048],
+) -> Header
+    requires { ⌜ (at < 2 ^ 16) × (j < 256) × (before ≤ 2048) × ArraysLong (record { frame = now frame; first = now first; rows = record { job = now job; spawn = now spawn; join = now join } }) ⌝ }
+    ensures { λ r. ⌜ JobRead (now (s .entry)) before at j (record { frame = now (frame .entry); first = now (first .entry); rows = record { job = now (job .entry); spawn = now (spawn .entry); join = now (join .entry) } }) (record { frame = now (frame .exit); first = now (first .exit); rows = record { job = now (job .exit); spawn = now (spawn .exit); join = now (join .exit) } }) r ⌝ }
+{
     match read_header(s, at, j, before, frame) {
         Header::Refused(cause) => Header::Refused(cause),
         Header::Is { size, next } => {
@@ -107,7 +181,10 @@ fn read_job(s: &[u8], at: usize, j: usize, before: usize, frame: &mut [u16; 256]
                 Progress::Refused(cause) => Header::Refused(cause),
                 Progress::At(end) => {
                     first[j + 1] = (before + size) as u16;
-                    Header::Is { size: before + size, next: end }
+                    Header::Is {
+                        size: before + size,
+                        next: end,
+                    }
                 }
             }
         }
@@ -115,7 +192,19 @@ fn read_job(s: &[u8], at: usize, j: usize, before: usize, frame: &mut [u16; 256]
 }
 
 // Reads all jobs.
-fn read_jobs(s: &[u8], at: usize, jobs: usize, frame: &mut [u16; 256], first: &mut [u16; 257], job: &mut [u8; 2048], spawn: &mut [u16; 2048], join: &mut [u16; 2048]) -> Body {
+fn read_jobs(
+    s: &[u8],
+    at: usize,
+    jobs: usize,
+    frame: &mut [u16; 256],
+    first: &mut [u16; 257],
+    job: &mut [u8; 2048],
+    spawn: &mut [u16; 2048],
+    join: &mut [u16; 2048],
+) -> Body
+    requires { ⌜ (at ≤ 17) × (jobs ≤ 256) × (getD (now first) 0 0 ≡ 0) × ArraysLong (record { frame = now frame; first = now first; rows = record { job = now job; spawn = now spawn; join = now join } }) ⌝ }
+    ensures { λ r. ⌜ PlanRead (jobsAt (now (s .entry)) jobs 0 at) (record { frame = now (frame .exit); first = now (first .exit); rows = record { job = now (job .exit); spawn = now (spawn .exit); join = now (join .exit) } }) r ⌝ }
+{
     let mut place = at;
     let mut actions = 0;
     let mut j = 0;
@@ -131,12 +220,30 @@ fn read_jobs(s: &[u8], at: usize, jobs: usize, frame: &mut [u16; 256], first: &m
         }
         j += 1;
     }
-    Body::Is { jobs, actions, next: place }
+    Body::Is {
+        jobs,
+        actions,
+        next: place,
+    }
 }
 
 // Reads the form and the job count, and then the jobs.
-fn read_body(s: &[u8], frame: &mut [u16; 256], first: &mut [u16; 257], job: &mut [u8; 2048], spawn: &mut [u16; 2048], join: &mut [u16; 2048]) -> Body {
-    let Field::Cut { value: form, next: after } = cut(s, 0, 8) else {
+fn read_body(
+    s: &[u8],
+    frame: &mut [u16; 256],
+    first: &mut [u16; 257],
+    job: &mut [u8; 2048],
+    spawn: &mut [u16; 2048],
+    join: &mut [u16; 2048],
+) -> Body
+    requires { ⌜ (getD (now first) 0 0 ≡ 0) × ArraysLong (record { frame = now frame; first = now first; rows = record { job = now job; spawn = now spawn; join = now join } }) ⌝ }
+    ensures { λ r. ⌜ PlanRead (planAt (now (s .entry))) (record { frame = now (frame .exit); first = now (first .exit); rows = record { job = now (job .exit); spawn = now (spawn .exit); join = now (join .exit) } }) r ⌝ }
+{
+    let Field::Cut {
+        value: form,
+        next: after,
+    } = cut(s, 0, 8)
+    else {
         return Body::Refused(Refusal::RanOut);
     };
     if form != 1 {
@@ -156,7 +263,10 @@ fn read_body(s: &[u8], frame: &mut [u16; 256], first: &mut [u16; 257], job: &mut
 }
 
 // Zero bits fill the last byte, and nothing follows.
-fn filled(s: &[u8], at: usize) -> bool {
+fn filled(s: &[u8], at: usize) -> bool
+    requires { ⌜ (at < 2 ^ 16) × (at ≤ 8 * length (now s)) ⌝ }
+    ensures { λ r. ⌜ r ≡ fills (now (s .entry)) at ⌝ }
+{
     let fill = (8 - at % 8) % 8;
     let Field::Cut { value, next } = cut(s, at, fill) else {
         return false;
@@ -167,66 +277,80 @@ fn filled(s: &[u8], at: usize) -> bool {
     next / 8 == s.len()
 }
 
-// The plan that the bytes hold, or why they are turned down.
-pub fn read_plan(s: &[u8]) -> Reading {
+// The answer to bytes that are turned down.
+fn refuse(cause: Refusal) -> Reading
+    ensures { λ r. ⌜ r .verdict ≡ Verdict.Refused cause ⌝ }
+{
+    Reading {
+        verdict: Verdict::Refused(cause),
+        plan: FlatPlan {
+            jobs: 0,
+            actions: 0,
+            frame: [0; 256],
+            first: [0; 257],
+            job: [0; 2048],
+            spawn: [0; 2048],
+            join: [0; 2048],
+            parent: [0; 256],
+            spawn_position: [0; 256],
+            entering: [0; 2048],
+        },
+    }
+}
+
+// The plan that the bytes hold, or why they are turned down: 1, 2 and 3 as the fields are read, then 6, 4, 5.
+pub fn read_plan(s: &[u8]) -> Reading
+    ensures { λ r. ⌜ Read (now (s .entry)) r ⌝ }
+{
     let mut frame = [0u16; 256];
     let mut first = [0u16; 257];
     let mut job = [0u8; 2048];
     let mut spawn = [0u16; 2048];
     let mut join = [0u16; 2048];
-    let mut parent = [0u8; 256];
-    let mut spawn_position = [255u8; 256];
-    let mut entering = [0u8; 2048];
-    let body = read_body(s, &mut frame, &mut first, &mut job, &mut spawn, &mut join);
-    let verdict = judge(s, body, &first, &job, &spawn, &join, &mut parent, &mut spawn_position, &mut entering);
-    let jobs = jobs_of(body);
-    let actions = actions_of(body);
-    Reading {
-        verdict,
-        plan: FlatPlan {
+    match read_body(s, &mut frame, &mut first, &mut job, &mut spawn, &mut join) {
+        Body::Refused(cause) => refuse(cause),
+        Body::Is {
             jobs,
             actions,
-            frame,
-            first,
-            job,
-            spawn,
-            join,
-            parent,
-            spawn_position,
-            entering,
-        },
-    }
-}
-
-fn jobs_of(b: Body) -> usize {
-    match b {
-        Body::Refused(_) => 0,
-        Body::Is { jobs, actions: _, next: _ } => jobs,
-    }
-}
-
-fn actions_of(b: Body) -> usize {
-    match b {
-        Body::Refused(_) => 0,
-        Body::Is { jobs: _, actions, next: _ } => actions,
-    }
-}
-
-// 6, then 4, then 5.
-fn judge(s: &[u8], b: Body, first: &[u16; 257], job: &[u8; 2048], spawn: &[u16; 2048], join: &[u16; 2048], parent: &mut [u8; 256], spawn_position: &mut [u8; 256], entering: &mut [u8; 2048]) -> Verdict {
-    match b {
-        Body::Refused(cause) => Verdict::Refused(cause),
-        Body::Is { jobs, actions, next } => {
+            next,
+        } => {
             if !filled(s, next) {
-                return Verdict::Refused(Refusal::Fill);
+                return refuse(Refusal::Fill);
             }
-            if !spawn_rules(jobs, actions, first, job, spawn, parent, spawn_position) {
-                return Verdict::Refused(Refusal::Spawn);
+            let spawns = spawn_rules(jobs, actions, &first, &job, &spawn);
+            let parent = spawns.parent;
+            let spawn_position = spawns.position;
+            if !spawns.kept {
+                return refuse(Refusal::Spawn);
             }
-            if !join_rules(actions, first, job, spawn, join, parent, spawn_position, entering) {
-                return Verdict::Refused(Refusal::Join);
+            let joins = join_rules(
+                actions,
+                &first,
+                &job,
+                &spawn,
+                &join,
+                &parent,
+                &spawn_position,
+            );
+            let entering = joins.entering;
+            if !joins.kept {
+                return refuse(Refusal::Join);
             }
-            Verdict::Accepted
+            Reading {
+                verdict: Verdict::Accepted,
+                plan: FlatPlan {
+                    jobs,
+                    actions,
+                    frame,
+                    first,
+                    job,
+                    spawn,
+                    join,
+                    parent,
+                    spawn_position,
+                    entering,
+                },
+            }
         }
     }
 }

@@ -1,18 +1,42 @@
 // The spawn rules and the join rules of a plan, over its flat arrays (document 01, "Plan").
+ghost use Prim.Native.Nat.{suc, _<_, _≤_};
+ghost use mathlib.Core.Path.{_≡_};
+ghost use lib.Dec.{T};
+ghost use Rattle.plan.specs.Plan.{Plan, work};
+ghost use Rattle.plan.specs.Rules.{spawnRules, joinRules};
+ghost use Rattle.plan.specs.Flat.{Spawned, Entered};
+ghost use Rattle.plan.specs.Given.{SpawnsGiven, JoinsGiven};
+ghost use Rattle.plan.specs.Kept.{Recorded, SpawnTold, AllTold, Counted, JoinTold};
+use crate::flat::wide8;
+use crate::flat::wide16;
 
-fn wide8(x: u8) -> usize {
-    x as usize
+// Whether the spawn rules are kept, and, where they are, each job's parent and the position of its spawn there.
+pub struct Spawns {
+    pub kept: bool,
+    pub parent: [u8; 256],
+    pub position: [u8; 256],
 }
 
-fn wide16(x: u16) -> usize {
-    x as usize
+// Whether the join rules are kept, and, where they are, how many joins enter each action.
+pub struct Joins {
+    pub kept: bool,
+    pub entering: [u8; 2048],
 }
 
-// Marks a job that no action has spawned; a position is at most 254.
-pub const UNSPAWNED: u8 = 255;
-
-// Records what action k spawns, or tells that it may not spawn it.
-fn spawn_rule(jobs: usize, k: usize, first: &[u16; 257], job: &[u8; 2048], spawn: &[u16; 2048], parent: &mut [u8; 256], spawn_position: &mut [u8; 256]) -> bool {
+// Records what action k spawns, or tells that it may not spawn it. A position of 255 marks a job that no action has spawned:
+// the last position of a job is at most 254.
+fn spawn_rule(
+    jobs: usize,
+    k: usize,
+    first: &[u16; 257],
+    job: &[u8; 2048],
+    spawn: &[u16; 2048],
+    parent: &mut [u8; 256],
+    position: &mut [u8; 256],
+) -> bool
+    requires { ⌜ ((p : Plan) × SpawnsGiven p jobs (work p) (now first) (now job) (now spawn) × (k < work p) × Recorded p k (now parent) (now position)) ⌝ }
+    ensures { λ r. ⌜ ((p : Plan) → SpawnsGiven p jobs (work p) (now (first .entry)) (now (job .entry)) (now (spawn .entry)) → k < work p → Recorded p k (now (parent .entry)) (now (position .entry)) → SpawnTold p (suc k) r (now (parent .exit)) (now (position .exit))) ⌝ }
+{
     let child = wide16(spawn[k]);
     if child == 0 {
         return true;
@@ -25,30 +49,45 @@ fn spawn_rule(jobs: usize, k: usize, first: &[u16; 257], job: &[u8; 2048], spawn
     if c <= q {
         return false;
     }
-    if spawn_position[c] != 255 {
+    if position[c] != 255 {
         return false;
     }
     parent[c] = job[k];
-    spawn_position[c] = (k - wide16(first[q])) as u8;
+    position[c] = (k - wide16(first[q])) as u8;
     true
 }
 
-// Every job but 0 is spawned exactly once, by a job of smaller number.
-pub fn spawn_rules(jobs: usize, actions: usize, first: &[u16; 257], job: &[u8; 2048], spawn: &[u16; 2048], parent: &mut [u8; 256], spawn_position: &mut [u8; 256]) -> bool {
+// No action breaks a rule of its own spawn.
+fn spawns_kept(
+    jobs: usize,
+    actions: usize,
+    first: &[u16; 257],
+    job: &[u8; 2048],
+    spawn: &[u16; 2048],
+    parent: &mut [u8; 256],
+    position: &mut [u8; 256],
+) -> bool
+    requires { ⌜ ((p : Plan) × SpawnsGiven p jobs actions (now first) (now job) (now spawn) × Recorded p 0 (now parent) (now position)) ⌝ }
+    ensures { λ r. ⌜ ((p : Plan) → SpawnsGiven p jobs actions (now (first .entry)) (now (job .entry)) (now (spawn .entry)) → Recorded p 0 (now (parent .entry)) (now (position .entry)) → SpawnTold p (work p) r (now (parent .exit)) (now (position .exit))) ⌝ }
+{
     let mut k = 0;
     while k < actions {
-        if !spawn_rule(jobs, k, first, job, spawn, parent, spawn_position) {
+        if !spawn_rule(jobs, k, first, job, spawn, parent, position) {
             return false;
         }
         k += 1;
     }
-    all_spawned(jobs, spawn_position)
+    true
 }
 
-fn all_spawned(jobs: usize, spawn_position: &[u8; 256]) -> bool {
+// Every job but 0 was spawned.
+fn all_spawned(jobs: usize, position: &[u8; 256]) -> bool
+    requires { ⌜ jobs ≤ 256 ⌝ }
+    ensures { λ r. ⌜ AllTold jobs (now (position .entry)) r ⌝ }
+{
     let mut c = 1;
     while c < jobs {
-        if spawn_position[c] == 255 {
+        if position[c] == 255 {
             return false;
         }
         c += 1;
@@ -56,18 +95,61 @@ fn all_spawned(jobs: usize, spawn_position: &[u8; 256]) -> bool {
     true
 }
 
+// Whether every job but 0 is spawned exactly once, by a job of smaller number.
+pub fn spawn_rules(
+    jobs: usize,
+    actions: usize,
+    first: &[u16; 257],
+    job: &[u8; 2048],
+    spawn: &[u16; 2048],
+) -> Spawns
+    requires { ⌜ ((p : Plan) × SpawnsGiven p jobs actions (now first) (now job) (now spawn)) ⌝ }
+    ensures { λ r. ⌜ ((p : Plan) → SpawnsGiven p jobs actions (now (first .entry)) (now (job .entry)) (now (spawn .entry)) → (r .kept ≡ spawnRules p) × (T (r .kept) → Spawned p (r .parent) (r .position))) ⌝ }
+{
+    let mut parent = [0u8; 256];
+    let mut position = [255u8; 256];
+    if !spawns_kept(jobs, actions, first, job, spawn, &mut parent, &mut position) {
+        return Spawns {
+            kept: false,
+            parent,
+            position,
+        };
+    }
+    let kept = all_spawned(jobs, &position);
+    Spawns {
+        kept,
+        parent,
+        position,
+    }
+}
+
 // Counts the join that action k sends, or tells that it may not send it.
-fn join_rule(k: usize, first: &[u16; 257], job: &[u8; 2048], spawn: &[u16; 2048], join: &[u16; 2048], parent: &[u8; 256], spawn_position: &[u8; 256], entering: &mut [u8; 2048]) -> bool {
+fn join_rule(
+    k: usize,
+    first: &[u16; 257],
+    job: &[u8; 2048],
+    spawn: &[u16; 2048],
+    join: &[u16; 2048],
+    parent: &[u8; 256],
+    position: &[u8; 256],
+    entering: &mut [u8; 2048],
+) -> bool
+    requires { ⌜ ((p : Plan) × JoinsGiven p (work p) (now first) (now job) (now spawn) (now join) (now parent) (now position) × (k < work p) × Counted p k (now entering)) ⌝ }
+    ensures { λ r. ⌜ ((p : Plan) → JoinsGiven p (work p) (now (first .entry)) (now (job .entry)) (now (spawn .entry)) (now (join .entry)) (now (parent .entry)) (now (position .entry)) → k < work p → Counted p k (now (entering .entry)) → JoinTold p (suc k) r (now (entering .exit))) ⌝ }
+{
     let j = wide8(job[k]);
     let sent = wide16(join[k]);
     if sent == 0 {
-        return j == 0 || k + 1 < wide16(first[j + 1]);
+        if j == 0 {
+            return true;
+        }
+        return k + 1 < wide16(first[j + 1]);
     }
     if j == 0 {
         return false;
     }
     let t = sent - 1;
-    if t <= wide8(spawn_position[j]) {
+    if t <= wide8(position[j]) {
         return false;
     }
     let q = wide8(parent[j]);
@@ -85,14 +167,54 @@ fn join_rule(k: usize, first: &[u16; 257], job: &[u8; 2048], spawn: &[u16; 2048]
     true
 }
 
-// Joins go to later actions of the parent, not right after a spawn, at most 8 into one; every last action but job 0's sends one.
-pub fn join_rules(actions: usize, first: &[u16; 257], job: &[u8; 2048], spawn: &[u16; 2048], join: &[u16; 2048], parent: &[u8; 256], spawn_position: &[u8; 256], entering: &mut [u8; 2048]) -> bool {
+// No action breaks a rule of joins.
+fn joins_kept(
+    actions: usize,
+    first: &[u16; 257],
+    job: &[u8; 2048],
+    spawn: &[u16; 2048],
+    join: &[u16; 2048],
+    parent: &[u8; 256],
+    position: &[u8; 256],
+    entering: &mut [u8; 2048],
+) -> bool
+    requires { ⌜ ((p : Plan) × JoinsGiven p actions (now first) (now job) (now spawn) (now join) (now parent) (now position) × Counted p 0 (now entering)) ⌝ }
+    ensures { λ r. ⌜ ((p : Plan) → JoinsGiven p actions (now (first .entry)) (now (job .entry)) (now (spawn .entry)) (now (join .entry)) (now (parent .entry)) (now (position .entry)) → Counted p 0 (now (entering .entry)) → JoinTold p (work p) r (now (entering .exit))) ⌝ }
+{
     let mut k = 0;
     while k < actions {
-        if !join_rule(k, first, job, spawn, join, parent, spawn_position, entering) {
+        if !join_rule(k, first, job, spawn, join, parent, position, entering) {
             return false;
         }
         k += 1;
     }
     true
+}
+
+// Whether joins go to later actions of the parent, not right after a spawn, at most 8 into one, and every last action but
+// job 0's sends one.
+pub fn join_rules(
+    actions: usize,
+    first: &[u16; 257],
+    job: &[u8; 2048],
+    spawn: &[u16; 2048],
+    join: &[u16; 2048],
+    parent: &[u8; 256],
+    position: &[u8; 256],
+) -> Joins
+    requires { ⌜ ((p : Plan) × JoinsGiven p actions (now first) (now job) (now spawn) (now join) (now parent) (now position)) ⌝ }
+    ensures { λ r. ⌜ ((p : Plan) → JoinsGiven p actions (now (first .entry)) (now (job .entry)) (now (spawn .entry)) (now (join .entry)) (now (parent .entry)) (now (position .entry)) → (r .kept ≡ joinRules p) × (T (r .kept) → Entered p (r .entering))) ⌝ }
+{
+    let mut entering = [0u8; 2048];
+    let kept = joins_kept(
+        actions,
+        first,
+        job,
+        spawn,
+        join,
+        parent,
+        position,
+        &mut entering,
+    );
+    Joins { kept, entering }
 }

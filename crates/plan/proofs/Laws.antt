@@ -1,0 +1,19 @@
+-- What holds of the definitions in specs/, in named modules.
+pub mod Lists
+pub mod Counts
+pub mod Placed
+pub mod Spawning
+pub mod Valid
+pub mod Recording
+pub mod Joining
+pub mod PowerTable
+pub mod Bits
+pub mod Window
+pub mod Sink
+pub mod Steps
+pub mod Written
+pub mod Accepted
+pub mod Outcomes
+pub mod Readings
+pub mod Fits
+pub mod PlanBytes

@@ -1,0 +1,70 @@
+-- `plan::field::window` meets its contract.
+-- Assumes nothing.
+use Rattle.plan.proofs.Laws.Window.{window-value}
+use borrow.Author.Needs.{needs}
+use Rattle.plan.proofs.field.window.Statement.{statement}
+use Rattle.plan.proofs.field.window.Tie as tie
+
+byte-or-zero-requires : tie.Need-byte-or-zero-requires
+byte-or-zero-requires c κs = search needs
+
+add-byte-or-zero : tie.Need-add-byte-or-zero
+add-byte-or-zero c = search needs
+
+byte-or-zero-requires-2 : tie.Need-byte-or-zero-requires-2
+byte-or-zero-requires-2 c κs = search needs
+
+add-byte-or-zero-2 : tie.Need-add-byte-or-zero-2
+add-byte-or-zero-2 c = search needs
+
+byte-or-zero-requires-3 : tie.Need-byte-or-zero-requires-3
+byte-or-zero-requires-3 c κs = search needs
+
+add-byte-or-zero-3 : tie.Need-add-byte-or-zero-3
+add-byte-or-zero-3 c = search needs
+
+byte-or-zero-requires-4 : tie.Need-byte-or-zero-requires-4
+byte-or-zero-requires-4 c κs = search needs
+
+mul-result : tie.Need-mul-result
+mul-result c = search needs
+
+mul-result-2 : tie.Need-mul-result-2
+mul-result-2 c = search needs
+
+add-result : tie.Need-add-result
+add-result c = search needs
+
+mul-result-3 : tie.Need-mul-result-3
+mul-result-3 c = search needs
+
+add-result-2 : tie.Need-add-result-2
+add-result-2 c = search needs
+
+add-result-3 : tie.Need-add-result-3
+add-result-3 c = search needs
+
+returns : tie.Need-returns
+returns c =
+    let a = c .before .before .before in
+    window-value (a .before .before .args .s .now) (a .before .before .args .i) (a .byte-or-zero .result) (c .before .before .byte-or-zero2 .result) (c .before .byte-or-zero3 .result)
+    (c .byte-or-zero4 .result) (a .byte-or-zero .ensures) (c .before .before .byte-or-zero2 .ensures) (c .before .byte-or-zero3 .ensures) (c .byte-or-zero4 .ensures)
+
+pub window-spec : {M : Type 1} → statement M
+window-spec =
+    tie.close
+    (tie.spec
+    byte-or-zero-requires
+    add-byte-or-zero
+    byte-or-zero-requires-2
+    add-byte-or-zero-2
+    byte-or-zero-requires-3
+    add-byte-or-zero-3
+    byte-or-zero-requires-4
+    mul-result
+    mul-result-2
+    add-result
+    mul-result-3
+    add-result-2
+    add-result-3
+    returns)

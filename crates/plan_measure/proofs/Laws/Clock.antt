@@ -1,0 +1,287 @@
+-- The times of one job's actions, found one after the other: what is known midway, and that each step keeps it.
+-- Assumes nothing.
+use Prim.Native.Nat.{ℕ, zero, suc, _+_, _-_, _≤_, _<_, max}
+use mathlib.Core.Path.{_≡_, refl, ap, sym, _∙_}
+use mathlib.Core.Logic.{_⊎_, inl, inr}
+use mathlib.Core.List.{List}
+use native.Mathlib.Numerals.{add-one}
+use native.Mathlib.Omega.{arith}
+use native.Mathlib.Nat.{not-suc-le-zero}
+use native.Mathlib.Decide.{decLt}
+use lib.ListN.{length, getD, replicate}
+use Rattle.plan.specs.Plan.{Plan, Placed, noPlaced, size, action, placed, parent, spawnAt}
+use Rattle.plan_measure.specs.Measure.{longest}
+use Rattle.plan_measure.specs.Times.{at, ends, begins, TimesGiven, JobGiven, TimedFrom, SendGiven, Sent, PassGiven, Passed}
+use Rattle.plan.proofs.Laws.Placed.{start, start-suc, start-below, place-below, placed-at, first-at, spawn-at, join-at}
+use Rattle.plan.proofs.Laws.Valid.{Accepted, older, spawned-there, spawned-once, join-target, size-range, jobs-range, work-range}
+use Rattle.plan_measure.proofs.Laws.Follows.{act}
+use Rattle.plan_measure.proofs.Laws.Paths.{of-kept}
+use Rattle.plan_measure.proofs.Laws.Times.{longest-ends, ends-small, begins-spawn, ends-next, begins-first, begins-before, ends-sent, ends-within}
+
+-- no two actions stand at one place
+pub place-one : (p : Plan) (j i q t : ℕ) → j < length p → i < size p j → q < length p → t < size p q → start p j + i ≡ start p q + t
+    → (j ≡ q) × (i ≡ t)
+place-one p j i q t h b l u e =
+    let s : act p j i ≡ act p q t = sym (placed-at p j i h b) ∙ ap (λ (k : ℕ). getD (placed p) k noPlaced) e ∙ placed-at p q t l u in
+    (ap (λ (a : Placed). a .job) s, ap (λ (a : Placed). a .position) s)
+
+-- what is known of a row of times before position i of job j: `done` is when the action before it was done, from the job's spawn
+pub record Midway (p : Plan) (j i done : ℕ) (time late : ℕ → ℕ) : Type 0 where
+  pub within : i ≤ size p j
+  pub later : (c a : ℕ) → j < c → c < length p → a < size p c → time (start p c + a) + begins p c ≡ ends p c a
+  pub own : (a : ℕ) → a < i → time (start p j + a) + begins p j ≡ ends p j a
+  pub lates : (q t : ℕ) → q < length p → t < size p q → late (start p q + t) + begins p q < ends p q t
+  pub came : (c a t : ℕ) → 1 ≤ c → c < length p → parent p c ≡ j → spawnAt p c < i → a < size p c → action p c a .join ≡ suc t
+      → ends p c a ≤ begins p j + late (start p j + t)
+  pub none : i ≡ 0 → done ≡ 0
+  pub last : (a : ℕ) → i ≡ suc a → done + begins p j ≡ ends p j a
+
+-- the arrays hold what the actions spawn and where they send joins
+pub record Arrays (p : Plan) (first spawn join : ℕ → ℕ) : Type 0 where
+  pub firsts : (j : ℕ) → j ≤ length p → first j ≡ start p j
+  pub spawns : (j i : ℕ) → j < length p → i < size p j → spawn (start p j + i) ≡ action p j i .spawn
+  pub joins : (j i : ℕ) → j < length p → i < size p j → join (start p j + i) ≡ action p j i .join
+
+pub arrays-of : (p : Plan) (first spawn join : List ℕ) → TimesGiven p first spawn join → Arrays p (at first) (at spawn) (at join)
+arrays-of p first spawn join g = record {
+  firsts = first-at p first (g .firsts);
+  spawns = λ j i h b. spawn-at p spawn (g .spawns) (start p j + i) (place-below p j i h b) ∙ ap (λ (a : Placed). a .spawn) (placed-at p j i h b);
+  joins = λ j i h b. join-at p join (g .joins) (start p j + i) (place-below p j i h b) ∙ ap (λ (a : Placed). a .join) (placed-at p j i h b);
+}
+
+module _ (p : Plan) (ok : Accepted p) where
+  -- nothing is known of when joins came
+  pub timed-none : (j : ℕ) (time late : ℕ → ℕ) → j ≡ length p → ((k : ℕ) → late k ≡ 0) → TimedFrom p j time late
+  timed-none j time late e zeros = record {
+    times = λ c a h b l. absurd (omega arith);
+    lates = λ q t h b. omega (arith, zeros (start p q + t), begins-before p ok q t h b);
+  }
+
+  pub midway-first : (j : ℕ) (time late : ℕ → ℕ) → TimedFrom p (suc j) time late → Midway p j 0 0 time late
+  midway-first j time late f = record {
+    within = omega arith;
+    later = λ c a h b l. f .times c a h b l;
+    own = λ a h. absurd (not-suc-le-zero h);
+    lates = f .lates;
+    came = λ c a t h b e l. absurd (not-suc-le-zero l);
+    none = λ e. refl;
+    last = λ a e. absurd (omega arith);
+  }
+
+  pub midway-last : (j i done : ℕ) (time late : ℕ → ℕ) → j < length p → i ≡ size p j → Midway p j i done time late
+      → TimedFrom p j time late × (done + begins p j ≡ ends p j (size p j - 1))
+  midway-last j i done time late h e m = (
+    record { times = λ c a l b u. by c a l b u (decLt j c); lates = m .lates },
+    m .last (size p j - 1) (omega (arith, size-range p ok j h)),
+  )
+    where
+      by : (c a : ℕ) → j ≤ c → c < length p → a < size p c → Dec (j < c) → time (start p c + a) + begins p c ≡ ends p c a
+      by c a l b u (yes n) = m .later c a n b u
+      by c a l b u (no n) = let s : c ≡ j = omega arith in rw s (m .own a (rw (s, ← e) at u))
+
+  module _ (j i done : ℕ) (time late : ℕ → ℕ) (known : j < length p) (within : i < size p j) (m : Midway p j i done time late) where
+    done-before : (a : ℕ) → i ≡ a → done + begins p j < ends p j i
+    done-before zero e = rw e (omega (arith, m .none e, begins-first p ok j known))
+    done-before (suc a) e = rw e (omega (arith, m .last a e, ends-next p ok j a known (rw e at within)))
+
+    -- the action is done one later than the one before it and than the joins into it
+    pub tick : suc (max done (late (start p j + i))) + begins p j ≡ ends p j i
+    tick =
+        let low = ends-within p ok j i (max done (late (start p j + i)) + begins p j) known within (omega arith)
+        (λ k e. omega (arith, m .last k e))
+        (λ c a h b q l e. omega (arith, m .came c a i h b q (join-target p ok c a i b l e .2) l e)) in
+        omega (arith, done-before i refl, m .lates j i known within)
+
+    pub tick-small : max done (late (start p j + i)) < 2048
+    tick-small = omega (arith, tick, ends-small p ok j i known within)
+
+    module _ (first spawn join time′ late′ : ℕ → ℕ) (arrays : Arrays p first spawn join) (done′ : ℕ)
+        (is : done′ + begins p j ≡ ends p j i) (new : time′ (start p j + i) ≡ done′)
+        (same : (k : ℕ) → (k ≡ start p j + i → ⊥) → time′ k ≡ time k) where
+      later′ : (c a : ℕ) → j < c → c < length p → a < size p c → time′ (start p c + a) + begins p c ≡ ends p c a
+      later′ c a h b l =
+          omega (
+            arith,
+            m .later c a h b l,
+            same (start p c + a) (λ e. omega (arith, place-one p c a j i b l known within e)),
+          )
+
+      own′ : (a : ℕ) → Dec (a < i) → a < suc i → time′ (start p j + a) + begins p j ≡ ends p j a
+      own′ a (yes l) h = omega (arith, m .own a l, same (start p j + a) (λ e. omega arith))
+      own′ a (no l) h = let e : a ≡ i = omega arith in rw e (omega arith)
+
+      next-midway : ((k : ℕ) → late k ≤ late′ k)
+          → ((q t : ℕ) → q < length p → t < size p q → late′ (start p q + t) + begins p q < ends p q t)
+          → ((c a t : ℕ) → 1 ≤ c → c < length p → parent p c ≡ j → spawnAt p c ≡ i → a < size p c → action p c a .join ≡ suc t
+          → ends p c a ≤ begins p j + late′ (start p j + t))
+          → Midway p j (suc i) done′ time′ late′
+      next-midway kept lates came = record {
+        within = within;
+        later = later′;
+        own = λ a h. own′ a (decLt a i) h;
+        lates = lates;
+        came = λ c a t h b q l u e. by c a t h b q l u e (decLt (spawnAt p c) i);
+        none = λ e. absurd (omega arith);
+        last = λ a e. let s : a ≡ i = omega arith in rw s is;
+      }
+        where
+          by : (c a t : ℕ) → 1 ≤ c → c < length p → parent p c ≡ j → spawnAt p c < suc i → a < size p c → action p c a .join ≡ suc t
+              → Dec (spawnAt p c < i) → ends p c a ≤ begins p j + late′ (start p j + t)
+          by c a t h b q l u e (yes n) = omega (arith, m .came c a t h b q n u e, kept (start p j + t))
+          by c a t h b q l u e (no n) = came c a t h b q (omega arith) u e
+
+      -- a child's times from the job's spawn
+      child-time : (c a : ℕ) → 1 ≤ c → c < length p → parent p c ≡ j → spawnAt p c ≡ i → a < size p c
+          → done′ + time′ (start p c + a) + begins p j ≡ ends p c a
+      child-time c a h b q s l =
+          let o = older p ok c h b in
+          let e : begins p c ≡ ends p j i = rw (begins-spawn p ok c h, q, s) in
+          omega (arith, later′ c a (omega arith) b l)
+
+      module _ (c : ℕ) (e : action p j i .spawn ≡ suc c) where
+        once : (1 ≤ c) × (c < length p) × (parent p c ≡ j) × (spawnAt p c ≡ i)
+        once = spawned-once p ok j i c known within e
+
+        -- an action of the child by its place
+        child-at : (k : ℕ) → first c ≤ k → k < first (suc c) → (k ≡ start p c + (k - start p c)) × (k - start p c < size p c)
+        child-at k l u =
+            let o = once in
+            omega (arith, arrays .firsts c (omega arith), arrays .firsts (suc c) (omega arith), start-suc p c (o .1))
+
+        sends : (k t : ℕ) → first c ≤ k → k < first (suc c) → join k ≡ suc t
+            → action p c (k - start p c) .join ≡ suc t
+        sends k t l u f =
+            let o = once in
+            let (s, b) = child-at k l u in
+            sym (arrays .joins c (k - start p c) (o .1) b) ∙ ap join (sym s) ∙ f
+
+        target : (k t : ℕ) → first c ≤ k → k < first (suc c) → join k ≡ suc t → t < size p j
+        target k t l u f =
+            let o = once in
+            let g = join-target p ok c (k - start p c) t (o .1) (child-at k l u .1) (sends k t l u f) in
+            rw (o .2) at (g .1)
+
+        at-time : (k : ℕ) → first c ≤ k → k < first (suc c) → done′ + time′ k + begins p j ≡ ends p c (k - start p c)
+        at-time k l u =
+            let o = once in
+            let (s, b) = child-at k l u in
+            omega (arith, child-time c (k - start p c) (o .0) (o .1) (o .2) (o .3) b, ap time′ s)
+
+        child-given : SendGiven (first c) (first (suc c)) (start p j) done′ join time′
+        child-given =
+            let o = once in
+            let f = arrays .firsts c (omega arith) in
+            let g = arrays .firsts (suc c) (omega arith) in
+            record {
+              order = omega (arith, start-suc p c (o .1));
+              fits = omega (arith, start-below p (suc c), work-range p ok);
+              targets = λ k t l u e. omega (arith, place-below p j t known (target k t l u e), work-range p ok);
+              sums = λ k l u. omega (arith, at-time k l u, ends-small p ok c (k - start p c) (o .1) (child-at k l u .1));
+            }
+
+        next-child : Sent (first c) (first (suc c)) (start p j) done′ join time′ late late′ → Midway p j (suc i) done′ time′ late′
+        next-child s = next-midway (s .kept) (λ q t h b. low q t h b (s .source (start p q + t))) came
+          where
+            low : (q t : ℕ) → q < length p → t < size p q
+                → (late′ (start p q + t) ≡ late (start p q + t))
+                ⊎ ((k : ℕ) × (u : ℕ) × (first c ≤ k) × (k < first (suc c)) × (join k ≡ suc u) × (start p q + t ≡ start p j + u) × (late′ (start p q + t) ≡ done′ + time′ k))
+                → late′ (start p q + t) + begins p q < ends p q t
+            low q t h b (inl f) = omega (arith, m .lates q t h b)
+            low q t h b (inr (k, u, l, r, g, w, f)) =
+                let o = once in
+                let (x, y) = place-one p q t j u h b known (target k u l r g) w in
+                let z = ends-sent p ok c (k - start p c) u (o .1) (child-at k l r .1) (sends k u l r g) in
+                let v : ends p c (k - start p c) < ends p j u = rw (o .2) at z in
+                rw (x, y) (omega (arith, at-time k l r, ap late′ w))
+
+            came : (d a t : ℕ) → 1 ≤ d → d < length p → parent p d ≡ j → spawnAt p d ≡ i → a < size p d → action p d a .join ≡ suc t
+                → ends p d a ≤ begins p j + late′ (start p j + t)
+            came d a t h b q r l g =
+                let o = once in
+                let w : action p j i .spawn ≡ suc d = rw (q, r) at (spawned-there p ok d h b .1) in
+                let n : d ≡ c = omega arith in
+                let v = s .came (start p c + a) t (omega (arith, arrays .firsts c (omega arith)))
+                (omega (arith, arrays .firsts (suc c) (omega arith), start-suc p c (o .1), rw n at l)) (arrays .joins c a (o .1) (rw n at l) ∙ rw n at g) in
+                rw n (omega (arith, child-time c a (o .0) (o .1) (o .2) (o .3) (rw n at l)))
+
+      pub pass-given : PassGiven (start p j + i) (start p j) done′ first spawn join time′
+      pass-given = record {
+        fits = omega (arith, place-below p j i known within, work-range p ok);
+        child = λ c e.
+            let s : action p j i .spawn ≡ suc c = sym (arrays .spawns j i known within) ∙ e in
+            (omega (arith, once c s, jobs-range p ok), child-given c s);
+      }
+
+      pub pass-next : Passed (start p j + i) (start p j) done′ first spawn join time′ late late′ → Midway p j (suc i) done′ time′ late′
+      pass-next r = by (action p j i .spawn) refl
+        where
+          by : (v : ℕ) → action p j i .spawn ≡ v → Midway p j (suc i) done′ time′ late′
+          by (suc c) e = next-child c e (r .child c (arrays .spawns j i known within ∙ e))
+          by zero e =
+              let s = r .none (arrays .spawns j i known within ∙ e) in
+              next-midway (λ k. omega (arith, s k)) (λ q t h b. omega (arith, s (start p q + t), m .lates q t h b))
+              (λ d a t h b q w l g.
+              let z : action p j i .spawn ≡ suc d = rw (q, w) at (spawned-there p ok d h b .1) in
+              absurd (omega arith))
+
+-- the same by the action's place k
+module _ (p : Plan) (j base end : ℕ) (first spawn join : List ℕ) (g : JobGiven p j base end first spawn join) where
+  rules : Accepted p
+  rules = of-kept p (g .arrays .rules)
+
+  pub job-places : (end ≡ base + size p j) × (end ≤ 2048)
+  job-places = omega (arith, g .start, g .past, start-suc p j (g .known), start-below p (suc j), work-range p rules)
+
+  pub place-first : (time late : ℕ → ℕ) → TimedFrom p (suc j) time late → Midway p j (base - base) 0 time late
+  place-first time late f = let z : base - base ≡ 0 = omega arith in rw z (midway-first p rules j time late f)
+
+  pub place-last : (k done : ℕ) (time late : ℕ → ℕ) → k ≡ end → Midway p j (k - base) done time late
+      → TimedFrom p j time late × (done + begins p j ≡ ends p j (size p j - 1))
+  place-last k done time late e m =
+      midway-last p rules j (k - base) done time late (g .known) (omega (arith, job-places)) m
+
+  module _ (k done : ℕ) (time late : ℕ → ℕ) (low : base ≤ k) (high : k < end) (m : Midway p j (k - base) done time late) where
+    inside : k - base < size p j
+    inside = omega (arith, job-places)
+
+    here : start p j + (k - base) ≡ k
+    here = omega (arith, g .start)
+
+    pub place-small : max done (late k) < 2048
+    place-small = rw here at (tick-small p rules j (k - base) done time late (g .known) inside m)
+
+    module _ (most : ℕ) (e : most ≡ max done (late k)) (time′ : ℕ → ℕ) (new : time′ k ≡ most + 1) (same : (n : ℕ) → (n ≡ k → ⊥) → time′ n ≡ time n) where
+      is : most + 1 + begins p j ≡ ends p j (k - base)
+      is = omega (arith, rw here at (tick p rules j (k - base) done time late (g .known) inside m))
+
+      pub place-given : PassGiven k base (most + 1) (at first) (at spawn) (at join) time′
+      place-given =
+          rw (here, ← (g .start)) at (pass-given p rules j (k - base) done time late (g .known) inside m (at first) (at spawn) (at join) time′ late
+          (arrays-of p first spawn join (g .arrays)) (most + 1) is (rw here new) (λ n f. same n (λ z. f (z ∙ sym here))))
+
+      pub place-next : (late′ : ℕ → ℕ) → Passed k base (most + 1) (at first) (at spawn) (at join) time′ late late′
+          → Midway p j (k + 1 - base) (most + 1) time′ late′
+      place-next late′ r =
+          let n : k + 1 - base ≡ suc (k - base) = omega arith in
+          rw n (pass-next p rules j (k - base) done time late (g .known) inside m (at first) (at spawn) (at join) time′ late′
+          (arrays-of p first spawn join (g .arrays)) (most + 1) is (rw here new) (λ n f. same n (λ z. f (z ∙ sym here)))
+          (rw (here, ← (g .start)) r))
+
+pub job-given : (p : Plan) (first spawn join : List ℕ) → TimesGiven p first spawn join → (j from end : ℕ) → j < length p
+    → from ≡ at first j → end ≡ at first (j + 1) → JobGiven p j from end first spawn join
+job-given p first spawn join g j from end h e f = record {
+  arrays = g;
+  known = h;
+  start = e ∙ first-at p first (g .firsts) j (omega arith);
+  past = f ∙ ap (at first) (add-one j) ∙ first-at p first (g .firsts) (suc j) h;
+}
+
+pub zeros-at : (n k : ℕ) → _≡_ {A = ℕ} (getD (replicate n 0) k 0) 0
+zeros-at zero k = refl
+zeros-at (suc n) zero = refl
+zeros-at (suc n) (suc k) = zeros-at n k
+
+-- the root's time is T∞
+pub root-longest : (p : Plan) → Accepted p → (most : ℕ) → most + begins p 0 ≡ ends p 0 (size p 0 - 1) → most ≡ longest p
+unfolding begins
+root-longest p ok most e = omega (arith, longest-ends p ok)

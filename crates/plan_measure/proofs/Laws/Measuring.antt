@@ -1,0 +1,67 @@
+-- What the answer of reading tells of the plan to be measured.
+-- Assumes nothing.
+use Prim.Native.Nat.{ℕ, _≤_}
+use mathlib.Core.Path.{_≡_, refl, sym, _∙_}
+use mathlib.Core.List.{List}
+use native.Mathlib.Omega.{arith}
+use lib.ListN.{length}
+use Rattle.plan.specs.declared.flat.FlatPlan.{FlatPlan}
+use Rattle.plan.specs.declared.flat.Verdict.{Verdict}
+use Rattle.plan.specs.declared.flat.Verdict.the-variants.{Refused, Accepted}
+use Rattle.plan.specs.declared.refusal.Refusal.{Refusal}
+use Rattle.plan.specs.Refusal.{Outcome, refused, accepted, numberOf}
+use Rattle.plan.specs.Plan.{Plan, work}
+use Rattle.plan.specs.Flat.{Holds, Told}
+use Rattle.plan.specs.Reader.{readPlan}
+use Rattle.plan_measure.specs.Measure.{measured, measures, longest, heaviest}
+use Rattle.plan_measure.specs.Times.{RulesKept, PathsGiven, TimesGiven}
+use Rattle.plan.proofs.Laws.Valid.{work-range}
+use Rattle.plan.proofs.Laws.Accepted.{accepted-range, accepted-spawns, accepted-joins}
+use Rattle.plan_measure.proofs.Laws.Paths.{of-kept}
+
+pub record Measurable (s : List ℕ) (f : FlatPlan) : Type 0 where
+  pub plan : Plan
+  pub times : TimesGiven plan (f .first) (f .spawn) (f .join)
+  pub paths : PathsGiven plan (f .jobs) (f .frame) (f .parent)
+  pub actions : f .actions ≡ work plan
+  pub small : f .actions ≤ 2048
+  pub answer : measures s ≡ accepted (record { actions = work plan; longest = longest plan; path = heaviest plan })
+
+pub measurable-answer : (s : List ℕ) (f : FlatPlan) (m : Measurable s f) (length path : ℕ) → length ≡ longest (m .plan) → path ≡ heaviest (m .plan)
+    → accepted (record { actions = f .actions; longest = length; path = path }) ≡ measures s
+measurable-answer s f m length path e g =
+    (λ i. accepted (record { actions = m .actions i; longest = e i; path = g i })) ∙ sym (m .answer)
+
+module _ (s : List ℕ) where
+  holds-measurable : (p : Plan) (f : FlatPlan) → readPlan s ≡ accepted p → Holds p f → Measurable s f
+  unfolding measures measured
+  holds-measurable p f e h =
+      let rules : RulesKept p = record { range = accepted-range s p e; spawns = accepted-spawns s p e; joins = accepted-joins s p e } in
+      record {
+        plan = p;
+        times = record { rules = rules; firsts = h .firsts; spawns = h .spawns; joins = h .joins };
+        paths = record { rules = rules; count = h .jobs; frames = h .frames; parents = h .spawned .parents };
+        actions = h .actions;
+        small = omega (arith, h .actions, work-range p (of-kept p rules));
+        answer = rw e;
+      }
+
+  pub told-measurable : (v : Verdict) (f : FlatPlan) → v ≡ Accepted → Told (readPlan s) v f → Measurable s f
+  told-measurable v f e t = go (readPlan s) refl v e t
+    where
+      go : (o : Outcome Plan) → readPlan s ≡ o → (v : Verdict) → v ≡ Accepted → Told o v f → Measurable s f
+      go (refused n) r (Refused cause) e t = let z : _≡_ {A = ℕ} 0 1 = cc in absurd (omega arith)
+      go (refused n) r Accepted e t = absurd t
+      go (accepted p) r (Refused cause) e t = absurd t
+      go (accepted p) r Accepted e t = holds-measurable p f r t
+
+  pub told-refused : (v : Verdict) (f : FlatPlan) (cause : Refusal) → v ≡ Refused cause → Told (readPlan s) v f
+      → measures s ≡ refused (numberOf cause)
+  unfolding measures measured
+  told-refused v f cause e t = go (readPlan s) refl v e t
+    where
+      go : (o : Outcome Plan) → readPlan s ≡ o → (v : Verdict) → v ≡ Refused cause → Told o v f → measured o ≡ refused (numberOf cause)
+      go (refused n) r (Refused other) e t = let same : other ≡ cause = cc in rw (t, same)
+      go (refused n) r Accepted e t = absurd t
+      go (accepted p) r (Refused other) e t = absurd t
+      go (accepted p) r Accepted e t = let z : _≡_ {A = ℕ} 0 1 = cc in absurd (omega arith)

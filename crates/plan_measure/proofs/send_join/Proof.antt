@@ -1,0 +1,118 @@
+-- `measure::send_join` meets its contract.
+-- Assumes nothing.
+use Prim.Native.Nat.{_+_, _-_, _<_}
+use mathlib.Core.Path.{sym, _∙_}
+use native.Mathlib.Omega.{arith}
+use lib.ListN.{length, length-set}
+use lib.Seq.{getD-set-same, getD-set-other}
+use Rattle.plan_measure.proofs.Laws.Sends.{sent-skip, sent-one}
+use borrow.Author.Needs.{needs}
+use Rattle.plan_measure.proofs.send_join.Statement.{statement}
+use Rattle.plan_measure.proofs.send_join.Tie as tie
+
+mul-wide16 : tie.Need-mul-wide16
+mul-wide16 c = search needs
+
+element-copy-out-wide16 : tie.Need-element-copy-out-wide16
+element-copy-out-wide16 c = search needs
+
+wide16-requires : tie.Need-wide16-requires
+wide16-requires c κs = search needs
+
+returns : tie.Need-returns
+returns c = (c .before .before .before .pre .0, sent-skip _ _ _ _ _ _ (sym (c .before .wide16 .ensures .0) ∙ c .if1 .taken))
+
+sub-target : tie.Need-sub-target
+sub-target c = search needs
+
+add-target : tie.Need-add-target
+add-target c =
+    let s = c .before .before .before in
+    omega (
+      arith,
+      s .pre .1 .targets (s .args .k) (c .before .wide16 .result - 1) (omega arith) (omega arith)
+          (omega (arith, c .before .wide16 .ensures, c .if1 .left)),
+    )
+
+mul-larger : tie.Need-mul-larger
+mul-larger c =
+    let s = c .before .before .before in
+    omega (
+      arith,
+      s .pre .1 .targets (s .args .k) (c .before .wide16 .result - 1) (omega arith) (omega arith)
+          (omega (arith, c .before .wide16 .ensures, c .if1 .left)),
+    )
+
+element-copy-out-larger : tie.Need-element-copy-out-larger
+element-copy-out-larger c =
+    let s = c .before .before .before in
+    omega (
+      arith,
+      s .pre .1 .targets (s .args .k) (c .before .wide16 .result - 1) (omega arith) (omega arith)
+          (omega (arith, c .before .wide16 .ensures, c .if1 .left)),
+    )
+
+mul-larger-2 : tie.Need-mul-larger-2
+mul-larger-2 c = search needs
+
+element-copy-out-larger-2 : tie.Need-element-copy-out-larger-2
+element-copy-out-larger-2 c = search needs
+
+add-larger : tie.Need-add-larger
+add-larger c =
+    let s = c .before .before .before .before .before in
+    omega (arith, s .pre .1 .sums (s .args .k) (omega arith) (omega arith))
+
+larger-requires : tie.Need-larger-requires
+larger-requires c κs = search needs
+
+mul-late : tie.Need-mul-late
+mul-late c =
+    let e = c .before .before .before in
+    let s = e .before .before .before in
+    omega (
+      arith,
+      s .pre .1 .targets (s .args .k) (e .before .wide16 .result - 1) (omega arith) (omega arith)
+          (omega (arith, e .before .wide16 .ensures, e .if1 .left)),
+    )
+
+element-write-late : tie.Need-element-write-late
+element-write-late c =
+    let e = c .before .before .before in
+    let s = e .before .before .before in
+    omega (
+      arith,
+      s .pre .1 .targets (s .args .k) (e .before .wide16 .result - 1) (omega arith) (omega arith)
+          (omega (arith, e .before .wide16 .ensures, e .if1 .left)),
+    )
+
+returns-2 : tie.Need-returns-2
+returns-2 c =
+    let e = c .before .before .before in
+    let s = e .before .before .before in
+    let n = s .pre .0 in
+    let l : s .args .base + (e .before .wide16 .result - 1) < length (s .args .late .now) = rw n (element-write-late c) in (
+      simp length-set n,
+      sent-one _ _ _ _ _ (e .before .wide16 .result) _ _ (e .before .wide16 .ensures .0) (e .if1 .left)
+          (getD-set-same (s .args .late .now) _ _ 0 l ∙ c .larger .ensures) (λ m n. getD-set-other (s .args .late .now) _ m _ 0 n),
+    )
+
+pub send-join-spec : {M : Type 1} → statement M
+send-join-spec =
+    tie.close
+    (tie.spec
+    mul-wide16
+    element-copy-out-wide16
+    wide16-requires
+    returns
+    sub-target
+    add-target
+    mul-larger
+    element-copy-out-larger
+    mul-larger-2
+    element-copy-out-larger-2
+    add-larger
+    larger-requires
+    mul-late
+    element-write-late
+    returns-2)

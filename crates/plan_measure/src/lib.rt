@@ -1,0 +1,203 @@
+// The measures of a plan (document 01, "Plan"): T1, T∞ and S1.
+ghost use Prim.Native.Nat.{ℕ, suc, _+_, _-_, _<_, max};
+ghost use mathlib.Core.Path.{_≡_};
+ghost use lib.ListN.{length};
+ghost use Rattle.plan.specs.Plan.{Plan, size};
+ghost use Rattle.plan_measure.specs.Measure.{measures, told, longest as longestOf, heaviest as heaviestOf};
+ghost use Rattle.plan_measure.specs.Times.{at, PathsGiven, ends, begins, TimesGiven, JobGiven, TimedFrom, SendGiven, Sent, PassGiven, Passed};
+use plan::flat::Verdict;
+use plan::flat::wide8;
+use plan::flat::wide16;
+use plan::reader::read_plan;
+use plan::refusal::Refusal;
+
+// T1, T∞ and S1.
+pub struct Measures {
+    pub actions: u32,
+    pub longest: u32,
+    pub path: u32,
+}
+
+pub enum Measured {
+    Refused(Refusal),
+    Of(Measures),
+}
+
+fn larger(a: u32, b: u32) -> u32
+    ensures { λ r. ⌜ r ≡ max a b ⌝ }
+{
+    if a < b { b } else { a }
+}
+
+fn units(x: u16) -> u32
+    ensures { λ r. ⌜ (r ≡ x) × (r < 65536) ⌝ }
+{
+    x as u32
+}
+
+// S1: each job's path weight is its frame and its parent's path weight.
+fn heaviest<'a>(jobs: usize, frame: &'a [u16; 256], parent: &'a [u8; 256]) -> u32
+    requires { ⌜ ((p : Plan) × PathsGiven p jobs (now frame) (now parent)) ⌝ }
+    ensures { λ r. ⌜ ((p : Plan) → PathsGiven p jobs (now (frame .entry)) (now (parent .entry)) → r ≡ heaviestOf p) ⌝ }
+{
+    let root = units(frame[0]);
+    let mut path = [0u32; 256];
+    path[0] = root;
+    let mut most = root;
+    let mut j = 1;
+    while j < jobs {
+        let q = wide8(parent[j]);
+        let weight = units(frame[j]) + path[q];
+        path[j] = weight;
+        most = larger(most, weight);
+        j += 1;
+    }
+    most
+}
+
+// The join that the action at place k sends, if it sends one; its job's spawn was done at time `spawned`. `late` tells of
+// each action when the last join into it came.
+fn send_join(
+    k: usize,
+    base: usize,
+    spawned: u32,
+    join: &[u16; 2048],
+    time: &[u32; 2048],
+    late: &mut [u32; 2048],
+)
+    requires { ⌜ (length (now late) ≡ 2048) × SendGiven k (suc k) base spawned (at (now join)) (at (now time)) ⌝ }
+    ensures { λ _. ⌜ (length (now (late .exit)) ≡ 2048) × Sent k (suc k) base spawned (at (now (join .entry))) (at (now (time .entry))) (at (now (late .entry))) (at (now (late .exit))) ⌝ }
+{
+    let sent = wide16(join[k]);
+    if sent == 0 {
+        return;
+    }
+    let target = base + (sent - 1);
+    late[target] = larger(late[target], spawned + time[k]);
+}
+
+// The joins that the actions at places `from` to `end` send, those of one child.
+fn send_joins(
+    from: usize,
+    end: usize,
+    base: usize,
+    spawned: u32,
+    join: &[u16; 2048],
+    time: &[u32; 2048],
+    late: &mut [u32; 2048],
+)
+    requires { ⌜ (length (now late) ≡ 2048) × SendGiven from end base spawned (at (now join)) (at (now time)) ⌝ }
+    ensures { λ _. ⌜ (length (now (late .exit)) ≡ 2048) × Sent from end base spawned (at (now (join .entry))) (at (now (time .entry))) (at (now (late .entry))) (at (now (late .exit))) ⌝ }
+{
+    let mut k = from;
+    while k < end {
+        send_join(k, base, spawned, join, time, late);
+        k += 1;
+    }
+}
+
+// The joins of the child that the action at place k spawns, if it spawns one.
+fn pass_child(
+    k: usize,
+    base: usize,
+    spawned: u32,
+    first: &[u16; 257],
+    spawn: &[u16; 2048],
+    join: &[u16; 2048],
+    time: &[u32; 2048],
+    late: &mut [u32; 2048],
+)
+    requires { ⌜ (length (now late) ≡ 2048) × PassGiven k base spawned (at (now first)) (at (now spawn)) (at (now join)) (at (now time)) ⌝ }
+    ensures { λ _. ⌜ (length (now (late .exit)) ≡ 2048) × Passed k base spawned (at (now (first .entry))) (at (now (spawn .entry))) (at (now (join .entry))) (at (now (time .entry))) (at (now (late .entry))) (at (now (late .exit))) ⌝ }
+{
+    let child = wide16(spawn[k]);
+    if child == 0 {
+        return;
+    }
+    send_joins(
+        wide16(first[child - 1]),
+        wide16(first[child]),
+        base,
+        spawned,
+        join,
+        time,
+        late,
+    );
+}
+
+// The times of one job's actions, counted from the job's spawn; those of its children are known.
+fn time_job(
+    base: usize,
+    end: usize,
+    first: &[u16; 257],
+    spawn: &[u16; 2048],
+    join: &[u16; 2048],
+    time: &mut [u32; 2048],
+    late: &mut [u32; 2048],
+) -> u32
+    requires { ⌜ (length (now time) ≡ 2048) × (length (now late) ≡ 2048) × ((p : Plan) × (j : ℕ) × JobGiven p j base end (now first) (now spawn) (now join) × TimedFrom p (suc j) (at (now time)) (at (now late))) ⌝ }
+    ensures { λ r. ⌜ (length (now (time .exit)) ≡ 2048) × (length (now (late .exit)) ≡ 2048) × ((p : Plan) (j : ℕ) → JobGiven p j base end (now (first .entry)) (now (spawn .entry)) (now (join .entry)) → TimedFrom p (suc j) (at (now (time .entry))) (at (now (late .entry))) → TimedFrom p j (at (now (time .exit))) (at (now (late .exit))) × (r + begins p j ≡ ends p j (size p j - 1))) ⌝ }
+{
+    let mut done = 0;
+    let mut k = base;
+    while k < end {
+        done = larger(done, late[k]) + 1;
+        time[k] = done;
+        pass_child(k, base, done, first, spawn, join, time, late);
+        k += 1;
+    }
+    done
+}
+
+// T∞, one pass from the highest job down: what an action of a job must follow lies, but for the job's spawn, in the job and
+// those below it.
+fn longest<'a>(
+    jobs: usize,
+    first: &'a [u16; 257],
+    spawn: &'a [u16; 2048],
+    join: &'a [u16; 2048],
+) -> u32
+    requires { ⌜ ((p : Plan) × TimesGiven p (now first) (now spawn) (now join) × (jobs ≡ length p)) ⌝ }
+    ensures { λ r. ⌜ ((p : Plan) → TimesGiven p (now (first .entry)) (now (spawn .entry)) (now (join .entry)) → jobs ≡ length p → r ≡ longestOf p) ⌝ }
+{
+    let mut time = [0u32; 2048];
+    let mut late = [0u32; 2048];
+    let mut most = 0;
+    let mut j = jobs;
+    while 0 < j {
+        j -= 1;
+        most = time_job(
+            wide16(first[j]),
+            wide16(first[j + 1]),
+            first,
+            spawn,
+            join,
+            &mut time,
+            &mut late,
+        );
+    }
+    most
+}
+
+// T1, T∞ and S1 of the plan that the bytes hold, or why they are turned down.
+pub fn measure(bytes: &[u8]) -> Measured
+    ensures { λ r. ⌜ told r ≡ measures (now (bytes .entry)) ⌝ }
+{
+    let read = read_plan(bytes);
+    let verdict = read.verdict;
+    let plan = read.plan;
+    match verdict {
+        Verdict::Refused(cause) => Measured::Refused(cause),
+        Verdict::Accepted => {
+            let actions = plan.actions as u32;
+            let jobs = plan.jobs;
+            let length = longest(jobs, &plan.first, &plan.spawn, &plan.join);
+            let path = heaviest(jobs, &plan.frame, &plan.parent);
+            Measured::Of(Measures {
+                actions,
+                longest: length,
+                path,
+            })
+        }
+    }
+}
