@@ -1,0 +1,12 @@
+-- Runs as lines of jobs: a line is the job that a worker holds and then its deque from the bottom up.
+pub mod Bounded
+pub mod Member
+pub mod Shape
+pub mod Chain
+pub mod Progress
+pub mod Turn
+pub mod Steal
+pub mod Start
+pub mod Cover
+pub mod Sum
+pub mod Weight
