@@ -2,12 +2,13 @@
 --   inRange p    == 1 to 256 jobs, 1 to 255 actions in a job, 1 to 2,048 in all, frame 1 to 65,535
 --   spawnRules p == refusal 4 does not apply
 --   joinRules p  == refusal 5 does not apply
+--   Accepted p   == none of 3, 4 and 5 applies
 -- Assumes nothing.
 use Prim.Native.Nat.{ℕ, zero, suc, _-_}
 use mathlib.Core.Bool.{Bool, true, false}
 use mathlib.Core.List.{List}
 use lib.ListN.{length}
-use lib.Dec.{eqb, leb, ltb}
+use lib.Dec.{T, eqb, leb, ltb}
 use Rattle.plan.specs.Test.{both, either, all, count, below}
 use Rattle.plan.specs.Plan.{Action, Job, Plan, Placed, job, size, action, work, placed, parent, spawnAt, entering}
 
@@ -50,3 +51,8 @@ lastSends p a = either (eqb (a .job) 0) (either (ltb (suc (a .position)) (size p
 
 unfoldable pub joinRules : Plan → Bool
 joinRules p = all (λ a. both (joinFits p a) (both (fewEnter p a) (lastSends p a))) (placed p)
+
+pub record Accepted (p : Plan) : Type 0 where
+  pub range : T (inRange p)
+  pub spawns : T (spawnRules p)
+  pub joins : T (joinRules p)

@@ -14,7 +14,7 @@ use lib.ListN.{length, getD, take, set, replicate, getD-replicate, length-set, l
 use lib.Seq.{getD-set-same, getD-set-other, take-all}
 use Rattle.plan.specs.Test.{both, either, all, count}
 use Rattle.plan.specs.Plan.{Plan, Placed, size, action, work, placed, noPlaced, parent, spawnAt, enters, entering}
-use Rattle.plan.specs.Rules.{inRange, joinFits, fewEnter, lastSends, joinRules}
+use Rattle.plan.specs.Rules.{inRange, joinFits, fewEnter, lastSends, joinRules, Accepted}
 use Rattle.plan.specs.Flat.{Entered}
 use Rattle.plan.specs.Given.{JoinsGiven}
 use Rattle.plan.specs.Kept.{Counted, JoinTold}
@@ -22,7 +22,7 @@ use Rattle.plan.proofs.Laws.Lists.{both-intro, both-left, both-right, a
 use Rattle.plan.proofs.Laws.Counts.{decT, either-left, either-right, equal-tests, count-take, count-one-more, count-no-more, array-by}
 use Rattle.plan.proofs.Laws.Placed.{start, placed-length, placed-at, place-below, start-suc, placed-of, first-at, job-at, spawn-at, join-at}
 use Rattle.plan.proofs.Laws.Spawning.{work-in-range, spawner-of}
-use Rattle.plan.proofs.Laws.Valid.{Accepted, join-target, few-enter, last-sends}
+use Rattle.plan.proofs.Laws.Valid.{join-target, few-enter, last-sends}
 use Rattle.plan.proofs.Laws.Recording.{here}
 
 -- no two actions stand at one place

@@ -1,5 +1,4 @@
 -- What a plan that was accepted keeps, by its jobs and positions.
---   Accepted p == the numbers of the plan are in range, and the spawn rules and the join rules are kept
 -- Assumes nothing.
 use Prim.Native.Nat.{ℕ, zero, suc, _+_, _-_, _≤_, _<_}
 use mathlib.Core.Path.{_≡_, refl}
@@ -9,15 +8,10 @@ use lib.Dec.{T, leb, ltb, eqb, leb→le, ltb→lt, eqb→eq}
 use lib.ListN.{length}
 use Rattle.plan.specs.Test.{both, either}
 use Rattle.plan.specs.Plan.{Plan, Placed, job, size, action, work, placed, noPlaced, parent, spawnAt, entering}
-use Rattle.plan.specs.Rules.{inRange, spawnRules, joinFits, fewEnter, lastSends, joinRules}
+use Rattle.plan.specs.Rules.{inRange, spawnRules, joinFits, fewEnter, lastSends, joinRules, Accepted}
 use Rattle.plan.proofs.Laws.Lists.{both-left, both-right, all-at}
 use Rattle.plan.proofs.Laws.Placed.{start, placed-length, placed-at, place-below}
 use Rattle.plan.proofs.Laws.Spawning.{jobs-in-range, size-in-range, frame-in-range, work-in-range, spawner-of, spawner-once}
-
-pub record Accepted (p : Plan) : Type 0 where
-  pub range : T (inRange p)
-  pub spawns : T (spawnRules p)
-  pub joins : T (joinRules p)
 
 -- what a join that is allowed is
 pub join-fits : (p : Plan) (a : Placed) (t : ℕ) → T (joinFits p a) → a .join ≡ suc t

@@ -15,7 +15,8 @@ use Rattle.plan.specs.Plan.{Plan, Placed, work, placed}
 use Rattle.plan_measure.specs.Measure.{mustFollow, Member, Chain, Longest, after, longest}
 use Rattle.plan.proofs.Laws.Placed.{placed-length}
 use Rattle.plan_measure.proofs.Laws.Largest.{largest-above, largest-attained, largest-cut, largest-same, values-few}
-use Rattle.plan.proofs.Laws.Valid.{Accepted, jobs-range, size-range}
+use Rattle.plan.specs.Rules.{Accepted}
+use Rattle.plan.proofs.Laws.Valid.{jobs-range, size-range}
 use Rattle.plan_measure.proofs.Laws.Follows.{act, act-member, member-acts, follows-of, rank, rank-falls}
 
 -- the value of what must be followed, 0 of the rest

@@ -13,7 +13,8 @@ use Rattle.plan.specs.Plan.{Plan, Placed, noPlaced, size, action, placed, paren
 use Rattle.plan_measure.specs.Measure.{longest}
 use Rattle.plan_measure.specs.Times.{at, ends, begins, TimesGiven, JobGiven, TimedFrom, SendGiven, Sent, PassGiven, Passed}
 use Rattle.plan.proofs.Laws.Placed.{start, start-suc, start-below, place-below, placed-at, first-at, spawn-at, join-at}
-use Rattle.plan.proofs.Laws.Valid.{Accepted, older, spawned-there, spawned-once, join-target, size-range, jobs-range, work-range}
+use Rattle.plan.specs.Rules.{Accepted}
+use Rattle.plan.proofs.Laws.Valid.{older, spawned-there, spawned-once, join-target, size-range, jobs-range, work-range}
 use Rattle.plan_measure.proofs.Laws.Follows.{act}
 use Rattle.plan_measure.proofs.Laws.Paths.{of-kept}
 use Rattle.plan_measure.proofs.Laws.Times.{longest-ends, ends-small, begins-spawn, ends-next, begins-first, begins-before, ends-sent, ends-within}

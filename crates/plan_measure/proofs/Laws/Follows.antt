@@ -14,7 +14,8 @@ use Rattle.plan_measure.specs.Measure.{mustFollow, Member}
 use Rattle.plan.proofs.Laws.Lists.{both-intro, both-left, both-right}
 use Rattle.plan.proofs.Laws.Placed.{Stands, placed-at, placed-of, placed-length, place-below, start}
 use Rattle.plan_measure.proofs.Laws.Largest.{member-at, member-place}
-use Rattle.plan.proofs.Laws.Valid.{Accepted, older, spawned-once, join-target, size-range}
+use Rattle.plan.specs.Rules.{Accepted}
+use Rattle.plan.proofs.Laws.Valid.{older, spawned-once, join-target, size-range}
 use Rattle.plan_measure.proofs.Laws.Paths.{along, along-parent}
 
 -- action i of job j with its job and position

@@ -15,7 +15,8 @@ use Rattle.plan.specs.Plan.{Plan, job, parent}
 use Rattle.plan_measure.specs.Measure.{pathOver, path, heaviest}
 use Rattle.plan_measure.specs.Times.{RulesKept}
 use Rattle.plan_measure.proofs.Laws.Largest.{largest-more, largest-above, largest-attained, below-member, member-below}
-use Rattle.plan.proofs.Laws.Valid.{Accepted, older, frame-range, jobs-range}
+use Rattle.plan.specs.Rules.{Accepted}
+use Rattle.plan.proofs.Laws.Valid.{older, frame-range, jobs-range}
 
 -- the sum of f over at most n jobs, from job j up to the root
 pub along : Plan → (ℕ → ℕ) → ℕ → ℕ → ℕ

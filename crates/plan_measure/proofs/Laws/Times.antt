@@ -13,7 +13,8 @@ use Rattle.plan_measure.specs.Measure.{mustFollow, after, longest}
 use Rattle.plan.specs.Test.{largest}
 use Rattle.plan_measure.specs.Times.{ends, begins}
 use Rattle.plan_measure.proofs.Laws.Largest.{largest-above, largest-within}
-use Rattle.plan.proofs.Laws.Valid.{Accepted, older, spawned-there, spawned-once, join-target, last-sends, size-range, jobs-range, work-range}
+use Rattle.plan.specs.Rules.{Accepted}
+use Rattle.plan.proofs.Laws.Valid.{older, spawned-there, spawned-once, join-target, last-sends, size-range, jobs-range, work-range}
 use Rattle.plan_measure.proofs.Laws.Follows.{act, act-member, Acts, member-acts, Follows, next, born, joined, follows-of, of-follows}
 use Rattle.plan_measure.proofs.Laws.Chains.{when, after-times, timing-rises, timing-small, longest-timing}
 

@@ -12,7 +12,7 @@ use Rattle.plan.specs.Reader.{readPlan}
 use Rattle.scheduler.specs.Run.{run, workersFit, choicesFit}
 use Rattle.scheduler.specs.Claim.{Bounds, Demand3}
 use Rattle.plan.proofs.Laws.Lists.{both-left, both-right}
-use Rattle.plan.proofs.Laws.Valid.{Accepted}
+use Rattle.plan.specs.Rules.{Accepted}
 use Rattle.plan.proofs.Laws.Accepted.{accepted-range, accepted-spawns, accepted-joins}
 use Rattle.scheduler.proofs.Laws.Whole.{run-trace, rounds-most, lone-rounds}
 use Rattle.scheduler.proofs.Laws.Rounds.{began-busy}

@@ -13,7 +13,8 @@ use Rattle.plan.specs.Plan.{Plan}
 use Rattle.scheduler.specs.State.{State, workerOf, dequeOf}
 use Rattle.scheduler.proofs.Lines.Member.{_∈_}
 use Rattle.scheduler.proofs.Lines.Shape.{Shape, Valid, Chain}
-use Rattle.plan.proofs.Laws.Valid.{Accepted, jobs-range}
+use Rattle.plan.specs.Rules.{Accepted}
+use Rattle.plan.proofs.Laws.Valid.{jobs-range}
 use Rattle.scheduler.proofs.Laws.PlanShape.{shape-valid}
 use Rattle.scheduler.proofs.Laws.Lined.{line-of}
 use Rattle.scheduler.specs.Trace.{Stage, Trace}

@@ -15,7 +15,7 @@ use Rattle.scheduler.specs.Turn.{turn, idled, turnOf}
 use Rattle.scheduler.specs.Steal.{oldest}
 use Rattle.scheduler.proofs.Lines.Sum.{sum, sum-le, sum-suc}
 use Rattle.plan.proofs.Laws.Placed.{start-suc, start-all}
-use Rattle.plan.proofs.Laws.Valid.{Accepted}
+use Rattle.plan.specs.Rules.{Accepted}
 use Rattle.scheduler.specs.Trace.{Stage, Trace, begins, turned, goes-on, laid, all-laid, served, next-round}
 use Rattle.scheduler.proofs.Laws.Sound.{trace-sound, trace-began, next-bound, held-job}
 use Rattle.scheduler.proofs.Laws.Rests.{Rests, lay-rests, serve-rests}

@@ -23,7 +23,8 @@ use Rattle.scheduler.specs.Steal.{oldest}
 use Rattle.scheduler.specs.Living.{notAfter}
 use Rattle.plan.proofs.Laws.Lists.{both-intro, both-left, true-of, false-of}
 use Rattle.plan.proofs.Laws.Counts.{decT}
-use Rattle.plan.proofs.Laws.Valid.{Accepted, jobs-range, size-range, older}
+use Rattle.plan.specs.Rules.{Accepted}
+use Rattle.plan.proofs.Laws.Valid.{jobs-range, size-range, older}
 use Rattle.scheduler.specs.Trace as Trace
 use Rattle.scheduler.specs.Trace.{Stage, turning, Trace}
 use Rattle.scheduler.proofs.Laws.Sound.{Sound, start-sound, trace-sound, trace-began, next-bound}

@@ -27,7 +27,8 @@ use Rattle.scheduler.specs.Schedule.{rowOf, clash, alone, inOrder, keeps
 use Rattle.scheduler.specs.Living.{lastRound}
 use Rattle.plan.proofs.Laws.Lists.{both-intro, both-left, both-right, all-by}
 use Rattle.plan.proofs.Laws.Placed.{place-below, locate, Stands, placed-of, placed-length}
-use Rattle.plan.proofs.Laws.Valid.{Accepted, spawned-once}
+use Rattle.plan.specs.Rules.{Accepted}
+use Rattle.plan.proofs.Laws.Valid.{spawned-once}
 use Rattle.plan_measure.proofs.Laws.Chains.{longest-chain}
 use Rattle.scheduler.specs.Trace as Trace
 use Rattle.scheduler.specs.Trace.{Stage, turning, Trace}

@@ -34,7 +34,8 @@ use Rattle.scheduler.specs.Schedule.{
 }
 use Rattle.plan.proofs.Laws.Lists.{true-of, both-intro}
 use Rattle.plan.proofs.Laws.Bits.{Binary, append-binary, bitsOf-binary, bitsOf-length, bits-length, field-seam, pack-length, bits-pack}
-use Rattle.plan.proofs.Laws.Valid.{Accepted, work-range}
+use Rattle.plan.specs.Rules.{Accepted}
+use Rattle.plan.proofs.Laws.Valid.{work-range}
 use Rattle.scheduler.specs.Trace.{turning, Trace}
 use Rattle.scheduler.proofs.Laws.Rows.{rows-length}
 use Rattle.scheduler.proofs.Laws.Order.{run-row, run-keeps}

@@ -20,7 +20,8 @@ use Rattle.scheduler.specs.Turn.{frames, spawned, living, weight}
 use Rattle.scheduler.specs.Run.{ended}
 use Rattle.scheduler.specs.Living.{notAfter, doneBy, livesAfter, weightAfter, peakOf}
 use Rattle.plan.proofs.Laws.Placed.{place-below}
-use Rattle.plan.proofs.Laws.Valid.{Accepted, size-range, older, spawned-there}
+use Rattle.plan.specs.Rules.{Accepted}
+use Rattle.plan.proofs.Laws.Valid.{size-range, older, spawned-there}
 use Rattle.plan_measure.proofs.Laws.Largest.{member-at, largest-above, largest-within, below-member}
 use Rattle.scheduler.specs.Trace.{turning, Trace}
 use Rattle.scheduler.proofs.Laws.Sound.{trace-sound, all-done, space, path-living}

@@ -21,7 +21,8 @@ use Rattle.scheduler.proofs.Lines.Weight
 use Rattle.plan.proofs.Laws.Lists.{both-intro, both-left, both-right, true-of, false-of, all-at, all-by}
 use Rattle.plan.proofs.Laws.Counts.{decT, below-length, below-at}
 use Rattle.plan.proofs.Laws.Placed.{start, placed-length, placed-at, place-below, placed-of}
-use Rattle.plan.proofs.Laws.Valid.{Accepted, jobs-range, size-range, older, spawned-there, spawned-once, join-target, last-sends}
+use Rattle.plan.specs.Rules.{Accepted}
+use Rattle.plan.proofs.Laws.Valid.{jobs-range, size-range, older, spawned-there, spawned-once, join-target, last-sends}
 
 abbrev pub shape : Plan → Shape
 shape p = record {

@@ -17,7 +17,8 @@ use Rattle.scheduler.specs.State.{State, nextOf, start}
 use Rattle.scheduler.specs.Turn.{turn, idled, turnOf}
 use Rattle.scheduler.specs.Steal.{oldest}
 use Rattle.scheduler.specs.Run.{ended}
-use Rattle.plan.proofs.Laws.Valid.{Accepted, jobs-range, size-range}
+use Rattle.plan.specs.Rules.{Accepted}
+use Rattle.plan.proofs.Laws.Valid.{jobs-range, size-range}
 use Rattle.scheduler.specs.Trace.{Stage, turning, laying, serving, Trace, begins, turned, goes-on, laid, all-laid, served, next-round}
 use Rattle.scheduler.proofs.Laws.Sound.{trace-sound, busy}
 use Rattle.scheduler.proofs.Laws.Rests.{Rests, lay-rests, serve-rests}

@@ -21,7 +21,7 @@ use Rattle.scheduler.specs.State.{Row, noRow, State, nextOf, workerOf, d
 use Rattle.scheduler.specs.Turn.{turn, turnOf, idled}
 use Rattle.scheduler.specs.Steal.{lay, laid, oldest, serve, given}
 use Rattle.plan.proofs.Laws.Placed.{start-suc, start-rises, place-below}
-use Rattle.plan.proofs.Laws.Valid.{Accepted}
+use Rattle.plan.specs.Rules.{Accepted}
 use Rattle.scheduler.specs.Trace as Trace
 use Rattle.scheduler.specs.Trace.{Stage, turning, laying, serving, Trace}
 use Rattle.scheduler.proofs.Laws.Sound.{Sound, trace-sound, trace-began, next-bound, held-job}

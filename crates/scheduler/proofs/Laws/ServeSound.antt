@@ -18,7 +18,7 @@ use Rattle.scheduler.specs.State.{State, nextOf, workerOf, dequeOf}
 use Rattle.scheduler.specs.Steal.{laid, lay, Pick, older, oldest, dropTop, topOf, given, serve}
 use Rattle.scheduler.proofs.Lines.Shape.{Good}
 use Rattle.scheduler.proofs.Lines.Steal.{steal-good}
-use Rattle.plan.proofs.Laws.Valid.{Accepted}
+use Rattle.plan.specs.Rules.{Accepted}
 use Rattle.scheduler.proofs.Laws.PlanShape.{shape, shape-valid}
 use Rattle.scheduler.proofs.Laws.Lined.{lineIn, lineOf, Sound, line-of}
 

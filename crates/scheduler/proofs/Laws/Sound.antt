@@ -22,7 +22,8 @@ use Rattle.scheduler.proofs.Lines.Start.{start-good}
 use Rattle.scheduler.proofs.Lines.Cover
 use Rattle.scheduler.proofs.Lines.Progress
 use Rattle.scheduler.proofs.Lines.Weight
-use Rattle.plan.proofs.Laws.Valid.{Accepted, jobs-range}
+use Rattle.plan.specs.Rules.{Accepted}
+use Rattle.plan.proofs.Laws.Valid.{jobs-range}
 use Rattle.scheduler.specs.Trace.{Stage, turning, laying, Trace, begins, turned, goes-on, laid, all-laid, served, next-round}
 use Rattle.scheduler.proofs.Laws.PlanShape.{shape-valid, weight-held, path-same, path-most}
 use Rattle.scheduler.proofs.Laws.Lined.{line-of, held-in, line-held, held-below}

@@ -13,7 +13,7 @@ use Rattle.plan.specs.Plan.{Plan}
 use Rattle.scheduler.specs.State.{State, dequeOf, start}
 use Rattle.scheduler.specs.Turn.{turn, idled, turnOf}
 use Rattle.scheduler.specs.Steal.{laid as laidBy, lay, oldest, given, serve}
-use Rattle.plan.proofs.Laws.Valid.{Accepted}
+use Rattle.plan.specs.Rules.{Accepted}
 use Rattle.scheduler.specs.Trace.{Stage, turning, laying, serving, Trace, begins, turned, goes-on, laid, all-laid, served, next-round}
 use Rattle.scheduler.proofs.Laws.Rests.{lay-rests, serve-rests}
 use Rattle.scheduler.proofs.Laws.Rounds.{began-busy}

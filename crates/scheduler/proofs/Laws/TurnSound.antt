@@ -23,7 +23,8 @@ use Rattle.scheduler.proofs.Lines.Shape.{Living, Ready, Chain}
 use Rattle.scheduler.proofs.Lines.Member.{put}
 use Rattle.scheduler.proofs.Lines.Turn.{Goes, goes?, Wakes, wakes?, wakes-iff, turnLine, turn-spawn, turn-none, turn-good}
 use Rattle.plan.proofs.Laws.Lists.{both-intro, both-left, both-right}
-use Rattle.plan.proofs.Laws.Valid.{Accepted, older, join-target}
+use Rattle.plan.specs.Rules.{Accepted}
+use Rattle.plan.proofs.Laws.Valid.{older, join-target}
 use Rattle.scheduler.proofs.Laws.PlanShape.{shape, shape-valid, ready-is, ready-by}
 use Rattle.scheduler.proofs.Laws.Lined.{lineIn, lineOf, Sound, line-of, held-in, held-below, line-stored, line-other}
 

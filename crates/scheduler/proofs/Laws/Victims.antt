@@ -20,7 +20,7 @@ use Rattle.scheduler.specs.Steal.{laid as laidBy, lay, oldest, topOf, gi
 use Rattle.scheduler.specs.Run.{choicesFit}
 use Rattle.scheduler.proofs.Lines.Sum.{sum-term}
 use Rattle.plan.proofs.Laws.Lists.{both-left, both-right, all-at}
-use Rattle.plan.proofs.Laws.Valid.{Accepted}
+use Rattle.plan.specs.Rules.{Accepted}
 use Rattle.scheduler.specs.Trace.{Stage, Trace, begins, turned, goes-on, laid, all-laid, served, next-round}
 use Rattle.scheduler.proofs.Laws.Sound.{trace-sound}
 use Rattle.scheduler.proofs.Laws.Tallies.{lone-holds, lone-requests}

@@ -15,7 +15,7 @@ use Rattle.plan.specs.Plan.{Plan}
 use Rattle.scheduler.specs.State.{State, workerOf, dequeOf, start}
 use Rattle.scheduler.specs.Turn.{turn, idled, turnOf}
 use Rattle.scheduler.specs.Steal.{laid as laidBy, lay, oldest, topOf, given, serve}
-use Rattle.plan.proofs.Laws.Valid.{Accepted}
+use Rattle.plan.specs.Rules.{Accepted}
 use Rattle.scheduler.specs.Trace.{Stage, turning, laying, serving, Trace, begins, turned, goes-on, laid, all-laid, served, next-round}
 use Rattle.scheduler.proofs.Laws.Sound.{trace-sound, trace-began}
 use Rattle.scheduler.proofs.Laws.Waits.{waits, waiting, waiting-none, start-calm, waiting-kept, waiting-more, waiting-less, seated, seated-waits, oldest-waits}

@@ -14,7 +14,8 @@ use Rattle.scheduler.specs.State.{State, nextOf, start}
 use Rattle.scheduler.specs.Turn.{turns}
 use Rattle.scheduler.specs.Steal.{lays, serves}
 use Rattle.scheduler.specs.Run.{ended, round, rounds, run}
-use Rattle.plan.proofs.Laws.Valid.{Accepted, work-range}
+use Rattle.plan.specs.Rules.{Accepted}
+use Rattle.plan.proofs.Laws.Valid.{work-range}
 use Rattle.scheduler.specs.Trace.{Stage, turning, laying, serving, Trace, begins, turned, goes-on, laid, all-laid, served, next-round}
 use Rattle.scheduler.proofs.Laws.Sound.{trace-sound, all-done}
 use Rattle.scheduler.proofs.Laws.Done.{sum-same, sizes-sum, actions-done, actions-most}

@@ -1,0 +1,10 @@
+-- What holds of the definitions in specs/, in named modules.
+pub mod Range
+pub mod Puts
+pub mod PlanBits
+pub mod OpenTable
+pub mod RoundTrip
+pub mod Rows
+pub mod RowRules
+pub mod TakeRows
+pub mod Answers

@@ -1,0 +1,144 @@
+-- What the two entries of the open table answer, by what was read.
+-- Assumes nothing.
+use Prim.Native.Nat.{ℕ, _*_, _%_, _≤_, _<_}
+use native.Mathlib.Omega.{arith}
+use mathlib.Core.Path.{_≡_, refl, sym, _∙_}
+use mathlib.Core.Bool.{true, false}
+use mathlib.Core.List.{List, _++_}
+use lib.ListN.{length, drop}
+use lib.Dec.{T, eqb}
+use borrow.Author.Tests.{le-leb, lt-leb}
+use Rattle.plan.specs.declared.flat.FlatPlan.{FlatPlan}
+use Rattle.plan.specs.declared.flat.Verdict.{Verdict}
+use Rattle.plan.specs.declared.flat.Verdict.the-variants.{Refused, Accepted}
+use Rattle.plan.specs.declared.refusal.Refusal.{Refusal}
+use Rattle.plan.specs.Refusal.{Outcome, refused, accepted, numberOf}
+use Rattle.plan.specs.Plan.{Plan, work}
+use Rattle.plan.specs.Reader.{readPlan}
+use Rattle.plan.specs.Flat.{Told, Holds, Spawned}
+use Rattle.plan_table.specs.Table.{written, tableOf, tabled, toTable, rowsOf, rowRules, planOf, ruled, readTable, encoded, toPlan}
+use Rattle.plan.specs.Test.{both}
+use Rattle.plan.specs.Rules.{inRange, spawnRules, joinRules}
+use Rattle.plan.specs.Writer.{planBytes}
+use Rattle.plan.specs.Given.{SpawnsGiven, JoinsGiven}
+use Rattle.plan_table.specs.GivenRows.{WriterGiven, BitsGiven}
+use Rattle.plan.proofs.Laws.Lists.{true-of, of-true}
+use Rattle.plan_table.proofs.Laws.Rows.{table-length}
+
+pub told-refused : (o : Outcome Plan) (v : Verdict) (f : FlatPlan) (cause : Refusal) → Told o v f → v ≡ Refused cause → o ≡ refused (numberOf cause)
+told-refused o v f cause t e = go o (rw e at t)
+  where
+    go : (o : Outcome Plan) → Told o (Refused cause) f → o ≡ refused (numberOf cause)
+    go (refused n) t = rw t
+    go (accepted p) t = absurd t
+
+pub told-accepted : (o : Outcome Plan) (v : Verdict) (f : FlatPlan) → Told o v f → v ≡ Accepted → (p : Plan) × (o ≡ accepted p) × Holds p f
+told-accepted o v f t e = go o (rw e at t)
+  where
+    go : (o : Outcome Plan) → Told o Accepted f → (p : Plan) × (o ≡ accepted p) × Holds p f
+    go (refused n) t = absurd t
+    go (accepted p) t = (p, refl, t)
+
+pub written-short : (output : List ℕ) (n : ℕ) (buffer : List ℕ) → length buffer < length output
+    → written output n buffer ≡ record { answer = refused 9; buffer = buffer }
+unfolding written
+written-short output n buffer h = rw (written, lt-leb _ _ h)
+
+pub written-whole : (output : List ℕ) (n : ℕ) (buffer : List ℕ) → length output ≤ length buffer
+    → written output n buffer ≡ record { answer = accepted n; buffer = output ++ drop (length output) buffer }
+unfolding written
+written-whole output n buffer h = rw (written, le-leb _ _ h)
+
+pub table-refused : (s buffer : List ℕ) (n : ℕ) → readPlan s ≡ refused n → record { answer = refused n; buffer = buffer } ≡ toTable s buffer
+unfolding toTable tabled
+table-refused s buffer n e = rw e
+
+tabled-plan : (s buffer : List ℕ) (p : Plan) → readPlan s ≡ accepted p → written (tableOf p) (work p) buffer ≡ toTable s buffer
+unfolding toTable tabled
+tabled-plan s buffer p e = rw e
+
+pub table-short : (s buffer : List ℕ) (p : Plan) → readPlan s ≡ accepted p → length buffer < 4 * work p
+    → record { answer = refused 9; buffer = buffer } ≡ toTable s buffer
+table-short s buffer p e h =
+    sym (written-short (tableOf p) (work p) buffer (omega (arith, table-length p))) ∙ tabled-plan s buffer p e
+
+pub table-whole : (s buffer : List ℕ) (p : Plan) (n : ℕ) (l : List ℕ) → readPlan s ≡ accepted p → n ≡ work p → 4 * n ≤ length buffer
+    → l ≡ tableOf p ++ drop (4 * n) buffer → record { answer = accepted n; buffer = l } ≡ toTable s buffer
+table-whole s buffer p n l e a h w =
+    rw (w, a, ← table-length p)
+    (sym (written-whole (tableOf p) (work p) buffer (omega (arith, table-length p))) ∙ tabled-plan s buffer p e)
+
+-- what a plan of arrays answers: 4, 5, 9, or its bytes
+
+module _ (p : Plan) (buffer : List ℕ) (range : T (inRange p)) where
+  pub encoded-spawns : spawnRules p ≡ false → record { answer = refused 4; buffer = buffer } ≡ encoded (ruled p) buffer
+  unfolding ruled encoded
+  encoded-spawns e = rw (ruled, true-of (inRange p) range, e)
+
+  pub encoded-joins : spawnRules p ≡ true → joinRules p ≡ false → record { answer = refused 5; buffer = buffer } ≡ encoded (ruled p) buffer
+  unfolding ruled encoded
+  encoded-joins s e = rw (ruled, true-of (inRange p) range, s, e)
+
+  encoded-plan : spawnRules p ≡ true → joinRules p ≡ true → written (planBytes p) (length (planBytes p)) buffer ≡ encoded (ruled p) buffer
+  unfolding ruled encoded
+  encoded-plan s j = rw (ruled, true-of (inRange p) range, s, j)
+
+  pub encoded-short : spawnRules p ≡ true → joinRules p ≡ true → length buffer < length (planBytes p)
+      → record { answer = refused 9; buffer = buffer } ≡ encoded (ruled p) buffer
+  encoded-short s j h = sym (written-short (planBytes p) (length (planBytes p)) buffer h) ∙ encoded-plan s j
+
+  pub encoded-whole : spawnRules p ≡ true → joinRules p ≡ true → length (planBytes p) ≤ length buffer → (n : ℕ) (l : List ℕ)
+      → n ≡ length (planBytes p) → l ≡ planBytes p ++ drop (length (planBytes p)) buffer
+      → record { answer = accepted n; buffer = l } ≡ encoded (ruled p) buffer
+  encoded-whole s j h n l e w = rw (e, w) (sym (written-whole (planBytes p) (length (planBytes p)) buffer h) ∙ encoded-plan s j)
+
+out-of-range : (p : Plan) (buffer : List ℕ) → inRange p ≡ false → record { answer = refused 3; buffer = buffer } ≡ encoded (ruled p) buffer
+unfolding ruled encoded
+out-of-range p buffer e = rw (ruled, e)
+
+-- what a table answers: 10, 3, or what its plan answers
+
+module _ (t buffer : List ℕ) where
+  pub plan-refused : both (eqb (length t % 4) 0) (rowRules (rowsOf t)) ≡ false → record { answer = refused 10; buffer = buffer } ≡ toPlan t buffer
+  unfolding toPlan readTable encoded
+  plan-refused e = rw (readTable, e)
+
+  pub plan-ruled : both (eqb (length t % 4) 0) (rowRules (rowsOf t)) ≡ true → encoded (ruled (planOf (rowsOf t))) buffer ≡ toPlan t buffer
+  unfolding toPlan readTable
+  plan-ruled e = rw (readTable, e)
+
+  pub plan-range : both (eqb (length t % 4) 0) (rowRules (rowsOf t)) ≡ true → inRange (planOf (rowsOf t)) ≡ false
+      → record { answer = refused 3; buffer = buffer } ≡ toPlan t buffer
+  plan-range e r = out-of-range (planOf (rowsOf t)) buffer r ∙ plan-ruled e
+
+-- what the rules and the writer are given of the arrays
+
+module _ {p : Plan} {jobs actions : ℕ} {frame first job spawn join : List ℕ} (g : WriterGiven p jobs actions frame first job spawn join) where
+  pub spawns-given : SpawnsGiven p jobs actions first job spawn
+  spawns-given =
+      record {
+        range = g .laid .range;
+        count = g .laid .count;
+        all = g .all;
+        firsts = g .laid .firsts;
+        owners = g .laid .owners;
+        spawns = g .laid .spawns;
+      }
+
+  pub joins-given : (parent position : List ℕ) → spawnRules p ≡ true → Spawned p parent position
+      → JoinsGiven p actions first job spawn join parent position
+  joins-given parent position e s =
+      record {
+        range = g .laid .range;
+        rules = of-true (spawnRules p) e;
+        all = g .all;
+        firsts = g .laid .firsts;
+        owners = g .laid .owners;
+        spawns = g .laid .spawns;
+        joins = g .laid .joins;
+        spawned = s;
+      }
+
+  pub bits-given : BitsGiven p jobs actions spawn join
+  bits-given =
+      record { range = g .laid .range; count = g .laid .count; all = g .all; spawns = g .laid .spawns; joins = g .laid .joins }

@@ -1,0 +1,300 @@
+-- The open table: a table that is read and written again has the same rows, and a plan whose table is read again is the same.
+-- Assumes nothing.
+use Prim.Native.Nat.{ℕ, suc, _*_, _%_, _≤_}
+use native.Mathlib.Omega.{arith}
+use mathlib.Core.Path.{_≡_, refl, sym, ap, ap₂, _∙_}
+use mathlib.Core.Bool.{Bool, true, false}
+use mathlib.Core.List.{List, [], _∷_, _++_}
+use lib.ListN.{length, length-append}
+use lib.Dec.{T, eqb, leb, eqb→eq, eqb-refl, le→leb}
+use borrow.Author.Tests.{eqb-true, eqb-false, eq-eqb, ne-eqb}
+use Rattle.plan.specs.Refusal.{Outcome, refused, accepted}
+use Rattle.plan.specs.Test.{both, either, all}
+use Rattle.plan.specs.Plan.{Action, Job, Plan, work}
+use Rattle.plan.specs.Rules.{inRange, spawnRules, joinRules}
+use Rattle.plan_table.specs.Table.{
+  tableIn,
+  tableFrom,
+  tableOf,
+  Row,
+  rowsOf,
+  goesOn,
+  rising,
+  small,
+  rowRules,
+  actionOf,
+  infront,
+  planOf,
+  ruled,
+  readTable,
+}
+use Rattle.plan.proofs.Laws.Lists.{both-intro, both-left, both-right, true-of}
+use Rattle.plan.proofs.Laws.Outcomes.{refused-accepted, passes, passed}
+use Rattle.plan.proofs.Laws.Fits.{Small, Fits, plan-fits, in-range}
+
+-- a plan's table has four numbers an action
+
+tableIn-length : (j f : ℕ) (l : List Action) → length (tableIn j f l) ≡ 4 * length l
+tableIn-length j f [] = refl
+tableIn-length j f (a ∷ l) = omega (arith, tableIn-length j f l)
+
+tableFrom-length : (j : ℕ) (p : List Job) → length (tableFrom j p) ≡ 4 * work p
+tableFrom-length j [] = refl
+tableFrom-length j (b ∷ bs) =
+    rw length-append (omega (arith, tableIn-length j (b .frame) (b .actions), tableFrom-length (suc j) bs))
+
+pub tableOf-length : (p : Plan) → length (tableOf p) ≡ 4 * work p
+unfolding tableOf
+tableOf-length p = tableFrom-length 0 p
+
+-- what an accepted table passed
+
+table-passed : (x : Bool) (o : Outcome Plan) (p : Plan) → _≡_ {A = Outcome Plan} (elim x [ false ↦ refused 10 | true ↦ o ]) (accepted p)
+    → T x × (o ≡ accepted p)
+table-passed true o p e = (tt, e)
+table-passed false o p e = refused-accepted e
+
+record Passed (t : List ℕ) (p : Plan) : Type 0 where
+  whole : length t % 4 ≡ 0
+  rows : T (rowRules (rowsOf t))
+  range : T (inRange p)
+  spawns : T (spawnRules p)
+  joins : T (joinRules p)
+  plan : planOf (rowsOf t) ≡ p
+
+readTable-passed : (t : List ℕ) (p : Plan) → readTable t ≡ accepted p → Passed t p
+unfolding readTable ruled
+readTable-passed t p e =
+    let whole = eqb (length t % 4) 0 in
+    let r = table-passed (both whole (rowRules (rowsOf t))) (ruled (planOf (rowsOf t))) p e in
+    let q = planOf (rowsOf t) in
+    let o = passed 3 (inRange q) (spawnRules q) (joinRules q) q p (r .1) in
+    record {
+      whole = eqb→eq (length t % 4) 0 (both-left whole (rowRules (rowsOf t)) (r .0));
+      rows = both-right whole (rowRules (rowsOf t)) (r .0);
+      range = rw (o .3) at (o .0);
+      spawns = rw (o .3) at (o .1);
+      joins = rw (o .3) at (o .2);
+      plan = o .3;
+    }
+
+pub readTable-rules : (t : List ℕ) (p : Plan) → readTable t ≡ accepted p → T (inRange p) × T (spawnRules p) × T (joinRules p)
+readTable-rules t p e = let r = readTable-passed t p e in (r .range, r .spawns, r .joins)
+
+-- the numbers of rows
+
+abbrev numbersOf : List Row → List ℕ
+numbersOf [] = []
+numbersOf (a ∷ rows) = a .job ∷ a .frame ∷ a .spawn ∷ a .join ∷ numbersOf rows
+
+numbersOf-rowsOf : (t : List ℕ) → length t % 4 ≡ 0 → numbersOf (rowsOf t) ≡ t
+numbersOf-rowsOf [] e = refl
+numbersOf-rowsOf (j ∷ []) e = absurd (omega arith)
+numbersOf-rowsOf (j ∷ (f ∷ [])) e = absurd (omega arith)
+numbersOf-rowsOf (j ∷ (f ∷ (s ∷ []))) e = absurd (omega arith)
+numbersOf-rowsOf (j ∷ (f ∷ (s ∷ (t ∷ rest)))) e =
+    ap {B = List ℕ} (λ l. j ∷ f ∷ s ∷ t ∷ l) (numbersOf-rowsOf rest (omega arith))
+
+either-left : (x y : Bool) → T (either x y) → (T y → ⊥) → T x
+either-left true y t f = tt
+either-left false y t f = f t
+
+either-right : (x y : Bool) → T (either x y) → (T x → ⊥) → T y
+either-right true y t f = absurd (f tt)
+either-right false y t f = t
+
+-- rows from the row a on are the table of the plan p, from job a .job on, whose first job has the frame of a
+record Grouped (a : Row) (rows : List Row) (p : Plan) : Type 0 where
+  first : Job
+  others : List Job
+  parts : p ≡ first ∷ others
+  frame : first .frame ≡ a .frame
+  numbers : tableFrom (a .job) p ≡ numbersOf (a ∷ rows)
+
+grouped-front : (a b : Row) (rows : List Row) (p : Plan) (c : Bool) → eqb (a .job) (b .job) ≡ c → T (goesOn a b) → Grouped b rows p
+    → Grouped a (b ∷ rows) (elim c [ true ↦ infront a p | false ↦ record { frame = a .frame; actions = actionOf a ∷ [] } ∷ p ])
+grouped-front a b rows p true e t g =
+    let next = eqb (b .job) (suc (a .job)) in
+    let same = both (eqb (b .job) (a .job)) (eqb (b .frame) (a .frame)) in
+    let j : a .job ≡ b .job = eqb-true (a .job) (b .job) e in
+    let s = either-right next same t (λ n. omega (arith, eqb→eq (b .job) (suc (a .job)) n)) in
+    let f : g .first .frame ≡ a .frame
+    = g .frame ∙ eqb→eq (b .frame) (a .frame) (both-right (eqb (b .job) (a .job)) (eqb (b .frame) (a .frame)) s) in
+    record {
+      first = record { frame = g .first .frame; actions = actionOf a ∷ g .first .actions };
+      others = g .others;
+      parts = ap (infront a) (g .parts);
+      frame = f;
+      numbers = ap (λ q. tableFrom (a .job) (infront a q)) (g .parts)
+          ∙ ap₂ {C = List ℕ} (λ f l. a .job ∷ f ∷ a .spawn ∷ a .join ∷ l) f (ap₂ tableFrom j (sym (g .parts)) ∙ g .numbers);
+    }
+grouped-front a b rows p false e t g =
+    let next = eqb (b .job) (suc (a .job)) in
+    let same = both (eqb (b .job) (a .job)) (eqb (b .frame) (a .frame)) in
+    let n = either-left next same t (λ s. eqb-false (a .job) (b .job) e
+    (sym (eqb→eq (b .job) (a .job) (both-left (eqb (b .job) (a .job)) (eqb (b .frame) (a .frame)) s)))) in
+    record {
+      first = record { frame = a .frame; actions = actionOf a ∷ [] };
+      others = p;
+      parts = refl;
+      frame = refl;
+      numbers = ap {B = List ℕ} (λ l. a .job ∷ a .frame ∷ a .spawn ∷ a .join ∷ l)
+          (ap (λ j. tableFrom j p) (sym (eqb→eq (b .job) (suc (a .job)) n)) ∙ g .numbers);
+    }
+
+grouped : (a : Row) (rows : List Row) → T (rising a rows) → Grouped a rows (planOf (a ∷ rows))
+grouped a [] t = record { first = record { frame = a .frame; actions = actionOf a ∷ [] }; others = []; parts = refl; frame = refl; numbers = refl }
+grouped a (b ∷ rows) t =
+    grouped-front a b rows (planOf (b ∷ rows)) (eqb (a .job) (b .job)) refl (both-left (goesOn a b) (rising b rows) t)
+    (grouped b rows (both-right (goesOn a b) (rising b rows) t))
+
+planOf-numbers : (l : List Row) → T (rowRules l) → tableFrom 0 (planOf l) ≡ numbersOf l
+unfolding rowRules
+planOf-numbers [] t = absurd t
+planOf-numbers (a ∷ rows) t =
+    let rest = both (rising a rows) (all small (a ∷ rows)) in
+    let z = eqb→eq (a .job) 0 (both-left (eqb (a .job) 0) rest t) in
+    let r = both-left (rising a rows) (all small (a ∷ rows)) (both-right (eqb (a .job) 0) rest t) in
+    ap (λ j. tableFrom j (planOf (a ∷ rows))) (sym z) ∙ grouped a rows r .numbers
+
+pub table-read-write : (t : List ℕ) (p : Plan) → readTable t ≡ accepted p → tableOf p ≡ t
+unfolding tableOf
+table-read-write t p e =
+    let r = readTable-passed t p e in
+    ap (tableFrom 0) (sym (r .plan)) ∙ planOf-numbers (rowsOf t) (r .rows) ∙ numbersOf-rowsOf t (r .whole)
+
+-- the rows of a plan's table
+
+abbrev rowOf : ℕ → ℕ → Action → Row
+rowOf j f a = record { job = j; frame = f; spawn = a .spawn; join = a .join }
+
+abbrev rowsIn : ℕ → ℕ → List Action → List Row
+rowsIn j f [] = []
+rowsIn j f (a ∷ l) = rowOf j f a ∷ rowsIn j f l
+
+abbrev rowsFrom : ℕ → List Job → List Row
+rowsFrom j [] = []
+rowsFrom j (b ∷ bs) = rowsIn j (b .frame) (b .actions) ++ rowsFrom (suc j) bs
+
+rowsOf-tableIn : (j f : ℕ) (l : List Action) (t : List ℕ) → rowsOf (tableIn j f l ++ t) ≡ rowsIn j f l ++ rowsOf t
+rowsOf-tableIn j f [] t = refl
+rowsOf-tableIn j f (a ∷ l) t = ap {B = List Row} (λ r. rowOf j f a ∷ r) (rowsOf-tableIn j f l t)
+
+rowsOf-tableFrom : (j : ℕ) (p : List Job) → rowsOf (tableFrom j p) ≡ rowsFrom j p
+rowsOf-tableFrom j [] = refl
+rowsOf-tableFrom j (b ∷ bs) =
+    rowsOf-tableIn j (b .frame) (b .actions) (tableFrom (suc j) bs) ∙ ap (λ r. rowsIn j (b .frame) (b .actions) ++ r) (rowsOf-tableFrom (suc j) bs)
+
+-- they are grouped into the jobs that they came from
+
+-- the rows, if there are any, begin with the job that follows job j
+abbrev Next : ℕ → List Row → Type 0
+Next j [] = Unit {0}
+Next j (b ∷ rows) = b .job ≡ suc j
+
+rowsFrom-next : (j : ℕ) (p : List Job) → Fits p → Next j (rowsFrom (suc j) p)
+rowsFrom-next j [] h = tt
+rowsFrom-next j (b ∷ bs) h = go (b .actions) (h .0 .some-action)
+  where
+    go : (l : List Action) → 1 ≤ length l → Next j (rowsIn (suc j) (b .frame) l ++ rowsFrom (suc (suc j)) bs)
+    go [] h = absurd (omega arith)
+    go (a ∷ l) h = refl
+
+chosen-true : {A : Type 0} (c : Bool) (x y : A) → c ≡ true → _≡_ {A = A} (elim c [ true ↦ x | false ↦ y ]) x
+chosen-true c x y e = rw e
+
+chosen-false : {A : Type 0} (c : Bool) (x y : A) → c ≡ false → _≡_ {A = A} (elim c [ true ↦ x | false ↦ y ]) y
+chosen-false c x y e = rw e
+
+planOf-last : (a : Row) (rows : List Row) → Next (a .job) rows → planOf (a ∷ rows) ≡ record { frame = a .frame; actions = actionOf a ∷ [] } ∷ planOf rows
+planOf-last a [] h = refl
+planOf-last a (b ∷ rows) h =
+    chosen-false (eqb (a .job) (b .job)) (infront a (planOf (b ∷ rows))) (record { frame = a .frame; actions = actionOf a ∷ [] } ∷ planOf (b ∷ rows))
+    (ne-eqb (a .job) (b .job) (λ e. omega arith))
+
+planOf-in : (j f : ℕ) (a : Action) (l : List Action) (rows : List Row) → Next j rows
+    → planOf (rowsIn j f (a ∷ l) ++ rows) ≡ record { frame = f; actions = a ∷ l } ∷ planOf rows
+planOf-in j f a [] rows h = planOf-last (rowOf j f a) rows h
+planOf-in j f a (b ∷ l) rows h =
+    chosen-true (eqb j j) (infront (rowOf j f a) (planOf (rowsIn j f (b ∷ l) ++ rows)))
+    (record { frame = f; actions = a ∷ [] } ∷ planOf (rowsIn j f (b ∷ l) ++ rows)) (eq-eqb j j refl)
+    ∙ ap (infront (rowOf j f a)) (planOf-in j f b l rows h)
+
+planOf-rowsFrom : (j : ℕ) (p : List Job) → Fits p → planOf (rowsFrom j p) ≡ p
+planOf-rowsFrom j [] h = refl
+planOf-rowsFrom j (b ∷ bs) h = go (b .actions) (h .0 .some-action) (planOf-rowsFrom (suc j) bs (h .1))
+  where
+    go : (l : List Action) → 1 ≤ length l → planOf (rowsFrom (suc j) bs) ≡ bs
+        → planOf (rowsIn j (b .frame) l ++ rowsFrom (suc j) bs) ≡ record { frame = b .frame; actions = l } ∷ bs
+    go [] h e = absurd (omega arith)
+    go (a ∷ l) g e =
+        planOf-in j (b .frame) a l (rowsFrom (suc j) bs) (rowsFrom-next j bs (h .1))
+        ∙ ap {B = List Job} (λ p. record { frame = b .frame; actions = a ∷ l } ∷ p) e
+
+-- they keep the row rules
+
+either-first : (x y : Bool) → T x → T (either x y)
+either-first true y t = tt
+either-first false y t = absurd t
+
+either-second : (x y : Bool) → T y → T (either x y)
+either-second true y t = tt
+either-second false y t = t
+
+rising-in : (j f : ℕ) (a : Action) (l : List Action) (rows : List Row) → ((x : Action) → T (rising (rowOf j f x) rows))
+    → T (rising (rowOf j f a) (rowsIn j f l ++ rows))
+rising-in j f a [] rows h = h a
+rising-in j f a (b ∷ l) rows h =
+    both-intro (goesOn (rowOf j f a) (rowOf j f b)) (rising (rowOf j f b) (rowsIn j f l ++ rows))
+    (either-second (eqb j (suc j)) (both (eqb j j) (eqb f f)) (both-intro (eqb j j) (eqb f f) (eqb-refl j) (eqb-refl f)))
+    (rising-in j f b l rows h)
+
+rising-from : (j f : ℕ) (p : List Job) → Fits p → (x : Action) → T (rising (rowOf j f x) (rowsFrom (suc j) p))
+rising-from j f [] h x = tt
+rising-from j f (b ∷ bs) h x = go (b .actions) (h .0 .some-action) (rising-from (suc j) (b .frame) bs (h .1))
+  where
+    go : (l : List Action) → 1 ≤ length l → ((x : Action) → T (rising (rowOf (suc j) (b .frame) x) (rowsFrom (suc (suc j)) bs)))
+        → T (rising (rowOf j f x) (rowsIn (suc j) (b .frame) l ++ rowsFrom (suc (suc j)) bs))
+    go [] h r = absurd (omega arith)
+    go (a ∷ l) h r =
+        let next = rowOf (suc j) (b .frame) a in
+        both-intro (goesOn (rowOf j f x) next) (rising next (rowsIn (suc j) (b .frame) l ++ rowsFrom (suc (suc j)) bs))
+        (either-first (eqb (suc j) (suc j)) (both (eqb (suc j) j) (eqb (b .frame) f)) (eqb-refl (suc j)))
+        (rising-in (suc j) (b .frame) a l (rowsFrom (suc (suc j)) bs) r)
+
+small-in : (j f : ℕ) (l : List Action) (rows : List Row) → Small l → T (all small rows) → T (all small (rowsIn j f l ++ rows))
+small-in j f [] rows h t = t
+small-in j f (a ∷ l) rows h t =
+    both-intro (both (leb (a .spawn) 256) (leb (a .join) 256)) (all small (rowsIn j f l ++ rows))
+    (both-intro (leb (a .spawn) 256) (leb (a .join) 256) (le→leb (a .spawn) 256 (h .0)) (le→leb (a .join) 256 (h .1)))
+    (small-in j f l rows (h .2) t)
+
+small-from : (j : ℕ) (p : List Job) → Fits p → T (all small (rowsFrom j p))
+small-from j [] h = tt
+small-from j (b ∷ bs) h = small-in j (b .frame) (b .actions) (rowsFrom (suc j) bs) (h .0 .small) (small-from (suc j) bs (h .1))
+
+rowsFrom-rules : (p : Plan) → 1 ≤ length p → Fits p → T (rowRules (rowsFrom 0 p))
+unfolding rowRules
+rowsFrom-rules [] some h = absurd (omega arith)
+rowsFrom-rules (b ∷ bs) some h = go (b .actions) (h .0 .some-action) (h .0 .small)
+  where
+    go : (l : List Action) → 1 ≤ length l → Small l → T (rowRules (rowsIn 0 (b .frame) l ++ rowsFrom 1 bs))
+    go [] some s = absurd (omega arith)
+    go (a ∷ l) some s =
+        both-intro (rising (rowOf 0 (b .frame) a) (rowsIn 0 (b .frame) l ++ rowsFrom 1 bs)) (all small (rowsIn 0 (b .frame) (a ∷ l) ++ rowsFrom 1 bs))
+        (rising-in 0 (b .frame) a l (rowsFrom 1 bs) (rising-from 0 (b .frame) bs (h .1)))
+        (small-in 0 (b .frame) (a ∷ l) (rowsFrom 1 bs) s (small-from 1 bs (h .1)))
+
+pub table-write-read : (p : Plan) → T (inRange p) → T (spawnRules p) → T (joinRules p) → readTable (tableOf p) ≡ accepted p
+unfolding readTable ruled tableOf
+table-write-read p i s j =
+    let fits = plan-fits p i s j in
+    let rows : rowsOf (tableOf p) ≡ rowsFrom 0 p = rowsOf-tableFrom 0 p in
+    let whole : length (tableOf p) % 4 ≡ 0 = omega (arith, tableOf-length p) in
+    let rules : T (both (eqb (length (tableOf p) % 4) 0) (rowRules (rowsOf (tableOf p))))
+    = both-intro (eqb (length (tableOf p) % 4) 0) (rowRules (rowsOf (tableOf p))) (rw whole (eqb-refl 0))
+    (rw rows (rowsFrom-rules p (in-range p i .some-job) fits)) in
+    chosen-true (both (eqb (length (tableOf p) % 4) 0) (rowRules (rowsOf (tableOf p)))) (ruled (planOf (rowsOf (tableOf p)))) (refused 10)
+    (true-of (both (eqb (length (tableOf p) % 4) 0) (rowRules (rowsOf (tableOf p)))) rules)
+    ∙ ap ruled (ap planOf rows ∙ planOf-rowsFrom 0 p fits)
+    ∙ passes 3 (inRange p) (spawnRules p) (joinRules p) p i s j

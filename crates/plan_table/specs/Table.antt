@@ -1,0 +1,128 @@
+-- The open table (document 01, "Plan"): "one row an action, in job then position order, of four 16-bit numbers:
+-- job, its frame (equal in all its rows), child number plus 1 or 0, target plus 1 or 0."
+--   tableOf p    == the table of a plan
+--   Row, rowsOf  == the table's rows
+--   rowRules     == "The third and fourth are 0 to 256. The job column starts at 0 and rises by 0 or 1."
+--   planOf rows  == the plan whose table the rows are
+--   readTable t  == the plan that a table holds, or the refusal: 10, 3, 4, 5
+--   toTable, toPlan == what the two entries answer and leave in the lent buffer
+-- Assumes nothing.
+use Prim.Native.Nat.{ℕ, zero, suc, _*_, _/_, _%_}
+use mathlib.Core.Bool.{Bool, true, false}
+use mathlib.Core.List.{List, [], _∷_, _++_}
+use lib.ListN.{length, drop}
+use lib.Dec.{eqb, leb}
+use Rattle.plan_table.specs.declared.Answer.{Answer}
+use Rattle.plan_table.specs.declared.Answer.the-variants.{Refused, Count}
+use Rattle.plan.specs.Refusal.{Outcome, refused, accepted, numberOf}
+use Rattle.plan.specs.Test.{both, either, all}
+use Rattle.plan.specs.Plan.{Action, Job, Plan, work}
+use Rattle.plan.specs.Rules.{inRange, spawnRules, joinRules}
+use Rattle.plan.specs.Reader.{readPlan}
+use Rattle.plan.specs.Writer.{planBytes}
+
+-- the rows of the actions of job j, whose frame is f
+abbrev pub tableIn : ℕ → ℕ → List Action → List ℕ
+tableIn j f [] = []
+tableIn j f (a ∷ rest) = j ∷ f ∷ a .spawn ∷ a .join ∷ tableIn j f rest
+
+abbrev pub tableFrom : ℕ → List Job → List ℕ
+tableFrom j [] = []
+tableFrom j (b ∷ bs) = tableIn j (b .frame) (b .actions) ++ tableFrom (suc j) bs
+
+unfoldable pub tableOf : Plan → List ℕ
+tableOf p = tableFrom 0 p
+
+pub record Row : Type 0 where
+  pub job : ℕ
+  pub frame : ℕ
+  pub spawn : ℕ
+  pub join : ℕ
+
+-- four numbers a row; what is left of a last row that is not whole is no row
+abbrev pub rowsOf : List ℕ → List Row
+rowsOf [] = []
+rowsOf (j ∷ []) = []
+rowsOf (j ∷ (f ∷ [])) = []
+rowsOf (j ∷ (f ∷ (s ∷ []))) = []
+rowsOf (j ∷ (f ∷ (s ∷ (t ∷ rest)))) = record { job = j; frame = f; spawn = s; join = t } ∷ rowsOf rest
+
+-- a row may stand below the row a: the next job, or the same job with the same frame
+abbrev pub goesOn : Row → Row → Bool
+goesOn a b = either (eqb (b .job) (suc (a .job))) (both (eqb (b .job) (a .job)) (eqb (b .frame) (a .frame)))
+
+abbrev pub rising : Row → List Row → Bool
+rising a [] = true
+rising a (b ∷ rows) = both (goesOn a b) (rising b rows)
+
+abbrev pub small : Row → Bool
+small a = both (leb (a .spawn) 256) (leb (a .join) 256)
+
+unfoldable pub rowRules : List Row → Bool
+rowRules [] = false
+rowRules (a ∷ rows) = both (eqb (a .job) 0) (both (rising a rows) (all small (a ∷ rows)))
+
+abbrev pub actionOf : Row → Action
+actionOf a = record { spawn = a .spawn; join = a .join }
+
+-- one more action in front of the first job
+abbrev pub infront : Row → List Job → List Job
+infront a [] = []
+infront a (b ∷ bs) = record { frame = b .frame; actions = actionOf a ∷ b .actions } ∷ bs
+
+-- rows of one job number are one job
+abbrev pub planOf : List Row → Plan
+planOf [] = []
+planOf (a ∷ []) = record { frame = a .frame; actions = actionOf a ∷ [] } ∷ []
+planOf (a ∷ (b ∷ rows)) =
+    elim (eqb (a .job) (b .job)) [ true ↦ infront a (planOf (b ∷ rows))
+      | false ↦ record { frame = a .frame; actions = actionOf a ∷ [] } ∷ planOf (b ∷ rows) ]
+
+-- 3, then 4, then 5
+unfoldable pub ruled : Plan → Outcome Plan
+unfolding inRange spawnRules joinRules
+ruled p =
+    elim (inRange p) [ false ↦ refused 3
+      | true ↦ elim (spawnRules p) [ false ↦ refused 4 | true ↦ elim (joinRules p) [ false ↦ refused 5 | true ↦ accepted p ] ] ]
+
+-- 10: "open table empty, not whole rows, or breaks its row rules"
+unfoldable pub readTable : List ℕ → Outcome Plan
+unfolding rowRules ruled
+readTable t = elim (both (eqb (length t % 4) 0) (rowRules (rowsOf t))) [ false ↦ refused 10 | true ↦ ruled (planOf (rowsOf t)) ]
+
+-- An entry's answer with what its lent buffer then holds: "On success, bytes or numbers beyond the output keep
+-- what they held"; on a refusal the buffer is as it was.
+pub record Written : Type 0 where
+  pub answer : Outcome ℕ
+  pub buffer : List ℕ
+
+-- 9 where the output is longer than the buffer; an answer of n tells n of the output's units
+unfoldable pub written : List ℕ → ℕ → List ℕ → Written
+written output n buffer =
+    elim (leb (length output) (length buffer)) [ false ↦ record { answer = refused 9; buffer = buffer }
+      | true ↦ record { answer = accepted n; buffer = output ++ drop (length output) buffer } ]
+
+-- "reading into a table": 1 to 6, then 9; the answer is the number of rows
+unfoldable pub tabled : Outcome Plan → List ℕ → Written
+unfolding written tableOf
+tabled (refused n) buffer = record { answer = refused n; buffer = buffer }
+tabled (accepted p) buffer = written (tableOf p) (work p) buffer
+
+unfoldable pub toTable : List ℕ → List ℕ → Written
+unfolding tabled readPlan
+toTable bytes buffer = tabled (readPlan bytes) buffer
+
+-- "writing from a table": 10, 3, 4, 5, 9; the answer is the number of bytes
+unfoldable pub encoded : Outcome Plan → List ℕ → Written
+unfolding written planBytes
+encoded (refused n) buffer = record { answer = refused n; buffer = buffer }
+encoded (accepted p) buffer = written (planBytes p) (length (planBytes p)) buffer
+
+unfoldable pub toPlan : List ℕ → List ℕ → Written
+unfolding encoded readTable
+toPlan table buffer = encoded (readTable table) buffer
+
+-- the outcome that an answer stands for
+abbrev pub answerOf : Answer → Outcome ℕ
+answerOf (Refused cause) = refused (numberOf cause)
+answerOf (Count n) = accepted n

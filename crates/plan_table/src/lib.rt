@@ -1,0 +1,112 @@
+// The open table (document 01, "Plan"): a plan's bytes into a table, and a table into a plan's bytes.
+ghost use mathlib.Core.Path.{_≡_};
+ghost use Rattle.plan.specs.Plan.{Plan};
+ghost use Rattle.plan_table.specs.GivenRows.{WriterGiven};
+ghost use Rattle.plan_table.specs.Table.{toTable, toPlan, answerOf, encoded, ruled};
+mod rows;
+mod writer;
+
+use plan::flat::Verdict;
+use plan::reader::read_plan;
+use plan::refusal::Refusal;
+use crate::rows::Jobs;
+use crate::rows::table_rules;
+use crate::rows::take_rows;
+use crate::rows::write_rows;
+use plan::rules::join_rules;
+use plan::rules::spawn_rules;
+use crate::writer::plan_bits;
+use crate::writer::write_plan;
+
+// The number of rows or bytes written, or why nothing was.
+pub enum Answer {
+    Refused(Refusal),
+    Count(usize),
+}
+
+// Writes the open table of the plan that the bytes hold, and tells the number of rows.
+pub fn plan_to_table(bytes: &[u8], rows: &mut [u16]) -> Answer
+    ensures { λ r. ⌜ record { answer = answerOf r; buffer = now (rows .exit) } ≡ toTable (now (bytes .entry)) (now (rows .entry)) ⌝ }
+{
+    let read = read_plan(bytes);
+    let verdict = read.verdict;
+    let plan = read.plan;
+    match verdict {
+        Verdict::Refused(cause) => Answer::Refused(cause),
+        Verdict::Accepted => {
+            let actions = plan.actions;
+            if rows.len() < 4 * actions {
+                return Answer::Refused(Refusal::Short);
+            }
+            write_rows(
+                actions,
+                &plan.frame,
+                &plan.job,
+                &plan.spawn,
+                &plan.join,
+                rows,
+            );
+            Answer::Count(actions)
+        }
+    }
+}
+
+// Writes the plan bytes of the plan that the arrays hold, where it keeps its rules and there is room, and tells their number.
+fn encode(
+    bytes: &mut [u8],
+    jobs: usize,
+    rows: usize,
+    frame: &[u16; 256],
+    first: &[u16; 257],
+    job: &[u8; 2048],
+    spawn: &[u16; 2048],
+    join: &[u16; 2048],
+) -> Answer
+    requires { ⌜ ((p : Plan) × WriterGiven p jobs rows (now frame) (now first) (now job) (now spawn) (now join)) ⌝ }
+    ensures { λ r. ⌜ ((p : Plan) → WriterGiven p jobs rows (now (frame .entry)) (now (first .entry)) (now (job .entry)) (now (spawn .entry)) (now (join .entry)) → record { answer = answerOf r; buffer = now (bytes .exit) } ≡ encoded (ruled p) (now (bytes .entry))) ⌝ }
+{
+    let spawns = spawn_rules(jobs, rows, first, job, spawn);
+    let parent = spawns.parent;
+    let position = spawns.position;
+    if !spawns.kept {
+        return Answer::Refused(Refusal::Spawn);
+    }
+    let joins = join_rules(rows, first, job, spawn, join, &parent, &position);
+    if !joins.kept {
+        return Answer::Refused(Refusal::Join);
+    }
+    if bytes.len() < (plan_bits(jobs, rows, spawn, join) + 7) / 8 {
+        return Answer::Refused(Refusal::Short);
+    }
+    Answer::Count(write_plan(bytes, jobs, rows, frame, first, job, spawn, join))
+}
+
+// Writes the plan bytes of the plan that an open table holds, and tells the number of bytes.
+pub fn table_to_plan(table: &[u16], bytes: &mut [u8]) -> Answer
+    ensures { λ r. ⌜ record { answer = answerOf r; buffer = now (bytes .exit) } ≡ toPlan (now (table .entry)) (now (bytes .entry)) ⌝ }
+{
+    if !table_rules(table) {
+        return Answer::Refused(Refusal::Table);
+    }
+    let rows = table.len() / 4;
+    if 2048 < rows {
+        return Answer::Refused(Refusal::Range);
+    }
+    let mut frame = [0u16; 256];
+    let mut first = [0u16; 257];
+    let mut job = [0u8; 2048];
+    let mut spawn = [0u16; 2048];
+    let mut join = [0u16; 2048];
+    match take_rows(
+        table,
+        rows,
+        &mut frame,
+        &mut first,
+        &mut job,
+        &mut spawn,
+        &mut join,
+    ) {
+        Jobs::Refused(cause) => Answer::Refused(cause),
+        Jobs::Count(jobs) => encode(bytes, jobs, rows, &frame, &first, &job, &spawn, &join),
+    }
+}
