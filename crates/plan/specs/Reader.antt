@@ -37,19 +37,25 @@ unfolding actionsAt fieldAt
 jobsAt s zero k at = step [] at
 jobsAt s (suc n) k at =
     then (fieldAt s 16 at) (λ frame at.
-      elim (eqb frame 0) [ true ↦ stop 3
-        | false ↦ then (fieldAt s 8 at) (λ size at.
-            elim (either (eqb size 0) (ltb 2048 (k + size))) [ true ↦ stop 3
-              | false ↦ then (actionsAt s size at) (λ actions at.
-                  then (jobsAt s n (k + size) at) (λ bs at. step (record { frame = frame; actions = actions } ∷ bs) at)) ]) ])
+    elim (eqb frame 0) [
+      | true ↦ stop 3
+      | false ↦ then (fieldAt s 8 at) (λ size at.
+          elim (either (eqb size 0) (ltb 2048 (k + size))) [
+            | true ↦ stop 3
+            | false ↦ then (actionsAt s size at) (λ actions at.
+                then (jobsAt s n (k + size) at) (λ bs at. step (record { frame = frame; actions = actions } ∷ bs) at))
+          ])
+    ])
 
 unfoldable pub planAt : List ℕ → Step Plan
 unfolding jobsAt fieldAt
 planAt s =
     then (fieldAt s 8 0) (λ form at.
-      elim (eqb form 1) [ false ↦ stop 2
-        | true ↦ then (fieldAt s 9 at) (λ jobs at.
-            elim (either (eqb jobs 0) (ltb 256 jobs)) [ true ↦ stop 3 | false ↦ jobsAt s jobs 0 at ]) ])
+    elim (eqb form 1) [
+      | false ↦ stop 2
+      | true ↦ then (fieldAt s 9 at) (λ jobs at.
+          elim (either (eqb jobs 0) (ltb 256 jobs)) [ true ↦ stop 3 | false ↦ jobsAt s jobs 0 at ])
+    ])
 
 unfoldable pub fills : List ℕ → ℕ → Bool
 unfolding bits
@@ -60,8 +66,10 @@ unfoldable pub judged : List ℕ → Step Plan → Outcome Plan
 unfolding fills spawnRules joinRules
 judged s (stop n) = refused n
 judged s (step p at) =
-    elim (fills s at) [ false ↦ refused 6
-      | true ↦ elim (spawnRules p) [ false ↦ refused 4 | true ↦ elim (joinRules p) [ false ↦ refused 5 | true ↦ accepted p ] ] ]
+    elim (fills s at) [
+      | false ↦ refused 6
+      | true ↦ elim (spawnRules p) [ false ↦ refused 4 | true ↦ elim (joinRules p) [ false ↦ refused 5 | true ↦ accepted p ] ]
+    ]
 
 unfoldable pub readPlan : List ℕ → Outcome Plan
 unfolding planAt judged

@@ -5,7 +5,18 @@
 use Prim.Native.Nat.{ℕ}
 use Rattle.plan.specs.declared.refusal.Refusal.{Refusal}
 use Rattle.plan.specs.declared.refusal.Refusal.the-variants.{
-  RanOut, Form, Range, Spawn, Join, Fill, Workers, Choices, Short, Table, Schedule, Rule
+  RanOut,
+  Form,
+  Range,
+  Spawn,
+  Join,
+  Fill,
+  Workers,
+  Choices,
+  Short,
+  Table,
+  Schedule,
+  Rule,
 }
 
 abbrev pub numberOf : Refusal → ℕ

@@ -37,9 +37,11 @@ spawnRules p = both (all (spawnFits (length p)) (placed p)) (all (spawnedOnce p)
 -- No join enters the action right after a spawn."
 abbrev pub joinFits : Plan → Placed → Bool
 joinFits p a =
-    elim (a .join) [ zero ↦ true
+    elim (a .join) [
+      | zero ↦ true
       | suc t ↦ both (leb 1 (a .job)) (both (ltb t (size p (parent p (a .job))))
-          (both (ltb (spawnAt p (a .job)) t) (eqb (action p (parent p (a .job)) (t - 1) .spawn) 0))) ]
+          (both (ltb (spawnAt p (a .job)) t) (eqb (action p (parent p (a .job)) (t - 1) .spawn) 0)))
+    ]
 
 -- "At most 8 joins enter one action."
 abbrev pub fewEnter : Plan → Placed → Bool

@@ -1,7 +1,6 @@
 // A plan as flat arrays, and what reading one answers.
 ghost use mathlib.Core.Path.{_≡_};
 ghost use Prim.Native.Nat.{_<_};
-
 use crate::refusal::Refusal;
 
 // `frame`, `first`, `parent` and `spawn_position` go by job, and `first` has the end of the last job too; `job`, `spawn`, `join`

@@ -1,5 +1,7 @@
 // One call for each case, in the order of document 01. Written by tools/plan_cases.rs.
-use crate::{plan_case, room_case, table_case};
+use crate::plan_case;
+use crate::room_case;
+use crate::table_case;
 
 pub fn papers() {
     plan_case(b"e");

@@ -75,15 +75,19 @@ abbrev pub planOf : List Row → Plan
 planOf [] = []
 planOf (a ∷ []) = record { frame = a .frame; actions = actionOf a ∷ [] } ∷ []
 planOf (a ∷ (b ∷ rows)) =
-    elim (eqb (a .job) (b .job)) [ true ↦ infront a (planOf (b ∷ rows))
-      | false ↦ record { frame = a .frame; actions = actionOf a ∷ [] } ∷ planOf (b ∷ rows) ]
+    elim (eqb (a .job) (b .job)) [
+      | true ↦ infront a (planOf (b ∷ rows))
+      | false ↦ record { frame = a .frame; actions = actionOf a ∷ [] } ∷ planOf (b ∷ rows)
+    ]
 
 -- 3, then 4, then 5
 unfoldable pub ruled : Plan → Outcome Plan
 unfolding inRange spawnRules joinRules
 ruled p =
-    elim (inRange p) [ false ↦ refused 3
-      | true ↦ elim (spawnRules p) [ false ↦ refused 4 | true ↦ elim (joinRules p) [ false ↦ refused 5 | true ↦ accepted p ] ] ]
+    elim (inRange p) [
+      | false ↦ refused 3
+      | true ↦ elim (spawnRules p) [ false ↦ refused 4 | true ↦ elim (joinRules p) [ false ↦ refused 5 | true ↦ accepted p ] ]
+    ]
 
 -- 10: "open table empty, not whole rows, or breaks its row rules"
 unfoldable pub readTable : List ℕ → Outcome Plan
@@ -99,8 +103,10 @@ pub record Written : Type 0 where
 -- 9 where the output is longer than the buffer; an answer of n tells n of the output's units
 unfoldable pub written : List ℕ → ℕ → List ℕ → Written
 written output n buffer =
-    elim (leb (length output) (length buffer)) [ false ↦ record { answer = refused 9; buffer = buffer }
-      | true ↦ record { answer = accepted n; buffer = output ++ drop (length output) buffer } ]
+    elim (leb (length output) (length buffer)) [
+      | false ↦ record { answer = refused 9; buffer = buffer }
+      | true ↦ record { answer = accepted n; buffer = output ++ drop (length output) buffer }
+    ]
 
 -- "reading into a table": 1 to 6, then 9; the answer is the number of rows
 unfoldable pub tabled : Outcome Plan → List ℕ → Written

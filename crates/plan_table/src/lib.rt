@@ -3,20 +3,21 @@ ghost use mathlib.Core.Path.{_≡_};
 ghost use Rattle.plan.specs.Plan.{Plan};
 ghost use Rattle.plan_table.specs.GivenRows.{WriterGiven};
 ghost use Rattle.plan_table.specs.Table.{toTable, toPlan, answerOf, encoded, ruled};
+
 mod rows;
 mod writer;
 
-use plan::flat::Verdict;
-use plan::reader::read_plan;
-use plan::refusal::Refusal;
 use crate::rows::Jobs;
 use crate::rows::table_rules;
 use crate::rows::take_rows;
 use crate::rows::write_rows;
-use plan::rules::join_rules;
-use plan::rules::spawn_rules;
 use crate::writer::plan_bits;
 use crate::writer::write_plan;
+use plan::flat::Verdict;
+use plan::reader::read_plan;
+use plan::refusal::Refusal;
+use plan::rules::join_rules;
+use plan::rules::spawn_rules;
 
 // The number of rows or bytes written, or why nothing was.
 pub enum Answer {

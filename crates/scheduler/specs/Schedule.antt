@@ -67,25 +67,31 @@ unfolding fieldAt
 rowsAt s zero at = step [] at
 rowsAt s (suc n) at =
     then (fieldAt s 12 at) (λ r at.
-      elim (eqb r 0) [ true ↦ stop 11
-        | false ↦ then (fieldAt s 4 at) (λ w at. then (rowsAt s n at) (λ rows at. step (record { round = r; worker = w } ∷ rows) at)) ])
+    elim (eqb r 0) [
+      | true ↦ stop 11
+      | false ↦ then (fieldAt s 4 at) (λ w at. then (rowsAt s n at) (λ rows at. step (record { round = r; worker = w } ∷ rows) at))
+    ])
 
 -- "schedule length, form, worker count, action count, zero bits or a round of 0"
 unfoldable pub writtenAt : List ℕ → ℕ → Step Written
 unfolding rowsAt fieldAt
 writtenAt s n =
     then (fieldAt s 8 0) (λ form at.
-      then (fieldAt s 5 at) (λ workers at.
-        then (fieldAt s 12 at) (λ actions at.
-          then (fieldAt s 7 at) (λ zeros at.
-            elim (both (both (eqb form 1) (both (leb 1 workers) (leb workers 16))) (both (eqb actions n) (eqb zeros 0))) [ false ↦ stop 11
-              | true ↦ then (rowsAt s n at) (λ rows at. step (record { workers = workers; rows = rows }) at) ]))))
+    then (fieldAt s 5 at) (λ workers at.
+    then (fieldAt s 12 at) (λ actions at.
+    then (fieldAt s 7 at) (λ zeros at.
+    elim (both (both (eqb form 1) (both (leb 1 workers) (leb workers 16))) (both (eqb actions n) (eqb zeros 0))) [
+      | false ↦ stop 11
+      | true ↦ then (rowsAt s n at) (λ rows at. step (record { workers = workers; rows = rows }) at)
+    ]))))
 
 unfoldable pub readSchedule : List ℕ → ℕ → Outcome Written
 unfolding writtenAt
 readSchedule s n =
-    elim (eqb (length s) (4 + 2 * n)) [ false ↦ refused 11
-      | true ↦ elim (writtenAt s n) [ stop k ↦ refused 11 | step w at ↦ accepted w ] ]
+    elim (eqb (length s) (4 + 2 * n)) [
+      | false ↦ refused 11
+      | true ↦ elim (writtenAt s n) [ stop k ↦ refused 11 | step w at ↦ accepted w ]
+    ]
 
 -- 12: "a schedule rule is broken"; 0 stands for accepted
 unfoldable pub ruled : Plan → Outcome Written → Outcome ℕ

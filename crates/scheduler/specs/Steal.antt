@@ -54,9 +54,13 @@ unfoldable pub older : ℕ → ℕ → Worker → Pick → Pick
 older v w Idle best = best
 older v w (Holding j) best = best
 older v w (Waiting u l) best =
-    elim (eqb u v) [ false ↦ best
-      | true ↦ elim (best .who) [ zero ↦ record { who = suc w; laid = l }
-          | suc x ↦ elim (ltb l (best .laid)) [ true ↦ record { who = suc w; laid = l } | false ↦ best ] ] ]
+    elim (eqb u v) [
+      | false ↦ best
+      | true ↦ elim (best .who) [
+        | zero ↦ record { who = suc w; laid = l }
+        | suc x ↦ elim (ltb l (best .laid)) [ true ↦ record { who = suc w; laid = l } | false ↦ best ]
+      ]
+    ]
 
 unfoldable pub oldest : ℕ → ℕ → List Worker → Pick
 unfolding older

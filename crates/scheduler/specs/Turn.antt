@@ -69,8 +69,10 @@ takeBottom (j ∷ d) = record { worker = Holding j; deque = d }
 unfoldable pub seatAfter : Plan → List ℕ → ℕ → ℕ → List ℕ → Seat
 unfolding ready
 seatAfter p after j i d =
-    elim (action p j i .spawn) [ suc c ↦ record { worker = Holding c; deque = j ∷ d }
-      | zero ↦ elim (both (ltb (suc i) (size p j)) (ready p after j)) [ true ↦ record { worker = Holding j; deque = d } | false ↦ takeBottom d ] ]
+    elim (action p j i .spawn) [
+      | suc c ↦ record { worker = Holding c; deque = j ∷ d }
+      | zero ↦ elim (both (ltb (suc i) (size p j)) (ready p after j)) [ true ↦ record { worker = Holding j; deque = d } | false ↦ takeBottom d ]
+    ]
 
 unfoldable pub turn : Plan → ℕ → ℕ → ℕ → State → State
 unfolding weight wakes seatAfter parent
