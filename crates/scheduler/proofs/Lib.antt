@@ -1,3 +1,2 @@
--- The theory of lines, and the laws of runs.
-pub mod Lines
+-- The laws that the proofs of the runner cite.
 pub mod Laws

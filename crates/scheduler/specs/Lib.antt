@@ -1,10 +1,6 @@
--- What a reader must believe of a run, in document 01's order.
-pub mod State
-pub mod Turn
-pub mod Steal
-pub mod Run
-pub mod Schedule
-pub mod Living
-pub mod Claim
-pub mod Trace
-pub mod Cases
+-- What a reader must believe of the entries: Entry. The others say what private functions are given and leave.
+pub mod Entry
+pub mod Machine
+pub mod TurnParts
+pub mod Requests
+pub mod Header

@@ -1,4 +1,8 @@
-// The upper library of the build runner: what a run is, its schedule and the checker's rules, and what is proved of every run.
-// It relies on what the crates of the plan promise, and cites their laws only. It assumes nothing.
-pub mod tally;
-pub mod worker;
+// The upper library of the build runner: it runs plans and writes their schedules. What a run is stands in crate `runs`.
+// It relies on what the crates below promise, and cites their laws only. It assumes nothing.
+mod crew;
+mod deque;
+mod round;
+pub mod run;
+mod steal;
+mod turn;

@@ -1,0 +1,23 @@
+-- What holds of the definitions in specs/, in named modules.
+pub mod PlanShape
+pub mod Lined
+pub mod TurnSound
+pub mod ServeSound
+pub mod Sound
+pub mod Deques
+pub mod Rests
+pub mod Done
+pub mod Rounds
+pub mod Tallies
+pub mod Waits
+pub mod Waiting
+pub mod Victims
+pub mod Whole
+pub mod Served
+pub mod Rows
+pub mod Order
+pub mod OwnSchedule
+pub mod History
+pub mod Peak
+pub mod Demand3
+pub mod Starred

@@ -1,0 +1,60 @@
+-- The lines of a state, and what a sound state is.
+--   lineOf s w == the line of worker w: the job that it holds and then its deque from the bottom up, or nothing
+--   Sound p n s == s is a state of n workers on the plan p that keeps the invariant of lines
+-- Assumes nothing.
+use Prim.Native.Nat.{ℕ, _≤_, _<_}
+use mathlib.Core.Path.{_≡_, refl, ap, ap₂}
+use mathlib.Core.Logic.{inl, _≢_}
+use mathlib.Core.List.{List, [], _∷_}
+use native.Mathlib.Omega.{arith}
+use lib.ListN.{length, getD, set}
+use lib.Seq.{getD-set-same, getD-set-other}
+use Rattle.runs.specs.declared.worker.Worker.{Worker}
+use Rattle.runs.specs.declared.worker.Worker.the-variants.{Idle, Holding, Waiting}
+use Rattle.plan.specs.Plan.{Plan, work}
+use Rattle.runs.specs.State.{State, nextOf, workerOf, dequeOf}
+use Rattle.runs.proofs.Lines.Shape.{Good}
+use Rattle.runs.proofs.Lines.Member.{_∈_}
+use Rattle.runs.proofs.Laws.PlanShape.{shape}
+
+abbrev pub lineIn : Worker → List ℕ → List ℕ
+lineIn Idle d = []
+lineIn (Holding j) d = j ∷ d
+lineIn (Waiting v l) d = []
+
+abbrev pub lineOf : State → ℕ → List ℕ
+lineOf s w = lineIn (workerOf s w) (dequeOf s w)
+
+pub record Sound (p : Plan) (n : ℕ) (s : State) : Type 0 where
+  pub nexts : length (s .next) ≡ length p
+  pub workers : length (s .workers) ≡ 16
+  pub deques : length (s .deques) ≡ 16
+  pub rows : length (s .rows) ≡ work p
+  pub good : Good (shape p) (nextOf s) (lineOf s)
+  pub empty : (w : ℕ) → lineOf s w ≡ [] → dequeOf s w ≡ []
+  pub absent : (w : ℕ) → n ≤ w → workerOf s w ≡ Idle
+
+-- the line of a worker by what it does
+pub line-of : (s : State) (w : ℕ) (k : Worker) → workerOf s w ≡ k → lineOf s w ≡ lineIn k (dequeOf s w)
+line-of s w k e = ap (λ x. lineIn x (dequeOf s w)) e
+
+pub held-in : (s : State) (w j : ℕ) → workerOf s w ≡ Holding j → j ∈ lineOf s w
+held-in s w j e = rw (line-of s w (Holding j) e) (inl refl)
+
+-- a line's first job is held
+pub line-held : (k : Worker) (d : List ℕ) (h : ℕ) (l : List ℕ) → lineIn k d ≡ h ∷ l → (k ≡ Holding h) × (d ≡ l)
+line-held Idle d h l e = let z : _≡_ {A = ℕ} 0 1 = cc in absurd (omega arith)
+line-held (Holding j) d h l e = (cc, cc)
+line-held (Waiting v t) d h l e = let z : _≡_ {A = ℕ} 0 1 = cc in absurd (omega arith)
+
+-- a worker that holds a job is one of the n
+pub held-below : (p : Plan) (n : ℕ) (s : State) → Sound p n s → (w j : ℕ) → workerOf s w ≡ Holding j → w < n
+held-below p n s sound w j e = let f : ¬ (n ≤ w) = λ h. (let q = sound .absent w h in let z : _≡_ {A = ℕ} 0 1 = cc in omega arith) in omega arith
+
+-- the lines after a worker and its deque are stored
+module _ (ws : List Worker) (ds : List (List ℕ)) (w : ℕ) (k : Worker) (d : List ℕ) where
+  pub line-stored : w < length ws → w < length ds → lineIn (getD (set ws w k) w Idle) (getD (set ds w d) w []) ≡ lineIn k d
+  line-stored h i = ap₂ lineIn (getD-set-same ws w k Idle h) (getD-set-same ds w d [] i)
+
+  pub line-other : (v : ℕ) → v ≢ w → lineIn (getD (set ws w k) v Idle) (getD (set ds w d) v []) ≡ lineIn (getD ws v Idle) (getD ds v [])
+  line-other v f = ap₂ lineIn (getD-set-other ws w v k Idle f) (getD-set-other ds w v d [] f)

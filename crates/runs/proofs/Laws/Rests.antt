@@ -1,0 +1,37 @@
+-- What a request and a service leave as it was: all that a schedule and the counts of turns rest on.
+--   Rests s t == the state t has the actions, the rows and the counts of turns of s
+-- Assumes nothing.
+use Prim.Native.Nat.{ℕ, zero, suc}
+use mathlib.Core.Path.{_≡_, refl}
+use mathlib.Core.List.{List, [], _∷_}
+use Rattle.runs.specs.declared.worker.Worker.{Worker}
+use Rattle.runs.specs.declared.worker.Worker.the-variants.{Idle, Holding, Waiting}
+use Rattle.runs.specs.State.{State, dequeOf}
+use Rattle.runs.specs.Steal.{laid, lay, given, serve}
+
+pub record Rests (s t : State) : Type 0 where
+  pub next : t .next ≡ s .next
+  pub rows : t .rows ≡ s .rows
+  pub rounds : t .tally .rounds ≡ s .tally .rounds
+  pub actions : t .tally .actions ≡ s .tally .actions
+  pub idle : t .tally .idle ≡ s .tally .idle
+  pub peak : t .tally .peak ≡ s .tally .peak
+
+pub same-rests : (s : State) → Rests s s
+same-rests s = record { next = refl; rows = refl; rounds = refl; actions = refl; idle = refl; peak = refl }
+
+pub lay-rests : (choices : List ℕ) (r w : ℕ) (x : Worker) (s : State) → Rests s (lay choices r w x s)
+unfolding lay laid
+lay-rests choices r w Idle s = record { next = refl; rows = refl; rounds = refl; actions = refl; idle = refl; peak = refl }
+lay-rests choices r w (Holding j) s = same-rests s
+lay-rests choices r w (Waiting v l) s = same-rests s
+
+given-rests : (v w : ℕ) (d : List ℕ) (s : State) → Rests s (given v w d s)
+unfolding given
+given-rests v w [] s = record { next = refl; rows = refl; rounds = refl; actions = refl; idle = refl; peak = refl }
+given-rests v w (x ∷ d) s = record { next = refl; rows = refl; rounds = refl; actions = refl; idle = refl; peak = refl }
+
+pub serve-rests : (v who : ℕ) (s : State) → Rests s (serve v who s)
+unfolding serve
+serve-rests v zero s = same-rests s
+serve-rests v (suc w) s = given-rests v w (dequeOf s v) s

@@ -1,0 +1,123 @@
+-- The rounds of a run: how they are counted, and that each begins with a worker that holds a job and does an action.
+-- Assumes nothing.
+use Prim.Native.Nat.{ℕ, zero, suc, _≤_, _<_}
+use mathlib.Core.Path.{_≡_, refl, sym, ap, _∙_}
+use mathlib.Core.Logic.{_⊎_, inl, inr}
+use mathlib.Core.Bool.{false}
+use mathlib.Core.List.{List}
+use native.Mathlib.Nat.{not-suc-le-zero, le-of-suc-le-suc, eq-or-lt-of-le}
+use native.Mathlib.Omega.{arith}
+use lib.Dec.{leb}
+use lib.ListN.{getD}
+use borrow.Author.Tests.{lt-leb}
+use Rattle.runs.specs.declared.worker.Worker.{Worker}
+use Rattle.runs.specs.declared.worker.Worker.the-variants.{Idle, Holding, Waiting}
+use Rattle.plan.specs.Plan.{Plan, size}
+use Rattle.runs.specs.State.{State, nextOf, start}
+use Rattle.runs.specs.Turn.{turn, idled, turnOf}
+use Rattle.runs.specs.Steal.{oldest}
+use Rattle.runs.specs.Run.{ended}
+use Rattle.plan.specs.Rules.{Accepted}
+use Rattle.plan.proofs.Laws.Valid.{jobs-range, size-range}
+use Rattle.runs.specs.Trace.{Stage, turning, laying, serving, Trace, begins, turned, goes-on, laid, all-laid, served, next-round}
+use Rattle.runs.proofs.Laws.Sound.{trace-sound, busy}
+use Rattle.runs.proofs.Laws.Rests.{Rests, lay-rests, serve-rests}
+use Rattle.runs.proofs.Laws.Done.{none-done}
+
+-- what the tally says of the rounds in round r: a round counts from its first turn on
+abbrev pub Numbered : Stage → ℕ → ℕ → Type 0
+Numbered (turning zero) r t = suc t ≡ r
+Numbered (turning (suc k)) r t = t ≡ r
+Numbered (laying k) r t = t ≡ r
+Numbered (serving k) r t = t ≡ r
+
+pub numbered-late : (k r t : ℕ) → 1 ≤ k → Numbered (turning k) r t → t ≡ r
+numbered-late zero r t h i = absurd (not-suc-le-zero h)
+numbered-late (suc k) r t h i = i
+
+pub numbered-most : (g : Stage) (r t : ℕ) → Numbered g r t → t ≤ r
+numbered-most (turning zero) r t i = omega arith
+numbered-most (turning (suc k)) r t i = omega arith
+numbered-most (laying k) r t i = omega arith
+numbered-most (serving k) r t i = omega arith
+
+-- job 0 has not ended but in the first half of a round
+abbrev pub Going : Plan → Stage → State → Type 0
+Going p (turning zero) s = ended p s ≡ false
+Going p (turning (suc k)) s = Unit {0}
+Going p (laying k) s = ended p s ≡ false
+Going p (serving k) s = ended p s ≡ false
+
+ended-rests : (p : Plan) {s t : State} → Rests s t → ended p s ≡ false → ended p t ≡ false
+ended-rests p q i = ap (λ l. leb (size p 0) (getD l 0 0)) (q .next) ∙ i
+
+-- a round has an action as soon as a worker that held a job has had its turn
+abbrev pub Acted : Stage → ℕ → List Worker → ℕ → Type 0
+Acted (turning k) r b a = (r ≤ suc a) × ((w j : ℕ) → w < k → getD b w Idle ≡ Holding j → r ≤ a)
+Acted (laying k) r b a = r ≤ a
+Acted (serving k) r b a = r ≤ a
+
+module _ (p : Plan) (ok : Accepted p) (n : ℕ) (some : 1 ≤ n) (most : n ≤ 16) (choices : List ℕ) where
+  -- the tally counts the rounds
+  pub rounds-known : {r : ℕ} {b : List Worker} {g : Stage} {s : State} → Trace p n choices r b g s → Numbered g r (s .tally .rounds)
+  unfolding turnOf turn idled start
+  rounds-known begins = refl
+  rounds-known (turned {r} {k} {b} {s} t h) = go (getD b k Idle)
+    where
+      go : (x : Worker) → turnOf p r k x s .tally .rounds ≡ r
+      go Idle = refl
+      go (Holding j) = refl
+      go (Waiting v l) = refl
+  rounds-known (goes-on {r} {b} {s} t e) = numbered-late n r (s .tally .rounds) some (rounds-known t)
+  rounds-known (laid {r} {k} {b} {s} t h) = lay-rests choices r k (getD b k Idle) s .rounds ∙ rounds-known t
+  rounds-known (all-laid t) = rounds-known t
+  rounds-known (served {r} {k} {b} {s} t h) = serve-rests k (oldest k n (s .workers) .who) s .rounds ∙ rounds-known t
+  rounds-known (next-round t) = ap suc (rounds-known t)
+
+  -- a run goes on from round to round only while job 0 has not ended
+  pub not-ended : {r : ℕ} {b : List Worker} {g : Stage} {s : State} → Trace p n choices r b g s → Going p g s
+  not-ended begins =
+      let z = none-done p 0 in
+      lt-leb (size p 0) (nextOf (start p) 0) (omega (arith, size-range p ok 0 (jobs-range p ok .0)))
+  not-ended (turned t h) = tt
+  not-ended (goes-on t e) = e
+  not-ended (laid {r} {k} {b} {s} t h) = ended-rests p (lay-rests choices r k (getD b k Idle) s) (not-ended t)
+  not-ended (all-laid t) = not-ended t
+  not-ended (served {r} {k} {b} {s} t h) = ended-rests p (serve-rests k (oldest k n (s .workers) .who) s) (not-ended t)
+  not-ended (next-round t) = not-ended t
+
+  -- as each round begins some worker holds a job
+  pub began-busy : {r : ℕ} {b : List Worker} {g : Stage} {s : State} → Trace p n choices r b g s
+      → (w : ℕ) × (j : ℕ) × (w < n) × (getD b w Idle ≡ Holding j)
+  began-busy begins = busy p ok n some most (start p) (trace-sound p ok n some most choices begins) (not-ended begins)
+  began-busy (turned t h) = began-busy t
+  began-busy (goes-on t e) = began-busy t
+  began-busy (laid t h) = began-busy t
+  began-busy (all-laid t) = began-busy t
+  began-busy (served t h) = began-busy t
+  began-busy (next-round {r} {b} {s} t) = busy p ok n some most s (trace-sound p ok n some most choices t) (not-ended t)
+
+  -- each round has an action
+  pub rounds-act : {r : ℕ} {b : List Worker} {g : Stage} {s : State} → Trace p n choices r b g s → Acted g r b (s .tally .actions)
+  unfolding turnOf turn idled start
+  rounds-act begins = (omega arith, λ w j h. absurd (not-suc-le-zero h))
+  rounds-act (turned {r} {k} {b} {s} t h) = go (getD b k Idle) refl (rounds-act t)
+    where
+      idles : (x : Worker) → getD b k Idle ≡ x → ((j : ℕ) → x ≡ Holding j → ⊥) → Acted (turning k) r b (s .tally .actions)
+          → Acted (turning (suc k)) r b (s .tally .actions)
+      idles x e free i = (i .0, λ w j l f. held w j f (eq-or-lt-of-le (le-of-suc-le-suc l)))
+        where
+          held : (w j : ℕ) → getD b w Idle ≡ Holding j → (w ≡ k) ⊎ (w < k) → r ≤ s .tally .actions
+          held w j f (inl q) = absurd (free j (sym e ∙ (ap (λ v. getD b v Idle) (sym q) ∙ f)))
+          held w j f (inr l) = i .1 w j l f
+
+      go : (x : Worker) → getD b k Idle ≡ x → Acted (turning k) r b (s .tally .actions)
+          → Acted (turning (suc k)) r b (turnOf p r k x s .tally .actions)
+      go Idle e i = idles Idle e (λ j f. let z : _≡_ {A = ℕ} 0 1 = cc in omega arith) i
+      go (Waiting v l) e i = idles (Waiting v l) e (λ j f. let z : _≡_ {A = ℕ} 0 1 = cc in omega arith) i
+      go (Holding j) e i = (omega (arith, i .0), λ w j l f. i .0)
+  rounds-act (goes-on t e) = let (w, j, h, f) = began-busy t in rounds-act t .1 w j h f
+  rounds-act (laid {r} {k} {b} {s} t h) = rw (lay-rests choices r k (getD b k Idle) s .actions) (rounds-act t)
+  rounds-act (all-laid t) = rounds-act t
+  rounds-act (served {r} {k} {b} {s} t h) = rw (serve-rests k (oldest k n (s .workers) .who) s .actions) (rounds-act t)
+  rounds-act (next-round {r} {b} {s} t) = (omega (arith, rounds-act t), λ w j h. absurd (not-suc-le-zero h))

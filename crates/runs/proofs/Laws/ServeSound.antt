@@ -1,0 +1,191 @@
+-- A request and a service keep a state sound: a request and a miss change no line, and a steal is a theft.
+-- Assumes nothing.
+use Prim.Native.Nat.{ℕ, zero, suc, _%_, _≤_, _<_}
+use mathlib.Core.Path.{_≡_, refl, ap, ap₂, sym, subst, fun-ext, _∙_}
+use mathlib.Core.Logic.{_⊎_, inl, inr, _≢_, by-cases}
+use mathlib.Core.Bool.{Bool, true, false}
+use mathlib.Core.List.{List, [], _∷_, _++_}
+use native.Mathlib.Omega.{arith}
+use native.Mathlib.Decide.{ℕ-discrete}
+use lib.Dec.{T, eqb, ltb, eqb→eq}
+use lib.ListN.{length, getD, set, length-set}
+use lib.Seq.{getD-set-same, getD-set-other}
+use Rattle.runs.specs.declared.tally.Tally.{Tally}
+use Rattle.runs.specs.declared.worker.Worker.{Worker}
+use Rattle.runs.specs.declared.worker.Worker.the-variants.{Idle, Holding, Waiting}
+use Rattle.plan.specs.Plan.{Plan}
+use Rattle.runs.specs.State.{State, nextOf, workerOf, dequeOf}
+use Rattle.runs.specs.Steal.{laid, lay, Pick, older, oldest, dropTop, topOf, given, serve}
+use Rattle.runs.proofs.Lines.Shape.{Good}
+use Rattle.runs.proofs.Lines.Steal.{steal-good}
+use Rattle.plan.specs.Rules.{Accepted}
+use Rattle.runs.proofs.Laws.PlanShape.{shape, shape-valid}
+use Rattle.runs.proofs.Laws.Lined.{lineIn, lineOf, Sound, line-of}
+
+-- the state with other workers
+abbrev pub withWorkers : State → List Worker → Tally → State
+withWorkers s ws t = record { next = s .next; workers = ws; deques = s .deques; rows = s .rows; tally = t }
+
+-- a worker that holds nothing may change to another that holds nothing
+pub free-sound : (p : Plan) (n : ℕ) → n ≤ 16 → (s : State) → Sound p n s → (w : ℕ) → w < n → lineOf s w ≡ [] → (k : Worker)
+    → ((d : List ℕ) → lineIn k d ≡ []) → (t : Tally) → Sound p n (withWorkers s (set (s .workers) w k) t)
+free-sound p n most s sound w b free k is t =
+    record {
+      nexts = sound .nexts;
+      workers = length-set (s .workers) w k ∙ sound .workers;
+      deques = sound .deques;
+      rows = sound .rows;
+      good = subst (λ l. Good (shape p) (nextOf s) l) (sym (fun-ext same)) (sound .good);
+      empty = λ v e. sound .empty v (sym (same v) ∙ e);
+      absent = λ v h. getD-set-other (s .workers) w v k Idle (λ q. omega arith) ∙ sound .absent v h;
+    }
+  where
+    same : (v : ℕ) → lineOf (withWorkers s (set (s .workers) w k) t) v ≡ lineOf s v
+    same v =
+        by-cases (ℕ-discrete v w)
+        (λ q. rw q (ap (λ x. lineIn x (dequeOf s w)) (getD-set-same (s .workers) w k Idle (omega (arith, sound .workers))) ∙ is (dequeOf s w) ∙ sym free))
+        (λ f. ap (λ x. lineIn x (dequeOf s v)) (getD-set-other (s .workers) w v k Idle f))
+
+pub lay-sound : (p : Plan) (n : ℕ) → n ≤ 16 → (choices : List ℕ) (r w : ℕ) (k : Worker) (s : State) → w < n
+    → (k ≡ Idle → workerOf s w ≡ Idle) → Sound p n s → Sound p n (lay choices r w k s)
+unfolding lay
+lay-sound p n most choices r w Idle s b i sound =
+    free-sound p n most s sound w b (line-of s w Idle (i refl)) (Waiting (getD choices (s .tally .requests % length choices) 0) r) (λ d. refl)
+    (laid choices r w s .tally)
+lay-sound p n most choices r w (Holding j) s b i sound = sound
+lay-sound p n most choices r w (Waiting v l) s b i sound = sound
+
+-- a request changes no other worker
+pub lay-others : (choices : List ℕ) (r w : ℕ) (k : Worker) (s : State) (v : ℕ) → v ≢ w → workerOf (lay choices r w k s) v ≡ workerOf s v
+unfolding lay
+lay-others choices r w Idle s v f = getD-set-other (s .workers) w v _ Idle f
+lay-others choices r w (Holding j) s v f = refl
+lay-others choices r w (Waiting u l) s v f = refl
+
+-- the request that is picked is the one before, or this one
+abbrev Picked : ℕ → ℕ → ℕ → ℕ → Pick → Pick → Type 0
+Picked v k u l best r = (r ≡ best) ⊎ ((u ≡ v) × (r ≡ record { who = suc k; laid = l }))
+
+older-is : (v k u l : ℕ) (best : Pick) → Picked v k u l best (older v k (Waiting u l) best)
+unfolding older
+older-is v k u l best = go (eqb u v) (eqb→eq u v)
+  where
+    this : Pick
+    this = record { who = suc k; laid = l }
+
+    last : (b : Bool) → u ≡ v → Picked v k u l best (elim b as (λ x. Pick) [ true ↦ this | false ↦ best ])
+    last true e = inr (e, refl)
+    last false e = inl refl
+
+    inner : (x : ℕ) → u ≡ v
+        → Picked v k u l best (elim x as (λ y. Pick) [ zero ↦ this | suc y ↦ elim (ltb l (best .laid)) as (λ z. Pick) [ true ↦ this | false ↦ best ] ])
+    inner zero e = inr (e, refl)
+    inner (suc y) e = last (ltb l (best .laid)) e
+
+    go : (b : Bool) → (T b → u ≡ v)
+        → Picked v k u l best (elim b as (λ x. Pick) [
+          | false ↦ best
+          | true ↦ elim (best .who) as (λ y. Pick) [ zero ↦ this | suc y ↦ elim (ltb l (best .laid)) as (λ z. Pick) [ true ↦ this | false ↦ best ] ]
+        ])
+    go false f = inl refl
+    go true f = inner (best .who) (f tt)
+
+abbrev Waits : ℕ → List Worker → ℕ → ℕ → Type 0
+Waits v ws n w = (w < n) × (l : ℕ) × (getD ws w Idle ≡ Waiting v l)
+
+-- the worker that is served waits on the victim
+pub oldest-waits : (v n : ℕ) (ws : List Worker) (w : ℕ) → oldest v n ws .who ≡ suc w → (w < n) × (l : ℕ) × (getD ws w Idle ≡ Waiting v l)
+unfolding oldest
+oldest-waits v zero ws w e = absurd (omega arith)
+oldest-waits v (suc k) ws w e = go (getD ws k Idle) refl e (oldest-waits v k ws w)
+  where
+    go : (x : Worker) → getD ws k Idle ≡ x → older v k x (oldest v k ws) .who ≡ suc w → (oldest v k ws .who ≡ suc w → Waits v ws k w) → Waits v ws (suc k) w
+    go Idle i e r = let (b, l, h) = r e in (omega arith, l, h)
+    go (Holding j) i e r = let (b, l, h) = r e in (omega arith, l, h)
+    go (Waiting u l) i e r = pick (older-is v k u l (oldest v k ws))
+      where
+        pick : Picked v k u l (oldest v k ws) (older v k (Waiting u l) (oldest v k ws)) → Waits v ws (suc k) w
+        pick (inl q) = let (b, l, h) = r (sym (ap (λ x. x .who) q) ∙ e) in (omega arith, l, h)
+        pick (inr (q, y)) =
+            let z : w ≡ k = omega (arith, ap (λ x. x .who) y) in
+            (omega arith, l, rw (z, i, q))
+
+pub top-split : (x : ℕ) (d : List ℕ) → x ∷ d ≡ dropTop (x ∷ d) ++ (topOf x d ∷ [])
+top-split x [] = refl
+top-split x (y ∷ d) = ap (λ l. x ∷ l) (top-split y d)
+
+module _ (p : Plan) (ok : Accepted p) (n : ℕ) (most : n ≤ 16) (s : State) (sound : Sound p n s) (v : ℕ) (b : v < n) where
+  -- a worker with something on its deque holds a job
+  pub victim-holds : (x : ℕ) (d : List ℕ) → dequeOf s v ≡ x ∷ d → (j : ℕ) × (workerOf s v ≡ Holding j)
+  victim-holds x d q = go (workerOf s v) refl
+    where
+      none : lineOf s v ≡ [] → (j : ℕ) × (workerOf s v ≡ Holding j)
+      none e = let f = sound .empty v e in let z : _≡_ {A = ℕ} 0 1 = cc in absurd (omega arith)
+
+      go : (k : Worker) → workerOf s v ≡ k → (j : ℕ) × (workerOf s v ≡ Holding j)
+      go Idle e = none (line-of s v Idle e)
+      go (Holding j) e = (j, e)
+      go (Waiting u l) e = none (line-of s v (Waiting u l) e)
+
+  module _ (w : ℕ) (c : w < n) (l : ℕ) (waits : workerOf s w ≡ Waiting v l) where
+    idle : lineOf s w ≡ []
+    idle = line-of s w (Waiting v l) waits
+
+    module _ (x : ℕ) (d : List ℕ) (q : dequeOf s v ≡ x ∷ d) (j : ℕ) (holds : workerOf s v ≡ Holding j) where
+      apart : v ≢ w
+      apart e = let h = ap (workerOf s) e in let z : _≡_ {A = ℕ} 0 1 = cc in omega arith
+
+      steal-sound : Sound p n (given v w (x ∷ d) s)
+      unfolding given
+      steal-sound =
+          record {
+            nexts = sound .nexts;
+            workers = length-set (s .workers) w (Holding (topOf x d)) ∙ sound .workers;
+            deques = length-set (s .deques) v (dropTop (x ∷ d)) ∙ sound .deques;
+            rows = sound .rows;
+            good = steal-good (shape p) (shape-valid p ok) (nextOf s) (lineOf s) (sound .good) v w (j ∷ dropTop (x ∷ d)) (topOf x d) idle is
+                (lineOf (given v w (x ∷ d) s)) left got rest;
+            empty = none;
+            absent = λ u h. getD-set-other (s .workers) w u (Holding (topOf x d)) Idle (λ e. omega arith) ∙ sound .absent u h;
+          }
+        where
+          is : lineOf s v ≡ (j ∷ dropTop (x ∷ d)) ++ (topOf x d ∷ [])
+          is = line-of s v (Holding j) holds ∙ ap (λ r. j ∷ r) (q ∙ top-split x d)
+
+          stolen : dequeOf (given v w (x ∷ d) s) v ≡ dropTop (x ∷ d)
+          stolen = getD-set-same (s .deques) v (dropTop (x ∷ d)) [] (omega (arith, sound .deques))
+
+          kept : (u : ℕ) → u ≢ v → dequeOf (given v w (x ∷ d) s) u ≡ dequeOf s u
+          kept u f = getD-set-other (s .deques) v u (dropTop (x ∷ d)) [] f
+
+          left : lineOf (given v w (x ∷ d) s) v ≡ j ∷ dropTop (x ∷ d)
+          left = ap₂ lineIn (getD-set-other (s .workers) w v (Holding (topOf x d)) Idle apart ∙ holds) stolen
+
+          got : lineOf (given v w (x ∷ d) s) w ≡ topOf x d ∷ []
+          got =
+              ap₂ lineIn (getD-set-same (s .workers) w (Holding (topOf x d)) Idle (omega (arith, sound .workers)))
+              (kept w (λ e. apart (sym e)) ∙ sound .empty w idle)
+
+          rest : (u : ℕ) → u ≢ v → u ≢ w → lineOf (given v w (x ∷ d) s) u ≡ lineOf s u
+          rest u f g = ap₂ lineIn (getD-set-other (s .workers) w u (Holding (topOf x d)) Idle g) (kept u f)
+
+          none : (u : ℕ) → lineOf (given v w (x ∷ d) s) u ≡ [] → dequeOf (given v w (x ∷ d) s) u ≡ []
+          none u e = go (ℕ-discrete u v) (ℕ-discrete u w)
+            where
+              go : Dec (u ≡ v) → Dec (u ≡ w) → dequeOf (given v w (x ∷ d) s) u ≡ []
+              go (yes f) g = let h = rw f at e in let z : _≡_ {A = ℕ} 0 1 = cc left in absurd (omega arith)
+              go (no f) (yes g) = let h = rw g at e in let z : _≡_ {A = ℕ} 0 1 = cc got in absurd (omega arith)
+              go (no f) (no g) = kept u f ∙ sound .empty u (sym (rest u f g) ∙ e)
+
+    given-sound : (d : List ℕ) → dequeOf s v ≡ d → Sound p n (given v w d s)
+    unfolding given
+    given-sound [] q = free-sound p n most s sound w c idle Idle (λ d. refl) (given v w [] s .tally)
+    given-sound (x ∷ d) q = let (j, h) = victim-holds x d q in steal-sound x d q j h
+
+  pub serve-sound : Sound p n (serve v (oldest v n (s .workers) .who) s)
+  unfolding serve
+  serve-sound = go (oldest v n (s .workers) .who) refl
+    where
+      go : (x : ℕ) → oldest v n (s .workers) .who ≡ x → Sound p n (serve v x s)
+      go zero e = sound
+      go (suc w) e = let (c, l, h) = oldest-waits v n (s .workers) w e in given-sound w c l h (dequeOf s v) refl

@@ -1,0 +1,289 @@
+-- How long a request waits: it is served at the latest n - 1 rounds after the one it was laid in, unless the run ends first.
+-- A victim serves one request in each round, the one of least rank, and those laid later have a greater rank; so with each round
+-- one request fewer comes before one that waits, and when it was laid at most n - 1 did.
+--   rank l w         == orders requests as a victim does: by the round l, then by the worker w, which is below 16
+--   ahead v a u x    == 1 where the worker u, which is x, waits on v with a request of a rank below a, 0 where it does not
+--   before n v a ws  == how many of the workers below n do
+--   Best v k ws q m  == of the workers below k, q is what `oldest` picks for v, laid in round m
+-- Assumes nothing.
+use Prim.Native.Nat.{ℕ, zero, suc, _+_, _*_, _≤_, _<_, _%_, zero-le}
+use mathlib.Core.Path.{_≡_, refl, sym, ap, _∙_}
+use mathlib.Core.Logic.{_⊎_, inl, inr, _≢_, by-cases}
+use mathlib.Core.Bool.{Bool, true, false}
+use mathlib.Core.List.{List, [], _∷_}
+use native.Mathlib.Nat.{not-suc-le-zero, le-of-suc-le-suc, eq-or-lt-of-le, le-refl}
+use native.Mathlib.Omega.{arith}
+use native.Mathlib.Decide.{ℕ-discrete, decLt}
+use lib.Dec.{T, ltb, eqb}
+use lib.ListN.{length, getD, set}
+use lib.Seq.{getD-set-same, getD-set-other}
+use borrow.Author.Tests.{eqb-true, eqb-false, ltb-true, ltb-false}
+use Rattle.runs.specs.declared.worker.Worker.{Worker}
+use Rattle.runs.specs.declared.worker.Worker.the-variants.{Idle, Holding, Waiting}
+use Rattle.plan.specs.Plan.{Plan}
+use Rattle.runs.specs.State.{State, workerOf, dequeOf, start}
+use Rattle.runs.specs.Turn.{turn, idled, turnOf}
+use Rattle.runs.specs.Steal.{laid as laidBy, lay, older, oldest, topOf, given, serve}
+use Rattle.runs.specs.Run.{choicesFit}
+use Rattle.runs.proofs.Lines.Sum.{sum, sum-le, sum-bound, only, only-yes}
+use Rattle.plan.specs.Rules.{Accepted}
+use Rattle.runs.specs.Trace.{Stage, turning, laying, serving, Trace, begins, turned, goes-on, laid, all-laid, served, next-round}
+use Rattle.runs.proofs.Laws.Sound.{trace-sound}
+use Rattle.runs.proofs.Laws.Waits.{waits, start-calm, seated, seated-waits}
+use Rattle.runs.proofs.Laws.Victims.{victim-below}
+
+-- terms that are no greater, and one that is less
+sum-less : (n : ℕ) (f g : ℕ → ℕ) → ((i : ℕ) → i < n → f i ≤ g i) → (j : ℕ) → j < n → f j < g j → sum n f < sum n g
+unfolding sum
+sum-less zero f g h j b l = absurd (not-suc-le-zero b)
+sum-less (suc n) f g h j b l = go (sum-less n f g (λ i c. h i (omega arith)) j) (eq-or-lt-of-le (le-of-suc-le-suc b))
+  where
+    go : (j < n → f j < g j → sum n f < sum n g) → (j ≡ n) ⊎ (j < n) → sum n f + f n < sum n g + g n
+    go rec (inl q) = omega (arith, ap f q, ap g q, sum-le n f g (λ i c. h i (omega arith)))
+    go rec (inr c) = omega (arith, rec c l, h n (le-refl (suc n)))
+
+abbrev rank : ℕ → ℕ → ℕ
+rank l w = l * 16 + w
+
+ahead : ℕ → ℕ → ℕ → Worker → ℕ
+ahead v a u Idle = 0
+ahead v a u (Holding j) = 0
+ahead v a u (Waiting y m) = only (ℕ-discrete y v) (only (decLt (rank m u) a) 1)
+
+ahead-one : (v a u m : ℕ) (x : Worker) → x ≡ Waiting v m → rank m u < a → ahead v a u x ≡ 1
+unfolding ahead
+ahead-one v a u m x e h =
+    ap (ahead v a u) e ∙ (only-yes (ℕ-discrete v v) (only (decLt (rank m u) a) 1) refl ∙ only-yes (decLt (rank m u) a) 1 h)
+
+ahead-most : (v a u : ℕ) (x : Worker) (b : ℕ) → ((m : ℕ) → x ≡ Waiting v m → rank m u < a → 1 ≤ b) → ahead v a u x ≤ b
+unfolding ahead only
+ahead-most v a u Idle b f = zero-le
+ahead-most v a u (Holding j) b f = zero-le
+ahead-most v a u (Waiting y m) b f = go (ℕ-discrete y v) (decLt (rank m u) a)
+  where
+    go : (d : Dec (y ≡ v)) (e : Dec (rank m u < a)) → only d (only e 1) ≤ b
+    go (yes d) (yes e) = f m (ap (λ z. Waiting z m) d) e
+    go (yes d) (no e) = zero-le
+    go (no d) e = zero-le
+
+abbrev before : ℕ → ℕ → ℕ → List Worker → ℕ
+before n v a ws = sum n (λ u. ahead v a u (getD ws u Idle))
+
+module _ (n v a : ℕ) where
+  -- each request of those ranks in xs is in ws too
+  abbrev Within : List Worker → List Worker → Type 0
+  Within xs ws = (u m : ℕ) → getD xs u Idle ≡ Waiting v m → rank m u < a → getD ws u Idle ≡ Waiting v m
+
+  module _ (xs ws : List Worker) (h : Within xs ws) where
+    ahead-within : (u : ℕ) → ahead v a u (getD xs u Idle) ≤ ahead v a u (getD ws u Idle)
+    ahead-within u =
+        ahead-most v a u (getD xs u Idle) (ahead v a u (getD ws u Idle)) (λ m e b. omega (arith, ahead-one v a u m (getD ws u Idle) (h u m e b) b))
+
+    before-within : before n v a xs ≤ before n v a ws
+    before-within = sum-le n (λ u. ahead v a u (getD xs u Idle)) (λ u. ahead v a u (getD ws u Idle)) (λ u b. ahead-within u)
+
+    -- and one of those in ws is no longer in xs
+    before-less : (u m : ℕ) → u < n → getD ws u Idle ≡ Waiting v m → rank m u < a → waits (getD xs u Idle) ≡ 0 → before n v a xs < before n v a ws
+    before-less u m b e r c =
+        let none = ahead-most v a u (getD xs u Idle) 0 (λ l f q. omega (arith, ap waits f)) in
+        sum-less n (λ u. ahead v a u (getD xs u Idle)) (λ u. ahead v a u (getD ws u Idle)) (λ u b. ahead-within u) u b
+        (omega (arith, ahead-one v a u m (getD ws u Idle) e r))
+
+-- no request comes before itself
+before-itself : (n v l w : ℕ) (ws : List Worker) → w < n → getD ws w Idle ≡ Waiting v l → before n v (rank l w) ws < n
+before-itself n v l w ws h e =
+    let f : ℕ → ℕ = λ u. ahead v (rank l w) u (getD ws u Idle) in
+    let none : f w ≤ 0 = ahead-most v (rank l w) w (getD ws w Idle) 0 (λ m q r. let s : l ≡ m = cc in omega arith) in
+    let less = sum-less n f (λ u. 1) (λ u b. ahead-most v (rank l w) u (getD ws u Idle) 1 (λ m q r. omega arith)) w h (omega arith) in
+    omega (arith, sum-bound n (λ u. 1) 1 (λ u b. omega arith))
+
+abbrev Best : ℕ → ℕ → List Worker → ℕ → ℕ → Type 0
+Best v k ws zero m = (u l : ℕ) → u < k → getD ws u Idle ≡ Waiting v l → ⊥
+Best v k ws (suc x) m =
+    (x < k) × (getD ws x Idle ≡ Waiting v m) × ((u l : ℕ) → u < k → u ≢ x → getD ws u Idle ≡ Waiting v l → rank m x < rank l u)
+
+-- a victim serves the request of least rank
+oldest-best : (v k : ℕ) (ws : List Worker) → k ≤ 16 → Best v k ws (oldest v k ws .who) (oldest v k ws .laid)
+unfolding oldest older
+oldest-best v zero ws h = λ u l b e. not-suc-le-zero b
+oldest-best v (suc k) ws h = go (getD ws k Idle) refl (oldest v k ws .who) (oldest v k ws .laid) (oldest-best v k ws (omega arith))
+  where
+    at : (u m : ℕ) → u ≡ k → getD ws u Idle ≡ Waiting v m → getD ws k Idle ≡ Waiting v m
+    at u m s e = ap (λ z. getD ws z Idle) (sym s) ∙ e
+
+    -- worker k does not wait on v
+    kept : ((l : ℕ) → getD ws k Idle ≡ Waiting v l → ⊥) → (q m : ℕ) → Best v k ws q m → Best v (suc k) ws q m
+    kept f zero m i = λ u l b e. by-cases (ℕ-discrete u k) (λ s. f l (at u l s e)) (λ d. i u l (omega arith) e)
+    kept f (suc x) m i =
+        (omega (arith, i .0), i .1, λ u l b g e. by-cases (ℕ-discrete u k) (λ s. absurd (f l (at u l s e))) (λ d. i .2 u l (omega arith) g e))
+
+    -- it does, and its request comes before those of the workers below it
+    fresh : (l : ℕ) → getD ws k Idle ≡ Waiting v l → ((u m : ℕ) → u < k → getD ws u Idle ≡ Waiting v m → rank l k < rank m u)
+        → Best v (suc k) ws (suc k) l
+    fresh l e f = (le-refl (suc k), e, λ u m b g q. f u m (omega arith) q)
+
+    -- or not
+    stays : (l : ℕ) → getD ws k Idle ≡ Waiting v l → (x m : ℕ) → Best v k ws (suc x) m → m ≤ l → Best v (suc k) ws (suc x) m
+    stays l e x m i c = (
+      omega (arith, i .0),
+      i .1,
+      λ u a b g q.
+          by-cases (ℕ-discrete u k) (λ s. let r : l ≡ a = cc (at u a s q) in omega (arith, i .0)) (λ d. i .2 u a (omega arith) g q),
+    )
+
+    -- a request that was laid in an earlier round than the best comes before all
+    earlier : (l x m : ℕ) → Best v k ws (suc x) m → l < m → (u a : ℕ) → u < k → getD ws u Idle ≡ Waiting v a → rank l k < rank a u
+    earlier l x m i c u a b q =
+        by-cases (ℕ-discrete u x) (λ s. let r : m ≡ a = cc (ap (λ z. getD ws z Idle) s, i .1) in omega arith) (λ d. omega (arith, i .2 u a b d q))
+
+    go : (x : Worker) → getD ws k Idle ≡ x → (q m : ℕ) → Best v k ws q m
+        → Best v (suc k) ws (older v k x (record { who = q; laid = m }) .who) (older v k x (record { who = q; laid = m }) .laid)
+    go Idle e q m i = kept (λ l f. let z : _≡_ {A = ℕ} 0 1 = cc in omega arith) q m i
+    go (Holding j) e q m i = kept (λ l f. let z : _≡_ {A = ℕ} 0 1 = cc in omega arith) q m i
+    go (Waiting y l) e q m i = picked (eqb y v) refl q m i (ltb l m) refl
+      where
+        picked : (b : Bool) → eqb y v ≡ b → (q m : ℕ) → Best v k ws q m → (c : Bool) → ltb l m ≡ c
+            → Best v (suc k) ws (older v k (Waiting y l) (record { who = q; laid = m }) .who)
+            (older v k (Waiting y l) (record { who = q; laid = m }) .laid)
+        picked false f q m i c g = rw (older, f) (kept (λ a t. eqb-false y v f (cc)) q m i)
+        picked true f zero m i c g = rw (older, f) (fresh l (cc (eqb-true y v f)) (λ u a b t. absurd (i u a b t)))
+        picked true f (suc x) m i true g = rw (older, f, g) (fresh l (cc (eqb-true y v f)) (earlier l x m i (ltb-true l m g)))
+        picked true f (suc x) m i false g = rw (older, f, g) (stays l (cc (eqb-true y v f)) x m i (ltb-false l m g))
+
+-- a request laid on v in round l, before which c others come, at stage g of round r: one is served in each of the rounds from r on,
+-- or from the next on where v has served in this one, so this one is served in round l + n - 1 at the latest
+abbrev Due : ℕ → ℕ → Stage → ℕ → ℕ → ℕ → Type 0
+Due n r (turning k) v l c = c + r < l + n
+Due n r (laying k) v l c = c + r < l + n
+Due n r (serving k) v l c = (c + r < l + n) × (v < k → c + r + 1 < l + n)
+
+abbrev AllDue : ℕ → ℕ → Stage → List Worker → Type 0
+AllDue n r g ws = (w v l : ℕ) → getD ws w Idle ≡ Waiting v l → Due n r g v l (before n v (rank l w) ws)
+
+-- a store of a worker that does not wait
+module _ (ws : List Worker) (k : ℕ) (x : Worker) (h : k < length ws) (calm : waits x ≡ 0) where
+  calm-set : (w v l : ℕ) → getD (set ws k x) w Idle ≡ Waiting v l → (w ≢ k) × (getD ws w Idle ≡ Waiting v l)
+  calm-set w v l e = (other, sym (getD-set-other ws k w x Idle other) ∙ e)
+    where
+      other : w ≢ k
+      other s = omega (arith, ap waits (sym (getD-set-same ws k x Idle h) ∙ (ap (λ z. getD (set ws k x) z Idle) (sym s) ∙ e)))
+
+  calm-before : (n v a : ℕ) → before n v a (set ws k x) ≤ before n v a ws
+  calm-before n v a = before-within n v a (set ws k x) ws (λ u m e b. calm-set u v m e .1)
+
+  -- its request came before those of greater rank
+  calm-less : (n v a m : ℕ) → k < n → getD ws k Idle ≡ Waiting v m → rank m k < a → before n v a (set ws k x) < before n v a ws
+  calm-less n v a m b e r =
+      before-less n v a (set ws k x) ws (λ u m e b. calm-set u v m e .1) k m b e r (ap waits (getD-set-same ws k x Idle h) ∙ calm)
+
+-- worker k lays a request on y in round r: it comes before none that was laid in an earlier round, and before one that was laid in
+-- this round there are fewer than n
+module _ (n r k y : ℕ) (ws : List Worker) (most : n ≤ 16) (h : k < n) (len : k < length ws)
+    (below : (w v l : ℕ) → getD ws w Idle ≡ Waiting v l → w < n) where
+  abbrev after : List Worker
+  after = set ws k (Waiting y r)
+
+  after-other : (w v l : ℕ) → w ≢ k → getD after w Idle ≡ Waiting v l → getD ws w Idle ≡ Waiting v l
+  after-other w v l d e = sym (getD-set-other ws k w (Waiting y r) Idle d) ∙ e
+
+  after-same : (w v l : ℕ) → w ≡ k → getD after w Idle ≡ Waiting v l → l ≡ r
+  after-same w v l s e = cc (getD-set-same ws k (Waiting y r) Idle len, ap (λ z. getD after z Idle) s)
+
+  laid-due : AllDue n r (laying k) ws → AllDue n r (laying (suc k)) after
+  laid-due i w v l e = by-cases (decLt l r) old (λ f. omega (arith, before-itself n v l w after inside e))
+    where
+      inside : w < n
+      inside = by-cases (ℕ-discrete w k) (λ s. omega arith) (λ d. below w v l (after-other w v l d e))
+
+      old : l < r → before n v (rank l w) after + r < l + n
+      old b =
+          let within = before-within n v (rank l w) after ws (λ u m g c.
+          by-cases (ℕ-discrete u k) (λ s. absurd (omega (arith, after-same u v m s g, inside))) (λ d. after-other u v m d g)) in
+          omega (arith, i w v l (after-other w v l (λ s. omega (arith, after-same w v l s e)) e))
+
+-- victim k finds no request, or serves that of worker x, laid in round m, which came before every other one at k
+module _ (n r k : ℕ) (ws : List Worker) (below : (w v l : ℕ) → getD ws w Idle ≡ Waiting v l → w < n) (i : AllDue n r (serving k) ws) where
+  none-due : Best k n ws 0 0 → AllDue n r (serving (suc k)) ws
+  none-due best w v l e = (
+    i w v l e .0,
+    λ b.
+        by-cases (ℕ-discrete v k) (λ s. absurd (best w l (below w v l e) (e ∙ ap (λ z. Waiting z l) s))) (λ d. i w v l e .1 (omega arith)),
+  )
+
+  served-due : (x m : ℕ) → Best k n ws (suc x) m → (y : Worker) → x < length ws → waits y ≡ 0 → AllDue n r (serving (suc k)) (set ws x y)
+  served-due x m best y len calm w v l e =
+      let (d, q) = calm-set ws x y len calm w v l e in
+      let less = calm-before ws x y len calm n v (rank l w) in
+      let due = i w v l q in (
+        omega arith,
+        λ b.
+            by-cases (ℕ-discrete v k)
+            (λ s.
+            let first = best .2 w l (below w v l q) d (q ∙ ap (λ z. Waiting z l) s) in
+            omega (arith, calm-less ws x y len calm n v (rank l w) m (best .0) (best .1 ∙ ap (λ z. Waiting z m) (sym s)) first))
+            (λ f. omega (arith, due .1 (omega arith))),
+      )
+
+module _ (p : Plan) (ok : Accepted p) (n : ℕ) (some : 1 ≤ n) (most : n ≤ 16) (choices : List ℕ) (fit : T (choicesFit n choices)) where
+  worker-below : {r : ℕ} {b : List Worker} {g : Stage} {s : State} → Trace p n choices r b g s → (w v l : ℕ) → workerOf s w ≡ Waiting v l → w < n
+  worker-below t w v l e =
+      by-cases (decLt w n) (λ h. h)
+      (λ f. let z : _≡_ {A = ℕ} 0 1 = cc (trace-sound p ok n some most choices t .absent w (omega arith)) in absurd (omega arith))
+
+  workers-length : {r : ℕ} {b : List Worker} {g : Stage} {s : State} → Trace p n choices r b g s → (k : ℕ) → k < n → k < length (s .workers)
+  workers-length t k h = omega (arith, trace-sound p ok n some most choices t .workers)
+
+  all-due : {r : ℕ} {b : List Worker} {g : Stage} {s : State} → Trace p n choices r b g s → AllDue n r g (s .workers)
+  unfolding turnOf turn idled lay laidBy serve given start
+  all-due begins = λ w v l e. absurd (omega (arith, start-calm p w, ap waits e))
+  all-due (turned {r} {k} {b} {s} t h) = go (getD b k Idle) (all-due t)
+    where
+      go : (x : Worker) → AllDue n r (turning k) (s .workers) → AllDue n r (turning (suc k)) (turnOf p r k x s .workers)
+      go Idle i = i
+      go (Waiting v l) i = i
+      go (Holding j) i = calm (seated p k j s) (seated-waits p k j s)
+        where
+          calm : (x : Worker) → waits x ≡ 0 → AllDue n r (turning (suc k)) (set (s .workers) k x)
+          calm x c w v l e =
+              let len = workers-length t k h in
+              omega (arith, calm-before (s .workers) k x len c n v (rank l w), i w v l (calm-set (s .workers) k x len c w v l e .1))
+  all-due (goes-on t e) = all-due t
+  all-due (laid {r} {k} {b} {s} t h) = go (getD b k Idle) (all-due t)
+    where
+      go : (x : Worker) → AllDue n r (laying k) (s .workers) → AllDue n r (laying (suc k)) (lay choices r k x s .workers)
+      go Idle i = laid-due n r k (getD choices (s .tally .requests % length choices) 0) (s .workers) most h (workers-length t k h) (worker-below t) i
+      go (Holding j) i = i
+      go (Waiting v l) i = i
+  all-due (all-laid t) = λ w v l e. (all-due t w v l e, λ b. absurd (not-suc-le-zero b))
+  all-due (served {r} {k} {b} {s} t h) =
+      go (oldest k n (s .workers) .who) (oldest k n (s .workers) .laid) (oldest-best k n (s .workers) most) (all-due t)
+    where
+      go : (q m : ℕ) → Best k n (s .workers) q m → AllDue n r (serving k) (s .workers) → AllDue n r (serving (suc k)) (serve k q s .workers)
+      go zero m best i = none-due n r k (s .workers) (worker-below t) i best
+      go (suc x) m best i = gives (dequeOf s k)
+        where
+          due : (y : Worker) → waits y ≡ 0 → AllDue n r (serving (suc k)) (set (s .workers) x y)
+          due y = served-due n r k (s .workers) (worker-below t) i x m best y (workers-length t x (best .0))
+
+          gives : (d : List ℕ) → AllDue n r (serving (suc k)) (given k x d s .workers)
+          gives [] = due Idle refl
+          gives (y ∷ d) = due (Holding (topOf y d)) refl
+  all-due (next-round t) = λ w v l e. omega (arith, all-due t w v l e .1 (victim-below p ok n some most choices fit t w v l e .0))
+
+  -- a request that still waits when round r is over was laid in a round l with r < l + (n - 1): it is served in round l + n - 1 at the latest
+  pub waits-served : {r : ℕ} {b : List Worker} {s : State} → Trace p n choices r b (serving n) s → (w v l : ℕ) → workerOf s w ≡ Waiting v l
+      → (l ≤ r) × (r + 2 ≤ l + n)
+  waits-served t w v l e =
+      let (below, first, round) = victim-below p ok n some most choices fit t w v l e in
+      (round, omega (arith, all-due t w v l e .1 below))
+
+  -- so no state of a round past that one has it
+  pub waits-late : {r : ℕ} {b : List Worker} {g : Stage} {s : State} → Trace p n choices r b g s → (w v l : ℕ) → workerOf s w ≡ Waiting v l
+      → (l ≤ r) × (r + 1 ≤ l + n)
+  waits-late {r} {g = g} {s} t w v l e =
+      (victim-below p ok n some most choices fit t w v l e .2, go g (before n v (rank l w) (s .workers)) (all-due t w v l e))
+    where
+      go : (g : Stage) (c : ℕ) → Due n r g v l c → r + 1 ≤ l + n
+      go (turning k) c i = omega arith
+      go (laying k) c i = omega arith
+      go (serving k) c i = omega arith

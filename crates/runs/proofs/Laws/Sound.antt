@@ -1,0 +1,143 @@
+-- What holds of every state of a run: its lines are good, and a worker that holds nothing has an empty deque.
+-- Assumes nothing.
+use Prim.Native.Nat.{ℕ, zero, suc, _*_, _≤_, _<_}
+use mathlib.Core.Path.{_≡_, refl, _∙_}
+use mathlib.Core.Logic.{_≢_, by-cases}
+use mathlib.Core.Bool.{true, false}
+use mathlib.Core.List.{List, []}
+use native.Mathlib.Omega.{arith}
+use native.Mathlib.Nat.{le-refl}
+use native.Mathlib.Decide.{ℕ-discrete}
+use lib.ListN.{length, getD, replicate, length-replicate}
+use lib.Dec.{leb→le, nleb→lt}
+use Rattle.runs.specs.declared.worker.Worker.{Worker}
+use Rattle.runs.specs.declared.worker.Worker.the-variants.{Idle, Holding}
+use Rattle.plan.specs.Plan.{Plan, size, action, work, parent, spawnAt}
+use Rattle.plan_measure.specs.Measure.{path, heaviest}
+use Rattle.runs.specs.State.{State, noRow, nextOf, workerOf, dequeOf, start}
+use Rattle.runs.specs.Turn.{weight}
+use Rattle.runs.specs.Run.{ended}
+use Rattle.runs.proofs.Lines.Shape.{Living}
+use Rattle.runs.proofs.Lines.Start.{start-good}
+use Rattle.runs.proofs.Lines.Cover
+use Rattle.runs.proofs.Lines.Progress
+use Rattle.runs.proofs.Lines.Weight
+use Rattle.plan.specs.Rules.{Accepted}
+use Rattle.plan.proofs.Laws.Valid.{jobs-range}
+use Rattle.runs.specs.Trace.{Stage, turning, laying, Trace, begins, turned, goes-on, laid, all-laid, served, next-round}
+use Rattle.runs.proofs.Laws.PlanShape.{shape-valid, weight-held, path-same, path-most}
+use Rattle.runs.proofs.Laws.Lined.{line-of, held-in, line-held, held-below}
+use Rattle.runs.proofs.Laws.TurnSound.{turn-others, turn-still, turnOf-sound}
+use Rattle.runs.proofs.Laws.ServeSound.{lay-others, lay-sound, serve-sound}
+pub use Rattle.runs.proofs.Laws.PlanShape.{shape}
+pub use Rattle.runs.proofs.Laws.Lined.{lineIn, lineOf, Sound}
+
+replicate-at : {A : Type 0} (n i : ℕ) (a : A) → getD (replicate n a) i a ≡ a
+replicate-at zero i a = refl
+replicate-at (suc n) zero a = refl
+replicate-at (suc n) (suc i) a = replicate-at n i a
+
+module _ (p : Plan) (ok : Accepted p) (n : ℕ) (some : 1 ≤ n) (most : n ≤ 16) where
+  start-idle : (w : ℕ) → w ≢ 0 → workerOf (start p) w ≡ Idle
+  unfolding start
+  start-idle zero f = absurd (f refl)
+  start-idle (suc w) f = replicate-at 15 w Idle
+
+  start-deque : (w : ℕ) → dequeOf (start p) w ≡ []
+  unfolding start
+  start-deque w = replicate-at 16 w []
+
+  pub start-sound : Sound p n (start p)
+  unfolding start
+  start-sound = record {
+    nexts = length-replicate (length p) 0;
+    workers = refl;
+    deques = refl;
+    rows = length-replicate (work p) noRow;
+    good = start-good (shape p) (shape-valid p ok) (nextOf (start p)) (lineOf (start p)) (λ j. replicate-at (length p) j 0) refl
+        (λ w f. line-of (start p) w Idle (start-idle w f));
+    empty = λ w e. start-deque w;
+    absent = λ w h. start-idle w (λ e. omega arith);
+  }
+
+  -- while the turns of a round are taken, a worker that has not had its turn is as the round began
+  pub trace-began : (choices : List ℕ) {r k : ℕ} {b : List Worker} {s : State} → Trace p n choices r b (turning k) s
+      → (w : ℕ) → k ≤ w → workerOf s w ≡ getD b w Idle
+  trace-began choices begins w h = refl
+  trace-began choices (next-round t) w h = refl
+  trace-began choices (turned {r} {k} {b} {s} t l) w h =
+      turn-others p r k (getD b k Idle) s w (λ e. omega arith) ∙ trace-began choices t w (omega arith)
+
+  -- a worker that was idle as the round began is so after the turns
+  pub trace-idle : (choices : List ℕ) {r k : ℕ} {b : List Worker} {s : State} → Trace p n choices r b (turning k) s
+      → (w : ℕ) → getD b w Idle ≡ Idle → workerOf s w ≡ Idle
+  trace-idle choices begins w e = e
+  trace-idle choices (next-round t) w e = e
+  trace-idle choices (turned {r} {k} {b} {s} t l) w e =
+      by-cases (ℕ-discrete w k) (λ q. turn-still p r k (getD b k Idle) s w (rw q at e)) (turn-others p r k (getD b k Idle) s w)
+      ∙ trace-idle choices t w e
+
+  -- and until it lays a request
+  pub laying-idle : (choices : List ℕ) {r k : ℕ} {b : List Worker} {s : State} → Trace p n choices r b (laying k) s
+      → (w : ℕ) → k ≤ w → getD b w Idle ≡ Idle → workerOf s w ≡ Idle
+  laying-idle choices (goes-on t f) w h e = trace-idle choices t w e
+  laying-idle choices (laid {r} {k} {b} {s} t l) w h e =
+      lay-others choices r k (getD b k Idle) s w (λ q. omega arith) ∙ laying-idle choices t w (omega arith) e
+
+  -- the state of every stage of a run is sound
+  pub trace-sound : (choices : List ℕ) {r : ℕ} {b : List Worker} {g : Stage} {s : State} → Trace p n choices r b g s → Sound p n s
+  trace-sound choices begins = start-sound
+  trace-sound choices (turned {r} {k} {b} {s} t l) =
+      turnOf-sound p ok n most r k (getD b k Idle) s (trace-began choices t k (le-refl k)) (trace-sound choices t)
+  trace-sound choices (goes-on t f) = trace-sound choices t
+  trace-sound choices (laid {r} {k} {b} {s} t l) =
+      lay-sound p n most choices r k (getD b k Idle) s l (laying-idle choices t k (le-refl k)) (trace-sound choices t)
+  trace-sound choices (all-laid t) = trace-sound choices t
+  trace-sound choices (served {r} {k} {b} {s} t l) = serve-sound p ok n most s (trace-sound choices t) k l
+  trace-sound choices (next-round t) = trace-sound choices t
+
+  module _ (s : State) (sound : Sound p n s) where
+    -- the living frames weigh at most the number of workers times the heaviest path
+    pub space : weight p (s .next) ≤ n * heaviest p
+    space =
+        rw (weight-held p (s .next))
+        (Weight.space (shape p) (shape-valid p ok) (nextOf s) (lineOf s) (sound .good) n
+        (λ w h. line-of s w Idle (sound .absent w h)) (heaviest p) (λ j h. rw (path-same p ok j h) at (path-most p j h)))
+
+    -- until job 0 has ended some worker holds a job
+    pub busy : ended p s ≡ false → (w : ℕ) × (j : ℕ) × (w < n) × (workerOf s w ≡ Holding j)
+    busy e =
+        let root : Living (shape p) (nextOf s) 0 = record {
+          below = jobs-range p ok .0;
+          begun = λ o. absurd (omega arith);
+          left = nleb→lt (size p 0) (nextOf s 0) (rw e tt);
+        } in
+        let (w, h, l, i) = Cover.busy (shape p) (shape-valid p ok) (nextOf s) (lineOf s) (sound .good) root in
+        let q = line-held (workerOf s w) (dequeOf s w) h l i .0 in
+        (w, h, held-below p n s sound w h q, q)
+
+    -- when job 0 has ended every action is done
+    pub all-done : ended p s ≡ true → (j : ℕ) → j < length p → nextOf s j ≡ size p j
+    all-done e =
+        Progress.all-done (shape p) (shape-valid p ok) (nextOf s) (lineOf s) (sound .good) (leb→le (size p 0) (nextOf s 0) (rw e tt))
+
+    pub next-bound : (j : ℕ) → j < length p → nextOf s j ≤ size p j
+    next-bound = sound .good .bound
+
+    -- the job that a worker holds: its next action is there, its spawner is done and so are all senders of joins into it
+    pub held-job : (w j : ℕ) → workerOf s w ≡ Holding j → (j < length p) × (nextOf s j < size p j) × (1 ≤ j → spawnAt p j < nextOf s (parent p j))
+    held-job w j e = let a = sound .good .here w j (held-in s w j e) .0 in (a .below, a .left, a .begun)
+
+    pub held-ready : (w j : ℕ) → workerOf s w ≡ Holding j → (k a : ℕ) → 1 ≤ k → k < length p → a < size p k → parent p k ≡ j
+        → action p k a .join ≡ suc (nextOf s j) → a < nextOf s k
+    held-ready w j e k a o h b q i = sound .good .here w j (held-in s w j e) .1 k h a b q i
+
+    -- no job is held by two workers
+    pub held-once : (v w j : ℕ) → workerOf s v ≡ Holding j → workerOf s w ≡ Holding j → v ≡ w
+    held-once v w j e f = sound .good .apart v w j (held-in s v j e) (held-in s w j f)
+
+    -- the path of a living job is no heavier than all living frames
+    pub path-living : (j : ℕ) → j < length p → (1 ≤ j → spawnAt p j < nextOf s (parent p j)) → nextOf s j < size p j → path p j ≤ weight p (s .next)
+    path-living j h b l =
+        rw (weight-held p (s .next), path-same p ok j h)
+        (Weight.path-held (shape p) (shape-valid p ok) (nextOf s) (lineOf s) (sound .good) j (record { below = h; begun = b; left = l }))

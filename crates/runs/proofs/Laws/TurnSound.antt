@@ -1,0 +1,240 @@
+-- A turn keeps a state sound: the worker's line becomes the one that the theory of lines gives it, and no other changes.
+--   seatOf p s w j == worker w and its deque after that action
+-- Assumes nothing.
+use Prim.Native.Nat.{ℕ, zero, suc, _≤_, _<_}
+use mathlib.Core.Path.{_≡_, refl, ap, sym, _∙_}
+use mathlib.Core.Logic.{inl, inr, _≢_, by-cases}
+use mathlib.Core.Bool.{Bool, true, false, not}
+use mathlib.Core.List.{List, [], _∷_}
+use native.Mathlib.Omega.{arith}
+use native.Mathlib.Decide.{ℕ-discrete}
+use lib.Dec.{T, ltb, ltb→lt, lt→ltb, T-not, not-T}
+use lib.ListN.{length, getD, length-set}
+use lib.Seq.{getD-set-same, getD-set-other}
+use Rattle.runs.specs.declared.worker.Worker.{Worker}
+use Rattle.runs.specs.declared.worker.Worker.the-variants.{Idle, Holding, Waiting}
+use Rattle.plan.specs.Test.{both}
+use Rattle.plan.specs.Plan.{Plan, size, action, parent}
+use Rattle.runs.specs.State.{State, nextOf, workerOf, dequeOf}
+use Rattle.runs.specs.Turn.{ready, wakes, woken, Seat, takeBottom, seatAfter, turn, idled, turnOf}
+pub use Rattle.runs.specs.Turn.{afterOf, aboveOf}
+use Rattle.runs.proofs.Lines.Shape.{Living, Ready, Chain}
+use Rattle.runs.proofs.Lines.Member.{put}
+use Rattle.runs.proofs.Lines.Turn.{Goes, goes?, Wakes, wakes?, wakes-iff, turnLine, turn-spawn, turn-none, turn-good}
+use Rattle.plan.proofs.Laws.Lists.{both-intro, both-left, both-right}
+use Rattle.plan.specs.Rules.{Accepted}
+use Rattle.plan.proofs.Laws.Valid.{older, join-target}
+use Rattle.runs.proofs.Laws.PlanShape.{shape, shape-valid, ready-is, ready-by}
+use Rattle.runs.proofs.Laws.Lined.{lineIn, lineOf, Sound, line-of, held-in, held-below, line-stored, line-other}
+
+-- a test and a decision of one thing
+module _ {A : Type 0} (b : Bool) (d : Dec A) (f : T b → A) (g : A → T b) (q : ℕ) (l : List ℕ) where
+  to-put : (h : Bool → List ℕ) → h true ≡ q ∷ l → h false ≡ l → h b ≡ put d q l
+  unfolding put
+  to-put h yes-is no-is = go b d f g
+    where
+      go : (b : Bool) (d : Dec A) → (T b → A) → (A → T b) → h b ≡ put d q l
+      go true (yes a) f g = yes-is
+      go true (no n) f g = absurd (n (f tt))
+      go false (yes a) f g = absurd (g a)
+      go false (no n) f g = no-is
+
+abbrev pub lineAt : Seat → List ℕ
+lineAt t = lineIn (t .worker) (t .deque)
+
+bottom-line : (d : List ℕ) → lineAt (takeBottom d) ≡ d
+bottom-line [] = refl
+bottom-line (j ∷ d) = refl
+
+not-empty : {B : Type 0} (x : ℕ) (l : List ℕ) → x ∷ l ≡ [] → B
+not-empty x l e = let z : _≡_ {A = ℕ} 0 1 = cc in absurd (omega arith)
+
+bottom-empty : (d : List ℕ) → lineAt (takeBottom d) ≡ [] → takeBottom d .deque ≡ []
+bottom-empty [] e = refl
+bottom-empty (j ∷ d) e = not-empty j d e
+
+-- rule 3
+abbrev pub stay : Bool → ℕ → List ℕ → Seat
+stay true j d = record { worker = Holding j; deque = d }
+stay false j d = takeBottom d
+
+stay-empty : (b : Bool) (j : ℕ) (d : List ℕ) → lineAt (stay b j d) ≡ [] → stay b j d .deque ≡ []
+stay-empty true j d e = not-empty j d e
+stay-empty false j d e = bottom-empty d e
+
+module _ (p : Plan) (after : List ℕ) (j i : ℕ) (d : List ℕ) where
+  pub seat-spawn : (c : ℕ) → action p j i .spawn ≡ suc c → seatAfter p after j i d ≡ record { worker = Holding c; deque = j ∷ d }
+  unfolding seatAfter
+  seat-spawn c e = rw (seatAfter, e)
+
+  pub seat-none : action p j i .spawn ≡ 0 → seatAfter p after j i d ≡ stay (both (ltb (suc i) (size p j)) (ready p after j)) j d
+  unfolding seatAfter
+  seat-none e = rw (seatAfter, e) (go (both (ltb (suc i) (size p j)) (ready p after j)))
+    where
+      go : (b : Bool) → elim b as (λ x. Seat) [ true ↦ record { worker = Holding j; deque = d } | false ↦ takeBottom d ] ≡ stay b j d
+      go true = refl
+      go false = refl
+
+  pub seat-empty : lineAt (seatAfter p after j i d) ≡ [] → seatAfter p after j i d .deque ≡ []
+  seat-empty = go (action p j i .spawn) refl
+    where
+      go : (x : ℕ) → action p j i .spawn ≡ x → lineAt (seatAfter p after j i d) ≡ [] → seatAfter p after j i d .deque ≡ []
+      go (suc c) e = rw (seat-spawn c e) (not-empty c (j ∷ d))
+      go zero e = rw (seat-none e) (stay-empty (both (ltb (suc i) (size p j)) (ready p after j)) j d)
+
+abbrev pub seatOf : Plan → State → ℕ → ℕ → Seat
+seatOf p s w j = seatAfter p (afterOf s j) j (nextOf s j) (aboveOf p s w j)
+
+module _ (p : Plan) (ok : Accepted p) (n : ℕ) (most : n ≤ 16) (s : State) (sound : Sound p n s) (w j : ℕ) (holds : workerOf s w ≡ Holding j) where
+  abbrev pub next′ : ℕ → ℕ
+  next′ k = getD (afterOf s j) k 0
+
+  me : Living (shape p) (nextOf s) j × Ready (shape p) (nextOf s) j
+  me = sound .good .here w j (held-in s w j holds)
+
+  pub acted : next′ j ≡ suc (nextOf s j)
+  acted = getD-set-same (s .next) j (suc (nextOf s j)) 0 (omega (arith, sound .nexts, me .0 .below))
+
+  pub others : (k : ℕ) → k ≢ j → next′ k ≡ nextOf s k
+  others k f = getD-set-other (s .next) j k (suc (nextOf s j)) 0 f
+
+  is : lineOf s w ≡ j ∷ dequeOf s w
+  is = line-of s w (Holding j) holds
+
+  -- the parent has begun, before and after
+  parent-begun : 1 ≤ j → (0 < nextOf s (parent p j)) × (0 < next′ (parent p j))
+  parent-begun o =
+      let b = me .0 .begun o in
+      omega (arith, others (parent p j) (λ e. omega (arith, older p ok j o (me .0 .below))))
+
+  pub wakes-is : T (wakes p (s .next) (afterOf s j) j (nextOf s j)) → Wakes (shape p) (nextOf s) next′ j
+  unfolding wakes
+  wakes-is t = go (action p j (nextOf s j) .join) refl t
+    where
+      before : Bool
+      before = ready p (s .next) (parent p j)
+
+      go : (x : ℕ) → action p j (nextOf s j) .join ≡ x
+          → T (elim x as (λ y. Bool) [ zero ↦ false | suc t ↦ both (not before) (ready p (afterOf s j) (parent p j)) ])
+          → Wakes (shape p) (nextOf s) next′ j
+      go zero e t = absurd t
+      go (suc x) e t =
+          let o = join-target p ok j (nextOf s j) x (me .0 .below) (me .0 .left) e .0 in
+          let b = parent-begun o in
+          wakes-iff (shape p) (shape-valid p ok) (nextOf s) (lineOf s) (sound .good) w j (dequeOf s w) is next′ acted others o .1 (
+            λ r. T-not before (both-left (not before) _ t) (ready-by p (s .next) ok (parent p j) r (λ z. absurd (omega arith))),
+            ready-is p (afterOf s j) ok (parent p j) (both-right (not before) _ t),
+          )
+
+  pub wakes-by : Wakes (shape p) (nextOf s) next′ j → T (wakes p (s .next) (afterOf s j) j (nextOf s j))
+  unfolding wakes
+  wakes-by k =
+      let o = join-target p ok j (nextOf s j) (nextOf s (parent p j)) (me .0 .below) (me .0 .left) (k .sends) .0 in
+      let b = parent-begun o in
+      let t = wakes-iff (shape p) (shape-valid p ok) (nextOf s) (lineOf s) (sound .good) w j (dequeOf s w) is next′ acted others o .0 k in
+      let before = ready p (s .next) (parent p j) in
+      rw (wakes, k .sends) (both-intro (not before) _ (not-T before (λ x. t .0 (ready-is p (s .next) ok (parent p j) x)))
+      (ready-by p (afterOf s j) ok (parent p j) (t .1) (λ z. absurd (omega arith))))
+
+  -- a parent that is woken finds an empty deque
+  pub wakes-empty : T (wakes p (s .next) (afterOf s j) j (nextOf s j)) → dequeOf s w ≡ []
+  wakes-empty t = go (dequeOf s w) refl
+    where
+      go : (d : List ℕ) → dequeOf s w ≡ d → dequeOf s w ≡ []
+      go [] e = e
+      go (y ∷ d) e =
+          let k = wakes-is t in
+          let o = join-target p ok j (nextOf s j) (nextOf s (parent p j)) (me .0 .below) (me .0 .left) (k .sends) .0 in
+          let stalled = wakes-iff (shape p) (shape-valid p ok) (nextOf s) (lineOf s) (sound .good) w j (dequeOf s w) is next′ acted others o .0 k .0 in
+          let c : Chain (shape p) (j ∷ (y ∷ d)) = rw (is, e) at (sound .good .chain w) in
+          absurd (stalled (sound .good .here w (parent p j) (rw (is, e) (inr (inl (c .1)))) .1))
+
+  goes-is : T (both (ltb (suc (nextOf s j)) (size p j)) (ready p (afterOf s j) j)) → Goes (shape p) next′ j
+  goes-is t =
+      let first = ltb (suc (nextOf s j)) (size p j) in
+      record {
+        left = rw acted (ltb→lt (suc (nextOf s j)) (size p j) (both-left first _ t));
+        ready = ready-is p (afterOf s j) ok j (both-right first _ t);
+      }
+
+  goes-by : Goes (shape p) next′ j → T (both (ltb (suc (nextOf s j)) (size p j)) (ready p (afterOf s j) j))
+  goes-by g =
+      both-intro (ltb (suc (nextOf s j)) (size p j)) _ (lt→ltb (suc (nextOf s j)) (size p j) (rw acted at (g .left)))
+      (ready-by p (afterOf s j) ok j (g .ready) (λ z. absurd (omega (arith, acted))))
+
+  pub seat-line : lineAt (seatOf p s w j) ≡ turnLine (shape p) (nextOf s) next′ j (dequeOf s w)
+  seat-line = go (action p j (nextOf s j) .spawn) refl
+    where
+      up : List ℕ
+      up = put (wakes? (shape p) (nextOf s) next′ j) (parent p j) (dequeOf s w)
+
+      above : aboveOf p s w j ≡ up
+      above =
+          to-put (wakes p (s .next) (afterOf s j) j (nextOf s j)) (wakes? (shape p) (nextOf s) next′ j) wakes-is wakes-by (parent p j) (dequeOf s w)
+          (λ b. woken b (parent p j) (dequeOf s w)) refl refl
+
+      go : (x : ℕ) → action p j (nextOf s j) .spawn ≡ x → lineAt (seatOf p s w j) ≡ turnLine (shape p) (nextOf s) next′ j (dequeOf s w)
+      go (suc c) e =
+          ap lineAt (seat-spawn p (afterOf s j) j (nextOf s j) (aboveOf p s w j) c e) ∙ ap (λ l. c ∷ (j ∷ l)) above
+          ∙ sym (turn-spawn (shape p) (nextOf s) next′ j (dequeOf s w) c e)
+      go zero e =
+          ap lineAt (seat-none p (afterOf s j) j (nextOf s j) (aboveOf p s w j) e)
+          ∙ to-put (both (ltb (suc (nextOf s j)) (size p j)) (ready p (afterOf s j) j)) (goes? (shape p) next′ j) goes-is goes-by j (aboveOf p s w j)
+          (λ b. lineAt (stay b j (aboveOf p s w j))) refl (bottom-line (aboveOf p s w j))
+          ∙ ap (put (goes? (shape p) next′ j) j) above ∙ sym (turn-none (shape p) (nextOf s) next′ j (dequeOf s w) e)
+
+  pub turn-sound : (r : ℕ) → Sound p n (turn p r w j s)
+  unfolding turn
+  turn-sound r =
+      let b = held-below p n s sound w j holds in
+      let hw : w < length (s .workers) = omega (arith, sound .workers) in
+      let hd : w < length (s .deques) = omega (arith, sound .deques) in
+      let seat = seatOf p s w j in
+      let mine = line-stored (s .workers) (s .deques) w (seat .worker) (seat .deque) hw hd in
+      let rest = line-other (s .workers) (s .deques) w (seat .worker) (seat .deque) in
+      record {
+        nexts = length-set (s .next) j (suc (nextOf s j)) ∙ sound .nexts;
+        workers = length-set (s .workers) w (seat .worker) ∙ sound .workers;
+        deques = length-set (s .deques) w (seat .deque) ∙ sound .deques;
+        rows = length-set (s .rows) _ _ ∙ sound .rows;
+        good = turn-good (shape p) (shape-valid p ok) (nextOf s) (lineOf s) (sound .good) w j (dequeOf s w) is next′ acted others
+            (lineOf (turn p r w j s)) (mine ∙ seat-line) rest;
+        empty = λ v e. by-cases (ℕ-discrete v w)
+            (λ q. rw q (getD-set-same (s .deques) w (seat .deque) [] hd
+            ∙ seat-empty p (afterOf s j) j (nextOf s j) (aboveOf p s w j) (sym mine ∙ rw q at e)))
+            (λ f. getD-set-other (s .deques) w v (seat .deque) [] f ∙ sound .empty v (sym (rest v f) ∙ e));
+        absent = λ v h. getD-set-other (s .workers) w v (seat .worker) Idle (λ q. omega arith) ∙ sound .absent v h;
+      }
+
+pub idled-sound : (p : Plan) (n r : ℕ) (s : State) → Sound p n s → Sound p n (idled r s)
+unfolding idled
+idled-sound p n r s sound = record {
+  nexts = sound .nexts;
+  workers = sound .workers;
+  deques = sound .deques;
+  rows = sound .rows;
+  good = sound .good;
+  empty = sound .empty;
+  absent = sound .absent;
+}
+
+-- a turn changes no other worker
+pub turn-others : (p : Plan) (r w : ℕ) (k : Worker) (s : State) (v : ℕ) → v ≢ w → workerOf (turnOf p r w k s) v ≡ workerOf s v
+unfolding turnOf
+turn-others p r w Idle s v f = refl
+turn-others p r w (Holding j) s v f = getD-set-other (s .workers) w v (seatOf p s w j .worker) Idle f
+turn-others p r w (Waiting u l) s v f = refl
+
+-- and none if the worker was idle
+pub turn-still : (p : Plan) (r w : ℕ) (k : Worker) (s : State) (v : ℕ) → k ≡ Idle → workerOf (turnOf p r w k s) v ≡ workerOf s v
+unfolding turnOf
+turn-still p r w Idle s v e = refl
+turn-still p r w (Holding j) s v e = let z : _≡_ {A = ℕ} 0 1 = cc in absurd (omega arith)
+turn-still p r w (Waiting u l) s v e = refl
+
+pub turnOf-sound : (p : Plan) → Accepted p → (n : ℕ) → n ≤ 16 → (r w : ℕ) (k : Worker) (s : State) → workerOf s w ≡ k → Sound p n s
+    → Sound p n (turnOf p r w k s)
+unfolding turnOf
+turnOf-sound p ok n most r w Idle s e sound = idled-sound p n r s sound
+turnOf-sound p ok n most r w (Holding j) s e sound = turn-sound p ok n most s sound w j e r
+turnOf-sound p ok n most r w (Waiting u l) s e sound = idled-sound p n r s sound

@@ -1,0 +1,134 @@
+-- The victims that waiting workers name are workers that there are, and a worker that is alone never waits.
+-- Assumes nothing.
+use Prim.Native.Nat.{ℕ, zero, suc, _≤_, _<_, _%_}
+use mathlib.Core.Path.{_≡_, refl, sym, ap, _∙_}
+use mathlib.Core.Logic.{_⊎_, inl, inr, by-cases, ⊎-elim}
+use mathlib.Core.Bool.{Bool, true, false}
+use mathlib.Core.List.{List, [], _∷_}
+use native.Mathlib.Nat.{lt-of-not-le}
+use native.Mathlib.Omega.{arith}
+use native.Mathlib.Decide.{decLt}
+use lib.Dec.{T, ltb, leb, ltb→lt, leb→le}
+use lib.ListN.{length, getD, set, List·getD-eq-default}
+use Rattle.plan.specs.Test.{either, all}
+use Rattle.runs.specs.declared.worker.Worker.{Worker}
+use Rattle.runs.specs.declared.worker.Worker.the-variants.{Idle, Holding, Waiting}
+use Rattle.plan.specs.Plan.{Plan}
+use Rattle.runs.specs.State.{State, workerOf, dequeOf, start}
+use Rattle.runs.specs.Turn.{turn, idled, turnOf}
+use Rattle.runs.specs.Steal.{laid as laidBy, lay, oldest, topOf, given, serve}
+use Rattle.runs.specs.Run.{choicesFit}
+use Rattle.runs.proofs.Lines.Sum.{sum-term}
+use Rattle.plan.proofs.Laws.Lists.{both-left, both-right, all-at}
+use Rattle.plan.specs.Rules.{Accepted}
+use Rattle.runs.specs.Trace.{Stage, Trace, begins, turned, goes-on, laid, all-laid, served, next-round}
+use Rattle.runs.proofs.Laws.Sound.{trace-sound}
+use Rattle.runs.proofs.Laws.Tallies.{lone-holds, lone-requests}
+use Rattle.runs.proofs.Laws.Waits.{waits, waiting-sum, start-calm, seated, seated-waits}
+use Rattle.runs.proofs.Laws.Waiting.{Unheld, requests-sum}
+
+-- what stands at a place after a store, there or elsewhere
+set-either : {A : Type 0} (l : List A) (k w : ℕ) (x d : A) → (getD (set l k x) w d ≡ x) ⊎ (getD (set l k x) w d ≡ getD l w d)
+set-either [] k w x d = inr refl
+set-either (y ∷ l) zero zero x d = inl refl
+set-either (y ∷ l) zero (suc w) x d = inr refl
+set-either (y ∷ l) (suc k) zero x d = inr refl
+set-either (y ∷ l) (suc k) (suc w) x d = set-either l k w x d
+
+-- a worker that waits, in round r
+abbrev pub Named : ℕ → ℕ → Worker → Type 0
+Named n r x = (v l : ℕ) → x ≡ Waiting v l → (v < n) × (1 ≤ l) × (l ≤ r)
+
+named-calm : (n r : ℕ) (x : Worker) → waits x ≡ 0 → Named n r x
+named-calm n r x e v l f = let z = ap waits f in absurd (omega arith)
+
+named-laid : (n r v : ℕ) → v < n → 1 ≤ r → Named n r (Waiting v r)
+named-laid n r v h b u l e = let f : v ≡ u = cc in let g : r ≡ l = cc in omega arith
+
+named-set : (n r : ℕ) (ws : List Worker) (k : ℕ) (x : Worker) → Named n r x → ((w : ℕ) → Named n r (getD ws w Idle))
+    → (w : ℕ) → Named n r (getD (set ws k x) w Idle)
+named-set n r ws k x a i w v l e = ⊎-elim (λ q. a v l (sym q ∙ e)) (λ q. i w v l (sym q ∙ e)) (set-either ws k w x Idle)
+
+-- each choice is a worker that there is
+pub choice-below : (n : ℕ) (choices : List ℕ) → 1 ≤ n → T (all (λ c. ltb c n) choices) → (i : ℕ) → getD choices i 0 < n
+choice-below n choices some t i =
+    by-cases (decLt i (length choices)) (λ h. ltb→lt (getD choices i 0) n (all-at (λ c. ltb c n) choices t 0 i h))
+    (λ f. rw (List·getD-eq-default choices 0 {n = i} (omega arith)) some)
+
+module _ (p : Plan) (ok : Accepted p) (n : ℕ) (some : 1 ≤ n) (most : n ≤ 16) (choices : List ℕ) where
+  round-first : {r : ℕ} {b : List Worker} {g : Stage} {s : State} → Trace p n choices r b g s → 1 ≤ r
+  round-first begins = omega arith
+  round-first (turned t h) = round-first t
+  round-first (goes-on t e) = round-first t
+  round-first (laid t h) = round-first t
+  round-first (all-laid t) = round-first t
+  round-first (served t h) = round-first t
+  round-first (next-round t) = omega arith
+
+  named-all : T (all (λ c. ltb c n) choices) → {r : ℕ} {b : List Worker} {g : Stage} {s : State} → Trace p n choices r b g s
+      → (w : ℕ) → Named n r (workerOf s w)
+  unfolding turnOf turn idled lay laidBy serve given start
+  named-all fit begins = λ w. named-calm n 1 (workerOf (start p) w) (start-calm p w)
+  named-all fit (turned {r} {k} {b} {s} t h) = go (getD b k Idle) (named-all fit t)
+    where
+      go : (x : Worker) → ((w : ℕ) → Named n r (workerOf s w)) → (w : ℕ) → Named n r (workerOf (turnOf p r k x s) w)
+      go Idle i = i
+      go (Waiting v l) i = i
+      go (Holding j) i = named-set n r (s .workers) k (seated p k j s) (named-calm n r (seated p k j s) (seated-waits p k j s)) i
+  named-all fit (goes-on t e) = named-all fit t
+  named-all fit (laid {r} {k} {b} {s} t h) = go (getD b k Idle) (named-all fit t)
+    where
+      go : (x : Worker) → ((w : ℕ) → Named n r (workerOf s w)) → (w : ℕ) → Named n r (workerOf (lay choices r k x s) w)
+      go Idle i =
+          let at = s .tally .requests % length choices in
+          let v = getD choices at 0 in
+          named-set n r (s .workers) k (Waiting v r) (named-laid n r v (choice-below n choices some fit at) (round-first t)) i
+      go (Holding j) i = i
+      go (Waiting v l) i = i
+  named-all fit (all-laid t) = named-all fit t
+  named-all fit (served {r} {k} {b} {s} t h) = go (oldest k n (s .workers) .who) (named-all fit t)
+    where
+      go : (who : ℕ) → ((w : ℕ) → Named n r (workerOf s w)) → (w : ℕ) → Named n r (workerOf (serve k who s) w)
+      go zero i = i
+      go (suc x) i = gives (dequeOf s k)
+        where
+          gives : (d : List ℕ) → (w : ℕ) → Named n r (workerOf (given k x d s) w)
+          gives [] = named-set n r (s .workers) x Idle (named-calm n r Idle refl) i
+          gives (y ∷ d) = named-set n r (s .workers) x (Holding (topOf y d)) (named-calm n r (Holding (topOf y d)) refl) i
+  named-all fit (next-round t) = λ w v l e. omega (arith, named-all fit t w v l e)
+
+  -- a worker that waits names a victim that there is, and a round that has begun
+  pub victim-below : T (choicesFit n choices) → {r : ℕ} {b : List Worker} {g : Stage} {s : State} → Trace p n choices r b g s
+      → (w v l : ℕ) → workerOf s w ≡ Waiting v l → (v < n) × (1 ≤ l) × (l ≤ r)
+  unfolding choicesFit
+  victim-below fit = named-all (both-left (all (λ c. ltb c n) choices) _ fit)
+
+  -- a worker that held nothing as a round began is not alone
+  pub unheld-more : {r : ℕ} {b : List Worker} {g : Stage} {s : State} → Trace p n choices r b g s → (w : ℕ) → w < n → Unheld (getD b w Idle) → 2 ≤ n
+  unheld-more t w h u =
+      lt-of-not-le (λ (f : n ≤ 1). let (j, e) = lone-holds p ok n some most choices (omega arith) t w h in u j e)
+
+  -- so there is a choice for each request
+  pub laid-choices : T (choicesFit n choices) → {r : ℕ} {b : List Worker} {g : Stage} {s : State} → Trace p n choices r b g s
+      → (w : ℕ) → w < n → Unheld (getD b w Idle) → 1 ≤ length choices
+  unfolding choicesFit
+  laid-choices fit t w h u =
+      go (leb n 1) (leb→le n 1) (both-right (leb (length choices) 4096) _ (both-right (all (λ c. ltb c n) choices) _ fit))
+    where
+      go : (x : Bool) → (T x → n ≤ 1) → T (either x (leb 1 (length choices))) → 1 ≤ length choices
+      go true f a = absurd (omega (arith, f tt, unheld-more t w h u))
+      go false f a = leb→le 1 (length choices) a
+
+  -- a worker that is alone never waits
+  pub lone-waits : n ≡ 1 → {r : ℕ} {b : List Worker} {g : Stage} {s : State} → Trace p n choices r b g s
+      → (w v l : ℕ) → workerOf s w ≡ Waiting v l → ⊥
+  lone-waits lone {s = s} t w v l e =
+      by-cases (decLt w n) (λ h. omega (
+        arith,
+        ap waits e,
+        waiting-sum n (s .workers),
+        sum-term n (λ w. waits (workerOf s w)) w h,
+        requests-sum p ok n some most choices t,
+        lone-requests p ok n some most choices lone t,
+      ))
+      (λ f. let z : _≡_ {A = ℕ} 0 1 = cc (trace-sound p ok n some most choices t .absent w (omega arith)) in omega arith)

@@ -1,0 +1,144 @@
+-- The twelve starred cases of document 01 as one table: plan bytes, P, choices and the answer. Laws/Starred.antt has the theorem.
+--   Count, valueOf == a count by the name that `buildrun` prints, and its value
+--   Case           == a row of the table; passes c == the meanings give the row's answer
+-- Assumes nothing.
+use Prim.Native.Nat.{ℕ, zero, suc}
+use mathlib.Core.Bool.{Bool, true, false}
+use mathlib.Core.List.{List, [], _∷_}
+use lib.ListN.{length}
+use lib.Dec.{eqb}
+use Rattle.plan.specs.Refusal.{Outcome, refused, accepted}
+use Rattle.plan.specs.Test.{both, all}
+use Rattle.plan.specs.Plan.{Plan}
+use Rattle.plan.specs.Reader.{readPlan}
+use Rattle.plan_measure.specs.Measure.{longest, heaviest}
+use Rattle.runs.specs.State.{Row, State}
+use Rattle.runs.specs.Run.{runOf}
+use Rattle.runs.specs.Schedule.{checked}
+
+pub data Count : Type 0 where
+  rounds actions longest′ path peak idle requests steals misses : Count
+
+unfoldable pub valueOf : Count → Plan → State → ℕ
+unfolding longest heaviest
+valueOf rounds p s = s .tally .rounds
+valueOf actions p s = s .tally .actions
+valueOf longest′ p s = longest p
+valueOf path p s = heaviest p
+valueOf peak p s = s .tally .peak
+valueOf idle p s = s .tally .idle
+valueOf requests p s = s .tally .requests
+valueOf steals p s = s .tally .steals
+valueOf misses p s = s .tally .misses
+
+pub record Told : Type 0 where
+  pub count : Count
+  pub value : ℕ
+
+-- what a case gives: counts, counts with the rows, a refusal of the run, or the checker's refusal of a schedule
+pub data Answer : Type 0 where
+  counts : List Told → Answer
+  with-rows : List Told → List Row → Answer
+  number : ℕ → Answer
+  schedule : List ℕ → ℕ → Answer
+
+pub record Case : Type 0 where
+  pub plan : List ℕ
+  pub workers : ℕ
+  pub choices : List ℕ
+  pub answer : Answer
+
+abbrev pub sameRows : List Row → List Row → Bool
+sameRows [] [] = true
+sameRows [] (b ∷ bs) = false
+sameRows (a ∷ l) [] = false
+sameRows (a ∷ l) (b ∷ bs) = both (both (eqb (a .round) (b .round)) (eqb (a .worker) (b .worker))) (sameRows l bs)
+
+abbrev pub counted : Outcome Plan → Outcome State → List Told → Bool
+counted (refused k) o told = false
+counted (accepted p) (refused k) told = false
+counted (accepted p) (accepted s) told = all (λ t. eqb (valueOf (t .count) p s) (t .value)) told
+
+abbrev pub rowed : Outcome State → List Row → Bool
+rowed (refused k) rows = false
+rowed (accepted s) rows = sameRows (s .rows) rows
+
+abbrev pub turnedDown : {A : Type 0} → Outcome A → ℕ → Bool
+turnedDown (refused k) n = eqb k n
+turnedDown (accepted a) n = false
+
+abbrev pub answers : List ℕ → ℕ → List ℕ → Answer → Bool
+answers plan n choices (counts told) = counted (readPlan plan) (runOf plan n choices) told
+answers plan n choices (with-rows told rows) = both (counted (readPlan plan) (runOf plan n choices) told) (rowed (runOf plan n choices) rows)
+answers plan n choices (number k) = turnedDown (runOf plan n choices) k
+answers plan n choices (schedule bytes k) = turnedDown (checked plan bytes) k
+
+unfoldable pub passes : Case → Bool
+unfolding valueOf runOf checked readPlan
+passes c = answers (c .plan) (c .workers) (c .choices) (c .answer)
+
+-- "E is `01 01 80 02 02 C0 44 08 00 00 60 42 08 00 04 02 82 00` (hexadecimal)"; only its last byte, or the target of job 2's
+-- join in the two bytes before it, changes in the cases 8 and 9
+unfoldable pub E : List ℕ
+E =
+    0x01 ∷ 0x01 ∷ 0x80 ∷ 0x02 ∷ 0x02 ∷ 0xC0 ∷ 0x44 ∷ 0x08 ∷ 0x00 ∷ 0x00 ∷ 0x60 ∷ 0x42 ∷ 0x08 ∷ 0x00 ∷ 0x04 ∷ 0x02 ∷ 0x82 ∷ 0x00 ∷ []
+
+unfoldable pub E-last-byte : List ℕ
+E-last-byte =
+    0x01 ∷ 0x01 ∷ 0x80 ∷ 0x02 ∷ 0x02 ∷ 0xC0 ∷ 0x44 ∷ 0x08 ∷ 0x00 ∷ 0x00 ∷ 0x60 ∷ 0x42 ∷ 0x08 ∷ 0x00 ∷ 0x04 ∷ 0x02 ∷ 0x82 ∷ 0x01 ∷ []
+
+unfoldable pub E-position-3 : List ℕ
+E-position-3 =
+    0x01 ∷ 0x01 ∷ 0x80 ∷ 0x02 ∷ 0x02 ∷ 0xC0 ∷ 0x44 ∷ 0x08 ∷ 0x00 ∷ 0x00 ∷ 0x60 ∷ 0x42 ∷ 0x08 ∷ 0x00 ∷ 0x04 ∷ 0x02 ∷ 0x81 ∷ 0x80 ∷ []
+
+-- "F: job 0, frame 1, three actions, spawns 1 at 0; job 1, frame 1, four, last joins position 2."
+unfoldable pub F : List ℕ
+F = 0x01 ∷ 0x01 ∷ 0x00 ∷ 0x00 ∷ 0x81 ∷ 0xC0 ∷ 0x40 ∷ 0x00 ∷ 0x02 ∷ 0x08 ∷ 0x02 ∷ 0x04 ∷ []
+
+unfoldable pub one-action : List ℕ
+one-action = 0x01 ∷ 0x00 ∷ 0x80 ∷ 0x00 ∷ 0x80 ∷ 0x80 ∷ []
+
+abbrev row : ℕ → ℕ → Row
+row r w = record { round = r; worker = w }
+
+-- case 4's schedule, in which job 1's action 0 (round 2) is given to worker 1
+unfoldable pub E-schedule-clash : List ℕ
+E-schedule-clash =
+    0x01 ∷ 0x10 ∷ 0x04 ∷ 0x00 ∷ 0x00 ∷ 0x10 ∷ 0x00 ∷ 0x21 ∷ 0x00 ∷ 0x31 ∷ 0x00 ∷ 0x51 ∷ 0x00 ∷ 0x61 ∷ 0x00 ∷ 0x21 ∷ 0x00 ∷ 0x30 ∷ 0x00 ∷ 0x41 ∷ []
+
+abbrev is : Count → ℕ → Told
+is c n = record { count = c; value = n }
+
+unfoldable pub starred : List Case
+unfolding E E-last-byte E-position-3 F one-action E-schedule-clash
+starred =
+    record { plan = one-action; workers = 1; choices = []; answer = counts (is rounds 1 ∷ is idle 0 ∷ []) }
+    ∷ record { plan = one-action; workers = 16; choices = 0 ∷ []; answer = counts (is rounds 1 ∷ is idle 15 ∷ is requests 0 ∷ []) }
+    ∷ record { plan = E; workers = 1; choices = []; answer = counts (is rounds 8 ∷ is peak 7 ∷ is idle 0 ∷ []) }
+    ∷ record {
+      plan = E;
+      workers = 2;
+      choices = 0 ∷ 1 ∷ [];
+      answer =
+          with-rows
+          (is rounds 6
+          ∷ is actions 8
+          ∷ is longest′ 5
+          ∷ is path 7
+          ∷ is peak 7
+          ∷ is idle 4
+          ∷ is requests 3
+          ∷ is steals 1
+          ∷ is misses 2
+          ∷ [])
+          (row 1 0 ∷ row 2 1 ∷ row 3 1 ∷ row 5 1 ∷ row 6 1 ∷ row 2 0 ∷ row 3 0 ∷ row 4 1 ∷ []);
+    }
+    ∷ record { plan = F; workers = 2; choices = 0 ∷ []; answer = counts (is rounds 6 ∷ is idle 5 ∷ is requests 4 ∷ is steals 1 ∷ is misses 3 ∷ []) }
+    ∷ record { plan = F; workers = 3; choices = 0 ∷ []; answer = counts (is rounds 6 ∷ is idle 11 ∷ is requests 6 ∷ is steals 1 ∷ is misses 4 ∷ []) }
+    ∷ record { plan = []; workers = 1; choices = []; answer = number 1 }
+    ∷ record { plan = E-last-byte; workers = 1; choices = []; answer = number 6 }
+    ∷ record { plan = E-position-3; workers = 1; choices = []; answer = number 5 }
+    ∷ record { plan = E; workers = 2; choices = []; answer = number 8 }
+    ∷ record { plan = E; workers = 0; choices = []; answer = number 7 }
+    ∷ record { plan = E; workers = 2; choices = 0 ∷ 1 ∷ []; answer = schedule E-schedule-clash 12 }
+    ∷ []

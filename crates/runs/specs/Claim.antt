@@ -1,0 +1,34 @@
+-- Demand 3, one claim about a whole run from its start to its end.
+--   Bounds p n rows t == of the rows and the tally of a run of n workers on the plan p
+--   Demand3           == for all accepted plan bytes, all worker counts 1 to 16 and all accepted lists of choices
+-- Assumes nothing.
+use Prim.Native.Nat.{ℕ, _*_, _≤_}
+use mathlib.Core.Path.{_≡_}
+use mathlib.Core.List.{List}
+use lib.Dec.{T}
+use Rattle.plan.specs.Refusal.{Outcome, accepted}
+use Rattle.plan.specs.Plan.{Plan, work}
+use Rattle.plan.specs.Reader.{readPlan}
+use Rattle.plan_measure.specs.Measure.{longest, heaviest}
+use Rattle.runs.specs.declared.tally.Tally.{Tally}
+use Rattle.runs.specs.State.{Row, State}
+use Rattle.runs.specs.Run.{run, workersFit, choicesFit}
+use Rattle.runs.specs.Living.{weightAfter, peakOf, lastRound}
+
+pub record Bounds (p : Plan) (n : ℕ) (rows : List Row) (t : Tally) : Type 0 where
+  -- at the start (round 0) and after every single turn the frames of living jobs weigh at most P × S1
+  pub space : (r w : ℕ) → weightAfter p rows r w ≤ n * heaviest p
+  -- the build ends in at most T1 rounds and at least T∞
+  pub most-rounds : t .rounds ≤ work p
+  pub least-rounds : longest p ≤ t .rounds
+  -- with one worker the peak is S1 and the rounds are T1
+  pub lone-peak : n ≡ 1 → t .peak ≡ heaviest p
+  pub lone-rounds : n ≡ 1 → t .rounds ≡ work p
+  -- the peak is the largest of those weights, the rounds the last round in the rows
+  pub peak : t .peak ≡ peakOf p rows
+  pub rounds : t .rounds ≡ lastRound rows
+
+abbrev pub Demand3 : Type 0
+Demand3 =
+    (s : List ℕ) (p : Plan) (n : ℕ) (choices : List ℕ) → readPlan s ≡ accepted p → T (workersFit n) → T (choicesFit n choices)
+    → Bounds p n (run p n choices .rows) (run p n choices .tally)

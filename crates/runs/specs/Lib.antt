@@ -1,0 +1,10 @@
+-- What a reader must believe of a run, in document 01's order.
+pub mod State
+pub mod Turn
+pub mod Steal
+pub mod Run
+pub mod Schedule
+pub mod Living
+pub mod Claim
+pub mod Trace
+pub mod Cases

@@ -1,0 +1,126 @@
+-- Requests and services, the second half of a round (document 01, "Worker and round").
+--   lay, lays       == worker w lays a request, if it held nothing when the round began and has none; the workers below k
+--   oldest v k ws   == which of the workers below k has the request that victim v serves: the worker's number plus 1, or 0
+--   serve, serves   == victim v serves one request; the victims below k
+-- Assumes nothing.
+use Prim.Native.Nat.{ℕ, zero, suc, _%_}
+use mathlib.Core.Bool.{Bool, true, false}
+use mathlib.Core.List.{List, [], _∷_}
+use lib.ListN.{length, getD, set}
+use lib.Dec.{eqb, ltb}
+use Rattle.runs.specs.declared.tally.Tally.{Tally}
+use Rattle.runs.specs.declared.worker.Worker.{Worker}
+use Rattle.runs.specs.declared.worker.Worker.the-variants.{Idle, Holding, Waiting}
+use Rattle.runs.specs.State.{State, dequeOf}
+
+-- "request number k (from 0) reads entry k modulo the length"
+unfoldable pub laid : List ℕ → ℕ → ℕ → State → State
+laid choices r w s =
+    let t = s .tally in
+    record {
+      next = s .next;
+      workers = set (s .workers) w (Waiting (getD choices ((t .requests) % length choices) 0) r);
+      deques = s .deques;
+      rows = s .rows;
+      tally = record {
+        rounds = t .rounds;
+        actions = t .actions;
+        idle = t .idle;
+        requests = suc (t .requests);
+        steals = t .steals;
+        misses = t .misses;
+        peak = t .peak;
+      };
+    }
+
+-- "the other workers that hold nothing since the round's start .. each lay a request if they have none"
+unfoldable pub lay : List ℕ → ℕ → ℕ → Worker → State → State
+unfolding laid
+lay choices r w Idle s = laid choices r w s
+lay choices r w (Holding j) s = s
+lay choices r w (Waiting v l) s = s
+
+unfoldable pub lays : List ℕ → ℕ → ℕ → List Worker → State → State
+unfolding lay
+lays choices r zero began s = s
+lays choices r (suc k) began s = lay choices r k (getD began k Idle) (lays choices r k began s)
+
+pub record Pick : Type 0 where
+  pub who : ℕ
+  pub laid : ℕ
+
+-- "the oldest by round, then the lowest worker": worker w's request against the best of the workers below it
+unfoldable pub older : ℕ → ℕ → Worker → Pick → Pick
+older v w Idle best = best
+older v w (Holding j) best = best
+older v w (Waiting u l) best =
+    elim (eqb u v) [
+      | false ↦ best
+      | true ↦ elim (best .who) [
+        | zero ↦ record { who = suc w; laid = l }
+        | suc x ↦ elim (ltb l (best .laid)) [ true ↦ record { who = suc w; laid = l } | false ↦ best ]
+      ]
+    ]
+
+unfoldable pub oldest : ℕ → ℕ → List Worker → Pick
+unfolding older
+oldest v zero ws = record { who = 0; laid = 0 }
+oldest v (suc k) ws = older v k (getD ws k Idle) (oldest v k ws)
+
+-- the deque without its top job, and the top job
+abbrev pub dropTop : List ℕ → List ℕ
+dropTop [] = []
+dropTop (x ∷ []) = []
+dropTop (x ∷ (y ∷ d)) = x ∷ dropTop (y ∷ d)
+
+abbrev pub topOf : ℕ → List ℕ → ℕ
+topOf x [] = x
+topOf x (y ∷ d) = topOf y d
+
+-- "The top job of the victim's deque goes to that worker, or it is a miss."
+unfoldable pub given : ℕ → ℕ → List ℕ → State → State
+given v w [] s =
+    let t = s .tally in
+    record {
+      next = s .next;
+      workers = set (s .workers) w Idle;
+      deques = s .deques;
+      rows = s .rows;
+      tally = record {
+        rounds = t .rounds;
+        actions = t .actions;
+        idle = t .idle;
+        requests = t .requests;
+        steals = t .steals;
+        misses = suc (t .misses);
+        peak = t .peak;
+      };
+    }
+given v w (x ∷ d) s =
+    let t = s .tally in
+    record {
+      next = s .next;
+      workers = set (s .workers) w (Holding (topOf x d));
+      deques = set (s .deques) v (dropTop (x ∷ d));
+      rows = s .rows;
+      tally = record {
+        rounds = t .rounds;
+        actions = t .actions;
+        idle = t .idle;
+        requests = t .requests;
+        steals = suc (t .steals);
+        misses = t .misses;
+        peak = t .peak;
+      };
+    }
+
+unfoldable pub serve : ℕ → ℕ → State → State
+unfolding given
+serve v zero s = s
+serve v (suc w) s = given v w (dequeOf s v) s
+
+-- "every victim, in rising number, serves one request"
+unfoldable pub serves : ℕ → ℕ → State → State
+unfolding serve oldest
+serves n zero s = s
+serves n (suc k) s = let t = serves n k s in serve k (oldest k n (t .workers) .who) t

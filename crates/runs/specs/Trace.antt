@@ -1,0 +1,31 @@
+-- The states of a run in the order in which they come: each turn, request and service takes the state that the last one left.
+--   Stage               == how far a round has come: turns taken, requests laid, victims served, of the workers below k
+--   Trace p n cs r b g s == s is the state of a run of n workers at stage g of round r, where b are the workers as the round began
+-- Assumes nothing.
+use Prim.Native.Nat.{ℕ, suc, _<_}
+use mathlib.Core.Path.{_≡_}
+use mathlib.Core.Bool.{false}
+use mathlib.Core.List.{List}
+use lib.ListN.{getD}
+use Rattle.runs.specs.declared.worker.Worker.{Worker}
+use Rattle.runs.specs.declared.worker.Worker.the-variants.{Idle}
+use Rattle.plan.specs.Plan.{Plan}
+use Rattle.runs.specs.State.{State, start}
+use Rattle.runs.specs.Turn.{turnOf}
+use Rattle.runs.specs.Steal.{lay, oldest, serve}
+use Rattle.runs.specs.Run.{ended}
+
+pub data Stage : Type 0 where
+  turning : ℕ → Stage
+  laying : ℕ → Stage
+  serving : ℕ → Stage
+
+module _ (p : Plan) (n : ℕ) (choices : List ℕ) where
+  pub data Trace : ℕ → List Worker → Stage → State → Type 0 where
+    begins : Trace 1 (start p .workers) (turning 0) (start p)
+    turned : {r k : ℕ} {b : List Worker} {s : State} → Trace r b (turning k) s → k < n → Trace r b (turning (suc k)) (turnOf p r k (getD b k Idle) s)
+    goes-on : {r : ℕ} {b : List Worker} {s : State} → Trace r b (turning n) s → ended p s ≡ false → Trace r b (laying 0) s
+    laid : {r k : ℕ} {b : List Worker} {s : State} → Trace r b (laying k) s → k < n → Trace r b (laying (suc k)) (lay choices r k (getD b k Idle) s)
+    all-laid : {r : ℕ} {b : List Worker} {s : State} → Trace r b (laying n) s → Trace r b (serving 0) s
+    served : {r k : ℕ} {b : List Worker} {s : State} → Trace r b (serving k) s → k < n → Trace r b (serving (suc k)) (serve k (oldest k n (s .workers) .who) s)
+    next-round : {r : ℕ} {b : List Worker} {s : State} → Trace r b (serving n) s → Trace (suc r) (s .workers) (turning 0) s

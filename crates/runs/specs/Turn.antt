@@ -1,0 +1,137 @@
+-- A worker's turn, and the first half of a round (document 01, "Worker and round").
+--   spawned p next j == job j is spawned, where next gives how many actions of each job are done
+--   ready p next j   == the next action of job j is ready
+--   living p next j  == job j lives; weight p next == the weight of the living jobs' frames
+--   wakes            == rule 1's test; seatAfter == what rules 2 and 3 leave of a worker and its deque
+--   turn p r w j s   == worker w, which holds job j, takes its turn in round r
+--   afterOf, aboveOf == two parts of a turn: how many actions of each job are done after it, and the deque after rule 1
+--   turns p r k b s  == the turns of the workers below k, where b are the workers as the round began
+-- Assumes nothing.
+use Prim.Native.Nat.{ℕ, zero, suc, _+_, max}
+use mathlib.Core.Bool.{Bool, true, false, not}
+use mathlib.Core.List.{List, [], _∷_}
+use lib.ListN.{length, getD, set}
+use lib.Dec.{eqb, leb, ltb}
+use Rattle.plan.specs.Test.{both, either, all}
+use Rattle.plan.specs.Plan.{Plan, Job, job, size, action, placed, parent, spawnAt, enters}
+use Rattle.runs.specs.declared.tally.Tally.{Tally}
+use Rattle.runs.specs.declared.worker.Worker.{Worker}
+use Rattle.runs.specs.declared.worker.Worker.the-variants.{Idle, Holding, Waiting}
+use Rattle.runs.specs.State.{Row, State, nextOf, dequeOf, place}
+
+unfoldable pub spawned : Plan → List ℕ → ℕ → Bool
+unfolding parent spawnAt
+spawned p next j = either (eqb j 0) (ltb (spawnAt p j) (getD next (parent p j) 0))
+
+-- "An action is ready when the one before it, its spawner (for position 0) and all senders of joins into it are done."
+unfoldable pub ready : Plan → List ℕ → ℕ → Bool
+unfolding spawned enters
+ready p next j =
+    both (either (leb 1 (getD next j 0)) (spawned p next j))
+    (all (λ a. either (not (enters p j (getD next j 0) a)) (ltb (a .position) (getD next (a .job) 0))) (placed p))
+
+-- "held from its spawn until its last action is done"
+unfoldable pub living : Plan → List ℕ → ℕ → Bool
+unfolding spawned
+living p next j = both (spawned p next j) (ltb (getD next j 0) (size p j))
+
+-- the frames of those jobs, of the ones from job j on, that a test holds of
+abbrev pub frames : (ℕ → Bool) → ℕ → List Job → ℕ
+frames f j [] = 0
+frames f j (b ∷ bs) = elim (f j) [ true ↦ b .frame + frames f (suc j) bs | false ↦ frames f (suc j) bs ]
+
+unfoldable pub weight : Plan → List ℕ → ℕ
+unfolding living
+weight p next = frames (living p next) 0 p
+
+-- 1. "If the action sends a join and this was the last one missing to a stalled parent": the parent's next action was not
+-- ready before the action, and is after it
+unfoldable pub wakes : Plan → List ℕ → List ℕ → ℕ → ℕ → Bool
+unfolding ready parent
+wakes p before after j i =
+    elim (action p j i .join) [ zero ↦ false | suc t ↦ both (not (ready p before (parent p j))) (ready p after (parent p j)) ]
+
+-- "the parent goes on the bottom of this worker's deque"
+abbrev pub woken : Bool → ℕ → List ℕ → List ℕ
+woken true q d = q ∷ d
+woken false q d = d
+
+pub record Seat : Type 0 where
+  pub worker : Worker
+  pub deque : List ℕ
+
+-- "the worker takes the bottom job of its own deque, or has none"
+abbrev pub takeBottom : List ℕ → Seat
+takeBottom [] = record { worker = Idle; deque = [] }
+takeBottom (j ∷ d) = record { worker = Holding j; deque = d }
+
+-- 2. "If it spawned, the spawner goes on the bottom and the worker holds the child."
+-- 3. "If it ended, or its next action is not ready (it stalls), the worker takes the bottom job of its own deque, or has none."
+unfoldable pub seatAfter : Plan → List ℕ → ℕ → ℕ → List ℕ → Seat
+unfolding ready
+seatAfter p after j i d =
+    elim (action p j i .spawn) [
+      | suc c ↦ record { worker = Holding c; deque = j ∷ d }
+      | zero ↦ elim (both (ltb (suc i) (size p j)) (ready p after j)) [ true ↦ record { worker = Holding j; deque = d } | false ↦ takeBottom d ]
+    ]
+
+unfoldable pub turn : Plan → ℕ → ℕ → ℕ → State → State
+unfolding weight wakes seatAfter parent
+turn p r w j s =
+    let i = nextOf s j in
+    let after = set (s .next) j (suc i) in
+    let seat = seatAfter p after j i (woken (wakes p (s .next) after j i) (parent p j) (dequeOf s w)) in
+    let t = s .tally in
+    record {
+      next = after;
+      workers = set (s .workers) w (seat .worker);
+      deques = set (s .deques) w (seat .deque);
+      rows = set (s .rows) (place p j i) (record { round = r; worker = w });
+      tally = record {
+        rounds = r;
+        actions = suc (t .actions);
+        idle = t .idle;
+        requests = t .requests;
+        steals = t .steals;
+        misses = t .misses;
+        peak = max (t .peak) (weight p after);
+      };
+    }
+
+-- "Idle turns are turns of workers that held nothing when the round began."
+unfoldable pub idled : ℕ → State → State
+idled r s =
+    let t = s .tally in
+    record {
+      next = s .next;
+      workers = s .workers;
+      deques = s .deques;
+      rows = s .rows;
+      tally = record {
+        rounds = r;
+        actions = t .actions;
+        idle = suc (t .idle);
+        requests = t .requests;
+        steals = t .steals;
+        misses = t .misses;
+        peak = t .peak;
+      };
+    }
+
+unfoldable pub turnOf : Plan → ℕ → ℕ → Worker → State → State
+unfolding turn idled
+turnOf p r w Idle s = idled r s
+turnOf p r w (Holding j) s = turn p r w j s
+turnOf p r w (Waiting v l) s = idled r s
+
+-- "First half: each worker that held a job when the round began takes a turn, in rising number."
+unfoldable pub turns : Plan → ℕ → ℕ → List Worker → State → State
+unfolding turnOf
+turns p r zero began s = s
+turns p r (suc k) began s = turnOf p r k (getD began k Idle) (turns p r k began s)
+
+abbrev pub afterOf : State → ℕ → List ℕ
+afterOf s j = set (s .next) j (suc (nextOf s j))
+
+abbrev pub aboveOf : Plan → State → ℕ → ℕ → List ℕ
+aboveOf p s w j = woken (wakes p (s .next) (afterOf s j) j (nextOf s j)) (parent p j) (dequeOf s w)

@@ -1,0 +1,140 @@
+-- The halves of a round: the second one leaves the actions and the rows, and whether it comes is one test on the arrays. A round is
+-- its turns, or those and a second half.
+-- Assumes nothing.
+use Prim.Native.Nat.{ℕ, zero, suc, _+_, _≤_}
+use mathlib.Core.Path.{_≡_, refl, sym, ap, _∙_}
+use mathlib.Core.Logic.{_≢_}
+use mathlib.Core.Bool.{true, false}
+use mathlib.Core.List.{List}
+use native.Mathlib.Nat.{le-refl, zero-add}
+use native.Mathlib.Omega.{arith}
+use borrow.Author.Tests.{le-leb, lt-leb}
+use lib.ListN.{getD}
+use Rattle.plan.specs.Plan.{Plan, size}
+use Rattle.plan.proofs.Laws.Valid.{jobs-range}
+use Rattle.plan.proofs.Laws.Placed.{first-at, start-suc}
+use Rattle.scheduler.specs.declared.crew.Crew.{Crew}
+use Rattle.runs.specs.declared.worker.Worker.{Worker}
+use Rattle.runs.specs.declared.worker.Worker.the-variants.{Idle, Holding, Waiting}
+use Rattle.runs.specs.State.{State, nextOf}
+use Rattle.runs.specs.Turn.{turns}
+use Rattle.runs.specs.Steal.{laid, lay, lays, oldest, serves}
+use Rattle.runs.specs.Run.{ended, round}
+use Rattle.runs.specs.Trace.{Stage, turning, laying, goes-on}
+use Rattle.scheduler.specs.Machine.{Planned, Progressed, Dequed, Manned, InRun, Machine}
+use Rattle.runs.proofs.Laws.Rounds.{rounds-known}
+use Rattle.runs.proofs.Laws.Rows.{lay-still, serve-still}
+use Rattle.runs.proofs.Laws.Whole.{round-last, round-on}
+use Rattle.scheduler.proofs.Laws.Running.{run-sound, run-at, run-turns}
+
+lays-still : (choices : List ℕ) (r k : ℕ) (b : List Worker) (s : State)
+    → (lays choices r k b s .next ≡ s .next) × (lays choices r k b s .rows ≡ s .rows)
+unfolding lays
+lays-still choices r zero b s = (refl, refl)
+lays-still choices r (suc k) b s =
+    let (e, f) = lay-still choices r k (getD b k Idle) (lays choices r k b s) in
+    let (g, h) = lays-still choices r k b s in
+    (e ∙ g, f ∙ h)
+
+serves-still : (n k : ℕ) (s : State) → (serves n k s .next ≡ s .next) × (serves n k s .rows ≡ s .rows)
+unfolding serves
+serves-still n zero s = (refl, refl)
+serves-still n (suc k) s =
+    let t = serves n k s in
+    let (e, f) = serve-still k (oldest k n (t .workers) .who) t in
+    let (g, h) = serves-still n k s in
+    (e ∙ g, f ∙ h)
+
+-- the second half leaves the actions and the rows
+second-still : (n : ℕ) (choices : List ℕ) (r : ℕ) (b : List Worker) (s : State)
+    → (serves n n (lays choices r n b s) .next ≡ s .next) × (serves n n (lays choices r n b s) .rows ≡ s .rows)
+second-still n choices r b s =
+    let (e, f) = serves-still n n (lays choices r n b s) in
+    let (g, h) = lays-still choices r n b s in
+    (e ∙ g, f ∙ h)
+
+lay-deques : (choices : List ℕ) (r w : ℕ) (x : Worker) (s : State) → lay choices r w x s .deques ≡ s .deques
+unfolding lay laid
+lay-deques choices r w Idle s = refl
+lay-deques choices r w (Holding j) s = refl
+lay-deques choices r w (Waiting v l) s = refl
+
+-- requests leave the deques
+pub lays-deques : (choices : List ℕ) (r k : ℕ) (b : List Worker) (s : State) → lays choices r k b s .deques ≡ s .deques
+unfolding lays
+lays-deques choices r zero b s = refl
+lays-deques choices r (suc k) b s = lay-deques choices r k (getD b k Idle) (lays choices r k b s) ∙ lays-deques choices r k b s
+
+-- what stands for a state stands for one with the same actions and rows, with another crew and other deques
+machine-rests : (p : Plan) (s t : State) (c c′ : Crew) (rows next missing slots top len top′ len′ : List ℕ)
+    → Machine p s c rows next missing slots top len → t .next ≡ s .next → t .rows ≡ s .rows → Manned p t c′
+    → Dequed (t .deques) slots top′ len′ → Machine p t c′ rows next missing slots top′ len′
+machine-rests p s t c c′ rows next missing slots top len top′ len′ m e f manned dequed = record {
+  manned = manned;
+  printed = record {
+    room = m .printed .room;
+    high = λ j i h l. rw f (m .printed .high j i h (rw e at l));
+    down = λ j i h l. rw f (m .printed .down j i h (rw e at l));
+  };
+  progressed = rw e (m .progressed);
+  dequed = dequed;
+}
+
+-- job 0 has ended where its next place is the first of job 1
+module _ {p : Plan} {n : ℕ} {choices : List ℕ} {r : ℕ} {b : List Worker} {g : Stage} {s : State} (run : InRun p n choices r b g s)
+    {frame first spawn join parent next missing : List ℕ} (planned : Planned p frame first spawn join parent)
+    (progressed : Progressed p (s .next) next missing) where
+  last-place : (getD next 0 0 ≡ nextOf s 0) × (getD first 1 0 ≡ size p 0) × (nextOf s 0 ≤ size p 0)
+  last-place =
+      let some = jobs-range p (run .accepted) .0 in (
+        progressed .nexts 0 some,
+        first-at p first (planned .firsts) 1 some ∙ (start-suc p 0 some ∙ zero-add (size p 0)),
+        run-sound run .good .bound 0 some,
+      )
+
+  ended-there : getD next 0 0 ≡ getD first 1 0 → ended p s ≡ true
+  ended-there e = let (a, f, l) = last-place in le-leb (size p 0) (nextOf s 0) (omega arith)
+
+  ended-not : getD next 0 0 ≢ getD first 1 0 → ended p s ≡ false
+  ended-not d =
+      let (a, f, l) = last-place in
+      let ne : nextOf s 0 ≢ size p 0 = λ q. d (a ∙ (q ∙ sym f)) in
+      lt-leb (size p 0) (nextOf s 0) (omega arith)
+
+module _ {p : Plan} {n : ℕ} {choices : List ℕ} {r : ℕ} {s : State} {c : Crew} (run : InRun p n choices r (s .workers) (turning 0) s)
+    (manned : Manned p s c) where
+  round-counted : suc (s .tally .rounds) ≡ c .tally .rounds + 1
+  round-counted = omega (arith, ap (λ t. t .rounds) (manned .counts))
+
+  -- the round that begins is the one after those that the tally counts
+  pub round-now : InRun p n choices (c .tally .rounds + 1) (s .workers) (turning 0) s
+  round-now =
+      let known : c .tally .rounds + 1 ≡ r =
+      omega (arith, round-counted, rounds-known p (run .accepted) n (run .some) (run .most) choices (run .trace)) in
+      rw known run
+
+  -- the round after the turns of its first half
+  module _ {frame first spawn join parent rows next missing slots top len : List ℕ} {c′ : Crew}
+      (planned : Planned p frame first spawn join parent)
+      (half : Machine p (turns p (c .tally .rounds + 1) n (s .workers) s) c′ rows next missing slots top len) where
+    pub round-ends : getD next 0 0 ≡ getD first 1 0 → Machine p (round p n choices s) c′ rows next missing slots top len
+    round-ends e =
+        let last = ended-there (run-turns round-now n (le-refl n)) planned (half .progressed) e in
+        rw (round-last p n choices (c .tally .rounds + 1) s round-counted last) half
+
+    module _ (more : getD next 0 0 ≢ getD first 1 0) where
+      pub round-lays : InRun p n choices (c .tally .rounds + 1) (s .workers) (laying 0) (turns p (c .tally .rounds + 1) n (s .workers) s)
+      round-lays =
+          let turned = run-turns round-now n (le-refl n) in
+          run-at turned (goes-on (turned .trace) (ended-not turned planned (half .progressed) more))
+
+      pub round-serves : {c″ : Crew} {top′ len′ : List ℕ}
+          → Manned p (serves n n (lays choices (c .tally .rounds + 1) n (s .workers) (turns p (c .tally .rounds + 1) n (s .workers) s))) c″
+          → Dequed (serves n n (lays choices (c .tally .rounds + 1) n (s .workers) (turns p (c .tally .rounds + 1) n (s .workers) s)) .deques)
+          slots top′ len′
+          → Machine p (round p n choices s) c″ rows next missing slots top′ len′
+      round-serves crew deques =
+          let turned = run-turns round-now n (le-refl n) in
+          let (e, f) = second-still n choices (c .tally .rounds + 1) (s .workers) (turns p (c .tally .rounds + 1) n (s .workers) s) in
+          rw (round-on p n choices (c .tally .rounds + 1) s round-counted (ended-not turned planned (half .progressed) more))
+          (machine-rests p _ _ _ _ _ _ _ _ _ _ _ _ half e f crew deques)

@@ -1,0 +1,77 @@
+-- What the runner has written is the schedule of the run.
+-- Assumes nothing.
+use Prim.Native.Nat.{ℕ, zero, suc, _+_, _*_, _/_, _%_, _≤_, _<_}
+use mathlib.Core.Path.{_≡_, refl, sym, ap, ap₂, _∙_}
+use mathlib.Core.List.{List, [], _∷_, _++_, append-assoc}
+use native.Mathlib.Omega.{arith}
+use lib.ListN.{length, getD, take, drop, take-append-drop}
+use lib.Seq.{drop-drop}
+use Rattle.plan.specs.Plan.{Plan, work}
+use Rattle.plan.specs.Rules.{Accepted}
+use Rattle.plan.proofs.Laws.Placed.{locate}
+use Rattle.plan.proofs.Laws.Valid.{work-range}
+use Rattle.runs.specs.State.{Row, noRow, nextOf}
+use Rattle.runs.specs.Run.{run}
+use Rattle.runs.specs.Schedule.{scheduleBytes}
+use Rattle.scheduler.specs.Machine.{Printed, Kept}
+use Rattle.scheduler.specs.Header.{headerBytes}
+use Rattle.runs.proofs.Laws.Rows.{rows-length}
+use Rattle.runs.proofs.Laws.Order.{run-row}
+use Rattle.runs.proofs.Laws.OwnSchedule.{schedule-length}
+use Rattle.runs.proofs.Laws.Whole.{run-trace, round-most, run-done}
+use Rattle.scheduler.proofs.Laws.ScheduleBytes.{rowBytes, Narrow, schedule-bytes}
+
+-- bytes that hold each row at its place begin with the rows' bytes
+rows-written : (rows : List Row) (bytes : List ℕ) → 2 * length rows ≤ length bytes
+    → ((k : ℕ) → k < length rows → (getD bytes (2 * k) 0 ≡ getD rows k noRow .round / 16)
+    × (getD bytes (2 * k + 1) 0 ≡ getD rows k noRow .round % 16 * 16 + getD rows k noRow .worker))
+    → take (2 * length rows) bytes ≡ rowBytes rows
+rows-written [] bytes h f = refl
+rows-written (a ∷ rows) [] h f = absurd (omega arith)
+rows-written (a ∷ rows) (x ∷ []) h f = absurd (omega arith)
+rows-written (a ∷ rows) (x ∷ (y ∷ bytes)) h f =
+    let all = x ∷ (y ∷ bytes) in
+    let (u, v) = f 0 (omega arith) in
+    let long : 2 * suc (length rows) ≡ suc (suc (2 * length rows)) = omega arith in
+    let rest = rows-written rows bytes (omega arith) (λ k l.
+    let (s, t) = f (suc k) (omega arith) in
+    let even : suc (suc (2 * k)) ≡ 2 * suc k = omega arith in
+    let odd : suc (suc (2 * k + 1)) ≡ 2 * suc k + 1 = omega arith in
+    (ap (λ m. getD all m 0) even ∙ s, ap (λ m. getD all m 0) odd ∙ t)) in
+    ap (λ m. take m all) long ∙ ap₂ (λ (z : ℕ) (l : List ℕ). z ∷ l) u (ap₂ (λ (z : ℕ) (l : List ℕ). z ∷ l) v rest)
+
+module _ (p : Plan) (ok : Accepted p) (n : ℕ) (some : 1 ≤ n) (most : n ≤ 16) (choices : List ℕ) where
+  abbrev rows : List Row
+  rows = run p n choices .rows
+
+  pub run-long : length rows ≡ work p
+  run-long = let (r, b, t, e, q) = run-trace p ok n some most choices in rows-length p ok n some most choices t
+
+  run-narrow : Narrow rows
+  run-narrow k h =
+      let (r, b, t, e, q) = run-trace p ok n some most choices in
+      let d = run-row p ok n some most choices t e k (omega (arith, run-long)) in
+      (omega (arith, d .latest, round-most p ok n some most choices t, work-range p ok), omega (arith, d .known))
+
+  run-printed : (bytes : List ℕ) → Printed p (run p n choices) bytes → take (2 * work p) bytes ≡ rowBytes rows
+  run-printed bytes q =
+      rw (← run-long) (rows-written rows bytes (omega (arith, run-long, q .room)) (λ k h.
+      let l = locate p k (omega (arith, run-long)) in
+      let i : l .position < nextOf (run p n choices) (l .job) = omega (arith, run-done p ok n some most choices (l .job) (l .known), l .within) in
+      (rw (l .place) (q .high (l .job) (l .position) (l .known) i), rw (l .place) (q .down (l .job) (l .position) (l .known) i))))
+
+  pub run-bytes : scheduleBytes n rows ≡ headerBytes n (work p) ++ rowBytes rows
+  run-bytes =
+      rw (← run-long) (schedule-bytes n rows most (omega (arith, run-long, work-range p ok)) run-narrow)
+
+  pub run-fits : length (scheduleBytes n rows) ≡ 4 + 2 * work p
+  run-fits = schedule-length n rows ∙ ap (λ k. 4 + 2 * k) run-long
+
+  -- the header, the rows, and what stood behind them
+  pub run-written : (before after : List ℕ) → Printed p (run p n choices) after → Kept p (drop 4 before) after
+      → headerBytes n (work p) ++ after ≡ scheduleBytes n rows ++ drop (length (scheduleBytes n rows)) before
+  run-written before after q k =
+      let e : after ≡ rowBytes rows ++ drop (length (scheduleBytes n rows)) before =
+      sym (take-append-drop (2 * work p) after)
+      ∙ ap₂ _++_ (run-printed after q) (k .1 ∙ (drop-drop (2 * work p) 4 before ∙ ap (λ m. drop m before) (sym run-fits))) in
+      ap (λ l. headerBytes n (work p) ++ l) e ∙ ap (λ l. l ++ drop (length (scheduleBytes n rows)) before) (sym run-bytes)

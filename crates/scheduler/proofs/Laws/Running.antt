@@ -1,0 +1,53 @@
+-- What a state of a run gives at a glance: its sixteen workers, its small counts, and a choice for each request.
+-- Assumes nothing.
+use Prim.Native.Nat.{ℕ, _≤_, _<_}
+use mathlib.Core.Path.{_≡_}
+use mathlib.Core.List.{List}
+use native.Mathlib.Omega.{arith}
+use lib.ListN.{length, getD}
+use Rattle.plan.specs.Plan.{Plan}
+use Rattle.runs.specs.declared.worker.Worker.{Worker}
+use Rattle.runs.specs.declared.worker.Worker.the-variants.{Idle}
+use Rattle.runs.specs.State.{State}
+use Rattle.runs.specs.Turn.{turns}
+use Rattle.runs.specs.Steal.{lays, serves}
+use Rattle.runs.specs.Trace.{Stage, turning, laying, serving, Trace}
+use Rattle.scheduler.specs.Machine.{InRun}
+use Rattle.scheduler.specs.Requests.{Victims}
+use Rattle.runs.proofs.Laws.Lined.{Sound}
+use Rattle.runs.proofs.Laws.Sound.{trace-sound}
+use Rattle.runs.proofs.Laws.Waiting.{idle-unheld}
+use Rattle.runs.proofs.Laws.Victims.{victim-below, laid-choices}
+use Rattle.runs.proofs.Laws.Whole.{counts-small, turns-trace, lays-trace, serves-trace}
+
+module _ {p : Plan} {n : ℕ} {choices : List ℕ} {r : ℕ} {b : List Worker} {g : Stage} {s : State} (run : InRun p n choices r b g s) where
+  pub run-sound : Sound p n s
+  run-sound = trace-sound p (run .accepted) n (run .some) (run .most) choices (run .trace)
+
+  pub run-counts : (r ≤ 2048) × (s .tally .rounds ≤ r) × (s .tally .actions ≤ 2048) × (s .tally .idle ≤ 32768)
+      × (s .tally .requests ≤ 32768) × (s .tally .steals ≤ 32768) × (s .tally .misses ≤ 32768)
+  run-counts = counts-small p (run .accepted) n (run .some) (run .most) choices (run .trace)
+
+  -- a worker that was idle as the round began can choose
+  pub run-choices : (w : ℕ) → w < n → getD b w Idle ≡ Idle → 1 ≤ length choices
+  run-choices w h e =
+      laid-choices p (run .accepted) n (run .some) (run .most) choices (run .fit) (run .trace) w h (rw e idle-unheld)
+
+  pub run-victims : Victims (s .workers)
+  run-victims w v l e =
+      omega (arith, run .most, victim-below p (run .accepted) n (run .some) (run .most) choices (run .fit) (run .trace) w v l e .0)
+
+-- the same run at another stage of the same round
+pub run-at : {p : Plan} {n : ℕ} {choices : List ℕ} {r r′ : ℕ} {b b′ : List Worker} {g g′ : Stage} {s s′ : State} → InRun p n choices r b g s
+    → Trace p n choices r′ b′ g′ s′ → InRun p n choices r′ b′ g′ s′
+run-at run t = record { accepted = run .accepted; some = run .some; most = run .most; fit = run .fit; trace = t }
+
+module _ {p : Plan} {n : ℕ} {choices : List ℕ} {r : ℕ} {b : List Worker} {s : State} where
+  pub run-turns : InRun p n choices r b (turning 0) s → (k : ℕ) → k ≤ n → InRun p n choices r b (turning k) (turns p r k b s)
+  run-turns run k h = run-at run (turns-trace p n choices (run .trace) k h)
+
+  pub run-lays : InRun p n choices r b (laying 0) s → (k : ℕ) → k ≤ n → InRun p n choices r b (laying k) (lays choices r k b s)
+  run-lays run k h = run-at run (lays-trace p n choices (run .trace) k h)
+
+  pub run-serves : InRun p n choices r b (serving 0) s → (k : ℕ) → k ≤ n → InRun p n choices r b (serving k) (serves n k s)
+  run-serves run k h = run-at run (serves-trace p n choices (run .trace) k h)

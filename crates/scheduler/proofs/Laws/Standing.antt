@@ -1,0 +1,107 @@
+-- The runner's arrays from round to round.
+--   Standing == the arrays stand for a state of the run as a round begins, or for its end, and the bytes behind the rows are as they were
+-- Assumes nothing.
+use Prim.Native.Nat.{ℕ, _+_, _-_, _*_, _≤_, _<_}
+use mathlib.Core.Path.{_≡_, refl, sym, ap, _∙_}
+use mathlib.Core.Bool.{true, false}
+use mathlib.Core.List.{List}
+use native.Mathlib.Omega.{arith}
+use lib.ListN.{length, getD, drop, replicate}
+use borrow.Author.Tests.{le-leb, lt-leb}
+use Rattle.plan.specs.Plan.{Plan, size, work}
+use Rattle.plan.proofs.Laws.Placed.{start-suc, first-at}
+use Rattle.plan.proofs.Laws.Valid.{jobs-range}
+use Rattle.scheduler.specs.declared.crew.Crew.{Crew}
+use Rattle.runs.specs.declared.tally.Tally.{Tally}
+use Rattle.runs.specs.State.{State, nextOf, start}
+use Rattle.runs.specs.Run.{ended, round, run}
+use Rattle.runs.specs.Trace.{turning}
+use Rattle.scheduler.specs.Machine.{Planned, Printed, InRun, Machine, Kept, RunGiven}
+use Rattle.scheduler.proofs.Laws.Underway.{
+  Underway,
+  Rounded,
+  underway-start,
+  underway-over,
+  underway-begun,
+  underway-round,
+}
+use Rattle.scheduler.proofs.Laws.Starting.{firstCrew, first-machine}
+
+pub record Standing (p : Plan) (n : ℕ) (choices : List ℕ) (c : Crew) (before rows next missing slots top len : List ℕ) : Type 0 where
+  pub state : State
+  pub underway : Underway p n choices state
+  pub machine : Machine p state c rows next missing slots top len
+  pub kept : Kept p before rows
+
+module _ (p : Plan) (n : ℕ) (choices frame first spawn join parent entering : List ℕ) (g : RunGiven p n choices frame first spawn join parent entering) where
+  pub first-stands : (weight : ℕ) (rows : List ℕ) → weight ≡ getD frame 0 0 → length entering ≡ 2048 → 2 * work p ≤ length rows
+      → Standing p n choices (firstCrew weight) rows rows (replicate 256 0) entering (replicate 4096 0) (replicate 16 0) (replicate 16 0)
+  first-stands weight rows e long room =
+      record {
+        state = start p;
+        underway = underway-start p n choices;
+        machine = first-machine p n choices frame first spawn join parent entering g weight rows e long room;
+        kept = (refl, refl);
+      }
+
+  module _ (c : Crew) (before rows next missing slots top len : List ℕ) (z : Standing p n choices c before rows next missing slots top len) where
+    abbrev s : State
+    s = z .state
+
+    -- the loop's test tells whether job 0 has ended
+    tested : (getD first 1 0 ≡ size p 0) × (getD next 0 0 ≡ nextOf s 0)
+    tested =
+        let some = jobs-range p (g .planned .accepted) .0 in
+        (first-at p first (g .planned .firsts) 1 some ∙ (start-suc p 0 some ∙ omega arith), z .machine .progressed .nexts 0 some)
+
+    goes-on : getD next 0 0 < getD first 1 0 → ended p s ≡ false
+    goes-on h = lt-leb (size p 0) (nextOf s 0) (omega (arith, tested))
+
+    has-ended : getD first 1 0 ≤ getD next 0 0 → ended p s ≡ true
+    has-ended h = le-leb (size p 0) (nextOf s 0) (omega (arith, tested))
+
+    -- what the run leaves
+    pub ends : getD first 1 0 ≤ getD next 0 0
+        → (c .tally ≡ run p n choices .tally) × Printed p (run p n choices) rows × Kept p before rows
+    ends h =
+        let e : run p n choices ≡ s = underway-over p n choices s (z .underway) (has-ended h) in
+        (rw e (z .machine .manned .counts), rw e (z .machine .printed), z .kept)
+
+    module _ (test : getD next 0 0 < getD first 1 0) where
+      h : ended p s ≡ false
+      h = goes-on test
+
+      in-run : (r : ℕ) × InRun p n choices r (s .workers) (turning 0) s
+      in-run =
+          let (r, t) = underway-begun p n choices s (z .underway) h in
+          (r, record { accepted = g .planned .accepted; some = g .some; most = g .most; fit = g .fit; trace = t })
+
+      -- what a round is given
+      pub round-given : (p : Plan) × (r : ℕ) × (s : State) × InRun p n choices r (s .workers) (turning 0) s
+          × Planned p frame first spawn join parent × Machine p s c rows next missing slots top len × (ended p s ≡ false)
+      round-given = let (r, i) = in-run in (p, r, s, i, g .planned, z .machine, h)
+
+      rounded : Rounded p n choices s
+      rounded = underway-round p (g .planned .accepted) n (g .some) (g .most) choices s (z .underway) h
+
+      module _ (c′ : Crew) (rows′ next′ missing′ slots′ top′ len′ : List ℕ)
+          (m : (p : Plan) (r : ℕ) (s : State) → InRun p n choices r (s .workers) (turning 0) s → Planned p frame first spawn join parent
+          → Machine p s c rows next missing slots top len → ended p s ≡ false
+          → Machine p (round p n choices s) c′ rows′ next′ missing′ slots′ top′ len′ × Kept p rows rows′) where
+        -- and leaves
+        left : Machine p (round p n choices s) c′ rows′ next′ missing′ slots′ top′ len′ × Kept p rows rows′
+        left = let (r, i) = in-run in m p r s i (g .planned) (z .machine) h
+
+        pub round-stands : Standing p n choices c′ before rows′ next′ missing′ slots′ top′ len′
+        round-stands =
+            record {
+              state = round p n choices s;
+              underway = rounded .underway;
+              machine = left .0;
+              kept = (left .1 .0 ∙ z .kept .0, left .1 .1 ∙ z .kept .1);
+            }
+
+        pub round-less : 2048 - c′ .tally .rounds < 2048 - c .tally .rounds
+        round-less =
+            let count : Tally → ℕ = λ t. t .rounds in
+            omega (arith, ap count (z .machine .manned .counts), ap count (left .0 .manned .counts), rounded .counted, rounded .few)

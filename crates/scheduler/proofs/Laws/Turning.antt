@@ -1,0 +1,209 @@
+-- What a worker's turn does to the runner's arrays: one row is written, one seat and the counts change.
+--   Ahead p r w j s == what is known where worker w, which holds job j, is about to act in round r
+--   written         == the bytes after the row of the action at place k is written
+-- Assumes nothing.
+use Prim.Native.Nat.{ℕ, _+_, _*_, _/_, _%_, _≤_, _<_, max}
+use mathlib.Core.Path.{_≡_, refl, ap, sym, _∙_}
+use mathlib.Core.Logic.{_≢_, ⊎-elim, by-cases}
+use mathlib.Core.List.{List}
+use native.Mathlib.Numerals.{add-one}
+use native.Mathlib.Omega.{arith}
+use native.Mathlib.Nat.{le-refl}
+use native.Mathlib.Decide.{ℕ-discrete}
+use lib.ListN.{length, getD, set, length-set}
+use lib.Seq.{getD-set-same, getD-set-other, drop-set-lt}
+use Rattle.plan.specs.Plan.{Plan, size, work}
+use Rattle.plan.proofs.Laws.Valid.{jobs-range}
+use Rattle.plan.proofs.Laws.Placed.{place-below, first-at}
+use Rattle.scheduler.specs.declared.crew.Crew.{Crew}
+use Rattle.scheduler.specs.declared.turn.Turned.{Turned}
+use Rattle.runs.specs.declared.worker.Worker.{Worker}
+use Rattle.runs.specs.declared.worker.Worker.the-variants.{Idle, Holding}
+use Rattle.runs.specs.State.{State, nextOf, workerOf, place}
+use Rattle.runs.specs.Turn.{turn, idled, turns}
+use Rattle.runs.specs.Trace.{turning}
+use Rattle.scheduler.specs.Machine.{InRun, Planned, Machine, Manned, Printed, Seated, noSeat, Kept, Acting, Acted}
+use Rattle.runs.proofs.Laws.Sound.{trace-sound, trace-began, next-bound}
+use Rattle.runs.proofs.Laws.Rows.{place-apart, Acts, acted, turn-acts}
+use Rattle.runs.proofs.Laws.Whole.{counts-small, turns-trace}
+
+-- the bytes of a row, and those of others
+abbrev pub written : List ℕ → ℕ → ℕ → ℕ → List ℕ
+written rows k r w = set (set rows (2 * k) (r / 16)) (2 * k + 1) (r % 16 * 16 + w)
+
+module _ (rows : List ℕ) (k r w : ℕ) where
+  written-length : length (written rows k r w) ≡ length rows
+  written-length = simp length-set
+
+  written-high : 2 * k + 1 < length rows → getD (written rows k r w) (2 * k) 0 ≡ r / 16
+  written-high h =
+      getD-set-other (set rows (2 * k) (r / 16)) (2 * k + 1) (2 * k) (r % 16 * 16 + w) 0 (λ e. omega arith)
+      ∙ getD-set-same rows (2 * k) (r / 16) 0 (omega arith)
+
+  written-down : 2 * k + 1 < length rows → getD (written rows k r w) (2 * k + 1) 0 ≡ r % 16 * 16 + w
+  written-down h =
+      getD-set-same (set rows (2 * k) (r / 16)) (2 * k + 1) (r % 16 * 16 + w) 0 (omega (arith, length-set rows (2 * k) (r / 16)))
+
+  written-other : (x : ℕ) → x ≢ 2 * k → x ≢ 2 * k + 1 → getD (written rows k r w) x 0 ≡ getD rows x 0
+  written-other x f g =
+      getD-set-other (set rows (2 * k) (r / 16)) (2 * k + 1) x (r % 16 * 16 + w) 0 g ∙ getD-set-other rows (2 * k) x (r / 16) 0 f
+
+  written-kept : (p : Plan) → k < work p → Kept p rows (written rows k r w)
+  written-kept p h = (
+    written-length,
+    drop-set-lt (2 * work p) (set rows (2 * k) (r / 16)) (2 * k + 1) (r % 16 * 16 + w) (omega arith)
+        ∙ drop-set-lt (2 * work p) rows (2 * k) (r / 16) (omega arith),
+  )
+
+-- the rows after an action
+acts-printed : (p : Plan) (r w j : ℕ) (s s′ : State) (rows : List ℕ) → Acts p r w j s s′
+    → ((h : ℕ) → h < length p → nextOf s h ≤ size p h) → place p j (nextOf s j) < work p → Printed p s rows
+    → Printed p s′ (written rows (place p j (nextOf s j)) r w)
+acts-printed p r w j s s′ rows a bound within printed = record {
+  room = omega (arith, written-length rows k r w, printed .room);
+  high = λ h i l m.
+      ⊎-elim
+      (λ e. rw (e .0, e .1, a .writes) (written-high rows k r w fits))
+      (λ e. rw (e .1)
+      (written-other rows k r w (2 * place p h i) (λ q. apart h i l (e .0) (omega arith)) (λ q. omega arith) ∙ printed .high h i l (e .0)))
+      (acted p r w j s s′ a bound h i l m);
+  down = λ h i l m.
+      ⊎-elim
+      (λ e. rw (e .0, e .1, a .writes) (written-down rows k r w fits))
+      (λ e. rw (e .1)
+      (written-other rows k r w (2 * place p h i + 1) (λ q. omega arith) (λ q. apart h i l (e .0) (omega arith)) ∙ printed .down h i l (e .0)))
+      (acted p r w j s s′ a bound h i l m);
+}
+  where
+    k : ℕ
+    k = place p j (nextOf s j)
+
+    fits : 2 * k + 1 < length rows
+    fits = omega (arith, printed .room)
+
+    apart : (h i : ℕ) → h < length p → i < nextOf s h → place p h i ≢ k
+    apart h i l m e =
+        let q = place-apart p h i j (nextOf s j) l (omega (arith, bound h l)) (a .known) (a .left) e in omega (arith, ap (nextOf s) (q .0), q .1)
+
+-- the seats after a store
+seated-set : (ws ws′ : List Worker) (c : Crew) (w : ℕ) (x : Worker) → w < 16 → x ≡ getD ws′ w Idle
+    → ((v : ℕ) → v ≢ w → getD ws′ v Idle ≡ getD ws v Idle) → Seated ws (c .seats) → Seated ws′ (set (c .seats) w (record { is = x }))
+seated-set ws ws′ c w x h e others seated = (length-set (c .seats) w (record { is = x }) ∙ seated .0, at)
+  where
+    at : (v : ℕ) → v < 16 → getD (set (c .seats) w (record { is = x })) v noSeat .is ≡ getD ws′ v Idle
+    at v l =
+        by-cases (ℕ-discrete v w)
+        (λ q. rw q (ap (λ t. t .is) (getD-set-same (c .seats) w (record { is = x }) noSeat (omega (arith, seated .0))) ∙ e))
+        (λ f. ap (λ t. t .is) (getD-set-other (c .seats) w v (record { is = x }) noSeat f) ∙ (seated .1 v l ∙ sym (others v f)))
+
+pub record Ahead (p : Plan) (r w j : ℕ) (s : State) : Type 0 where
+  pub known : j < length p
+  pub small : j < 256
+  pub within : place p j (nextOf s j) < work p
+  pub early : r ≤ 2048
+  pub few : s .tally .actions ≤ 2048
+  pub bound : (h : ℕ) → h < length p → nextOf s h ≤ size p h
+  pub acts : Acts p r w j s (turn p r w j s)
+
+module _ (p : Plan) (n : ℕ) (choices : List ℕ) (r w : ℕ) (b : List Worker) (s : State) (run : InRun p n choices r b (turning w) s) where
+  pub turning-small : (r ≤ 2048) × (s .tally .actions ≤ 2048) × (s .tally .idle ≤ 32768)
+  turning-small =
+      let q = counts-small p (run .accepted) n (run .some) (run .most) choices (run .trace) in (q .0, q .2, q .3)
+
+  -- what stands in the seat of a worker whose turn comes stood there as the round began
+  pub turning-seat : {c : Crew} {x : Worker} → w < n → Manned p s c → getD (c .seats) w noSeat .is ≡ x
+      → (workerOf s w ≡ x) × (getD b w Idle ≡ x)
+  turning-seat below manned e =
+      let q = sym (manned .seats .1 w (omega (arith, run .most))) ∙ e in
+      (q, sym (trace-began p (run .accepted) n (run .some) (run .most) choices (run .trace) w (le-refl w)) ∙ q)
+
+  module _ (j : ℕ) (holding : workerOf s w ≡ Holding j) where
+    pub turning-ahead : Ahead p r w j s
+    turning-ahead =
+        let ok = run .accepted in
+        let sound = trace-sound p ok n (run .some) (run .most) choices (run .trace) in
+        let acts = turn-acts p ok n (run .some) (run .most) s sound r w j holding in
+        record {
+          known = acts .known;
+          small = omega (arith, acts .known, jobs-range p ok);
+          within = place-below p j (nextOf s j) (acts .known) (acts .left);
+          early = turning-small .0;
+          few = turning-small .1;
+          bound = next-bound p ok n (run .some) (run .most) s sound;
+          acts = acts;
+        }
+
+    -- the worker is about to act: its job's next action stands where the arrays say
+    pub turning-acting : {c : Crew} {rows frame first spawn join parent next missing slots top len : List ℕ} (x y : ℕ)
+        → x ≡ getD first j 0 → y ≡ getD next j 0 → w < n → Planned p frame first spawn join parent
+        → Machine p s c rows next missing slots top len
+        → Acting p n choices r b s (x + y) j w (c .weight) frame first spawn join parent next missing slots top len
+    turning-acting {first = first} x y e f below planned machine =
+        let known = turning-ahead .known in
+        record {
+          run = run;
+          known = below;
+          holding = holding;
+          planned = planned;
+          progressed = machine .progressed;
+          dequed = machine .dequed;
+          here = omega (arith, first-at p first (planned .firsts) j (omega arith), machine .progressed .nexts j known);
+          weighed = machine .manned .weighs;
+        }
+
+    -- the arrays after the turn
+    pub turning-machine : (k : ℕ) → k ≡ place p j (nextOf s j) → (c : Crew) (rows next missing slots top len : List ℕ) (after : Turned)
+        (peak : ℕ) → peak ≡ max (c .tally .peak) (after .weight) → w < n → Manned p s c → Printed p s rows
+        → Acted p (turn p r w j s) w after next missing slots top len
+        → Machine p (turn p r w j s) (record {
+          seats = set (c .seats) w (record { is = after .worker });
+          weight = after .weight;
+          tally = record {
+            rounds = r;
+            actions = c .tally .actions + 1;
+            idle = c .tally .idle;
+            requests = c .tally .requests;
+            steals = c .tally .steals;
+            misses = c .tally .misses;
+            peak = peak;
+          };
+        }) (written rows k r w) next missing slots top len
+        × Kept p rows (written rows k r w)
+    unfolding turn
+    turning-machine k here c rows next missing slots top len after peak most below manned printed acted =
+        let ahead = turning-ahead in (
+          record {
+            manned = record {
+              seats = seated-set (s .workers) (turn p r w j s .workers) c w (after .worker) (omega (arith, run .most)) (acted .worker)
+                  (λ v f. getD-set-other (s .workers) w v _ Idle f) (manned .seats);
+              weighs = acted .weighed;
+              counts = rw (add-one, most, acted .weighed, manned .counts) refl;
+            };
+            printed = rw here (acts-printed p r w j s (turn p r w j s) rows (ahead .acts) (ahead .bound) (ahead .within) printed);
+            progressed = acted .progressed;
+            dequed = acted .dequed;
+          },
+          rw here (written-kept rows (place p j (nextOf s j)) r w p (ahead .within)),
+        )
+
+  -- the turn of a worker that holds nothing
+  pub idling-machine : {c c′ : Crew} {rows next missing slots top len : List ℕ} → Manned p (idled r s) c′
+      → Machine p s c rows next missing slots top len → Machine p (idled r s) c′ rows next missing slots top len
+  unfolding idled
+  idling-machine manned machine = record {
+    manned = manned;
+    printed = record { room = machine .printed .room; high = machine .printed .high; down = machine .printed .down };
+    progressed = machine .progressed;
+    dequed = machine .dequed;
+  }
+
+-- the states between the turns of a round
+pub turns-run : (p : Plan) (n : ℕ) (choices : List ℕ) (r : ℕ) (b : List Worker) (s : State) → InRun p n choices r b (turning 0) s → (k : ℕ) → k ≤ n
+    → InRun p n choices r b (turning k) (turns p r k b s)
+turns-run p n choices r b s run k h = record {
+  accepted = run .accepted;
+  some = run .some;
+  most = run .most;
+  fit = run .fit;
+  trace = turns-trace p n choices (run .trace) k h;
+}

@@ -1,0 +1,96 @@
+-- `turn::settle` meets its contract.
+-- Assumes nothing.
+use mathlib.Core.Path.{refl, ap, _∙_}
+use native.Mathlib.Omega.{arith}
+use borrow.Author.Needs.{needs}
+use Rattle.runs.specs.declared.worker.Worker.the-variants.{Holding}
+use Rattle.scheduler.proofs.Laws.Sending.{acting-room}
+use Rattle.scheduler.proofs.Laws.Settling.{settle-lighter, settle-ends, settle-room, settle-goes, settle-stalls}
+use Rattle.scheduler.proofs.turn.settle.Statement.{statement}
+use Rattle.scheduler.proofs.turn.settle.Tie as tie
+
+add-if1 : tie.Need-add-if1
+add-if1 c = omega (arith, acting-room (c .pre .7 .acting))
+
+add-wide16 : tie.Need-add-wide16
+add-wide16 c = omega (arith, acting-room (c .pre .7 .acting))
+
+mul-wide16 : tie.Need-mul-wide16
+mul-wide16 c = omega (arith, acting-room (c .pre .7 .acting))
+
+element-copy-out-wide16 : tie.Need-element-copy-out-wide16
+element-copy-out-wide16 c = omega (arith, acting-room (c .pre .7 .acting))
+
+wide16-requires : tie.Need-wide16-requires
+wide16-requires c κs = search needs
+
+take-bottom-requires : tie.Need-take-bottom-requires
+take-bottom-requires c κs =
+    let g = c .before .before .before .before .pre .7 in
+    (_, g .sent .dequed, acting-room (g .acting) .4)
+
+mul-units : tie.Need-mul-units
+mul-units c = omega (arith, acting-room (c .before .before .before .before .before .pre .7 .acting))
+
+element-copy-out-units : tie.Need-element-copy-out-units
+element-copy-out-units c = acting-room (c .before .before .before .before .before .pre .7 .acting) .0
+
+units-requires : tie.Need-units-requires
+units-requires c κs = search needs
+
+sub-t27 : tie.Need-sub-t27
+sub-t27 c =
+    let t = c .before .before .before .before in
+    omega (arith, c .units .ensures, settle-lighter (c .before .before .before .before .before .before .before .pre .7) (t .if1 .taken ∙ t .before .wide16 .ensures .0))
+
+returns : tie.Need-returns
+returns c p n choices r b s next g =
+    let t = c .before .before .before .before in
+    settle-ends g (t .if1 .taken ∙ t .before .wide16 .ensures .0) _ (omega (arith, c .units .ensures))
+    (c .before .before .take-bottom .ensures _ (g .sent .dequed))
+
+add-if2 : tie.Need-add-if2
+add-if2 c = omega (arith, acting-room (c .before .before .before .pre .7 .acting))
+
+element-copy-out-if2 : tie.Need-element-copy-out-if2
+element-copy-out-if2 c = settle-room (c .before .before .before .pre .7) (omega (arith, c .before .wide16 .ensures))
+
+narrow-requires : tie.Need-narrow-requires
+narrow-requires c κs = acting-room (c .before .before .before .before .before .pre .7 .acting) .0
+
+returns-2 : tie.Need-returns-2
+returns-2 c p n choices r b s next g =
+    let t = c .before .before .before in
+    settle-goes g (omega (arith, t .before .wide16 .ensures)) (c .before .if2 .taken) _ (ap Holding (c .narrow .ensures)) refl
+
+take-bottom-requires-2 : tie.Need-take-bottom-requires-2
+take-bottom-requires-2 c κs =
+    let g = c .before .before .before .before .before .before .pre .7 in
+    (_, g .sent .dequed, acting-room (g .acting) .4)
+
+returns-3 : tie.Need-returns-3
+returns-3 c p n choices r b s next g =
+    let t = c .before .before .before .before in
+    settle-stalls g (omega (arith, t .before .wide16 .ensures)) (omega arith) _ refl (c .take-bottom2 .ensures _ (g .sent .dequed))
+
+pub settle-spec : {M : Type 1} → statement M
+settle-spec =
+    tie.close
+    (tie.spec
+    add-if1
+    add-wide16
+    mul-wide16
+    element-copy-out-wide16
+    wide16-requires
+    take-bottom-requires
+    mul-units
+    element-copy-out-units
+    units-requires
+    sub-t27
+    returns
+    add-if2
+    element-copy-out-if2
+    narrow-requires
+    returns-2
+    take-bottom-requires-2
+    returns-3)

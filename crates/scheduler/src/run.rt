@@ -1,0 +1,164 @@
+// A whole run (document 01, "Worker and round").
+ghost use mathlib.Core.Path.{_≡_};
+ghost use Prim.Native.Nat.{_*_, _≤_, _<_};
+ghost use mathlib.Core.List.{_++_};
+ghost use lib.ListN.{length, drop};
+ghost use Rattle.plan.specs.Plan.{Plan, work};
+ghost use Rattle.runs.specs.Run.{run as runOfPlan, choicesFit};
+ghost use Rattle.scheduler.specs.Entry.{runInto, ranOf, Claimed};
+ghost use Rattle.scheduler.specs.Machine.{RunGiven, Printed, Kept};
+ghost use Rattle.scheduler.specs.Header.{headerBytes};
+use crate::crew::Crew;
+use crate::round::round;
+use plan::flat::Verdict;
+use plan::flat::wide8;
+use plan::flat::wide16;
+use plan::reader::read_plan;
+use plan::refusal::Refusal;
+use runs::tally::Tally;
+use runs::worker::Seat;
+use runs::worker::Worker;
+
+// The counts of a run, or why there was none.
+pub enum Ran {
+    Refused(Refusal),
+    Done(Tally),
+}
+
+fn units(x: u16) -> u32
+    ensures { λ r. ⌜ (r ≡ x) × (r < 65536) ⌝ }
+{
+    x as u32
+}
+
+fn rounds<'a>(
+    n: usize,
+    choices: &[u8],
+    rows: &mut [u8],
+    frame: &'a [u16; 256],
+    first: &'a [u16; 257],
+    spawn: &'a [u16; 2048],
+    join: &'a [u16; 2048],
+    parent: &'a [u8; 256],
+    entering: [u8; 2048],
+) -> Tally
+    requires { ⌜ ((p : Plan) × RunGiven p n (now choices) (now frame) (now first) (now spawn) (now join) (now parent) entering × (2 * work p ≤ length (now rows))) ⌝ }
+    ensures { λ t. ⌜ ((p : Plan) → RunGiven p n (now (choices .entry)) (now (frame .entry)) (now (first .entry)) (now (spawn .entry)) (now (join .entry)) (now (parent .entry)) entering → 2 * work p ≤ length (now (rows .entry)) → (t ≡ runOfPlan p n (now (choices .entry)) .tally) × Printed p (runOfPlan p n (now (choices .entry))) (now (rows .exit)) × Kept p (now (rows .entry)) (now (rows .exit))) ⌝ }
+{
+    let mut next = [0u8; 256];
+    let mut missing = entering;
+    let mut slots = [0u8; 4096];
+    let mut top = [0u16; 16];
+    let mut len = [0u16; 16];
+    let mut seats = [Seat { is: Worker::Idle }; 16];
+    seats[0] = Seat {
+        is: Worker::Holding(0),
+    };
+    let weight = units(frame[0]);
+    let mut c = Crew {
+        seats,
+        weight,
+        tally: Tally {
+            rounds: 0,
+            actions: 0,
+            idle: 0,
+            requests: 0,
+            steals: 0,
+            misses: 0,
+            peak: weight,
+        },
+    };
+    while wide8(next[0]) < wide16(first[1]) {
+        c = round(
+            c,
+            n,
+            choices,
+            rows,
+            frame,
+            first,
+            spawn,
+            join,
+            parent,
+            &mut next,
+            &mut missing,
+            &mut slots,
+            &mut top,
+            &mut len,
+        );
+    }
+    c.tally
+}
+
+// Every choice is below n, there are at most 4,096, and some where there is more than one worker.
+fn choices_fit(choices: &[u8], n: usize) -> bool
+    ensures { λ r. ⌜ r ≡ choicesFit n (now (choices .entry)) ⌝ }
+{
+    if 4096 < choices.len() {
+        return false;
+    }
+    if choices.len() == 0 {
+        return n <= 1;
+    }
+    let mut i = 0;
+    while i < choices.len() {
+        if n <= wide8(choices[i]) {
+            return false;
+        }
+        i += 1;
+    }
+    true
+}
+
+// The schedule's first four bytes.
+fn write_header(schedule: &mut [u8], n: usize, actions: usize)
+    requires { ⌜ (n ≤ 16) × (actions ≤ 2048) × (4 ≤ length (now schedule)) ⌝ }
+    ensures { λ r. ⌜ now (schedule .exit) ≡ headerBytes n actions ++ drop 4 (now (schedule .entry)) ⌝ }
+{
+    schedule[0] = 1;
+    schedule[1] = (n * 8 + actions / 512) as u8;
+    schedule[2] = (actions / 2 % 256) as u8;
+    schedule[3] = (actions % 2 * 128) as u8;
+}
+
+// Runs the plan that the bytes hold and writes its schedule.
+pub fn run(plan: &[u8], workers: u32, choices: &[u8], schedule: &mut [u8]) -> Ran
+    ensures { λ r. ⌜ record { answer = ranOf r; schedule = now (schedule .exit) } ≡ runInto (now (plan .entry)) workers (now (choices .entry)) (now (schedule .entry)) ⌝ }
+    ensures { λ r. ⌜ Claimed (now (plan .entry)) workers r (now (schedule .exit)) ⌝ }
+{
+    let read = read_plan(plan);
+    let verdict = read.verdict;
+    let flat = read.plan;
+    match verdict {
+        Verdict::Refused(cause) => Ran::Refused(cause),
+        Verdict::Accepted => {
+            if workers == 0 {
+                return Ran::Refused(Refusal::Workers);
+            }
+            if 16 < workers {
+                return Ran::Refused(Refusal::Workers);
+            }
+            let n = workers as usize;
+            if !choices_fit(choices, n) {
+                return Ran::Refused(Refusal::Choices);
+            }
+            let actions = flat.actions;
+            if schedule.len() < 4 + 2 * actions {
+                return Ran::Refused(Refusal::Short);
+            }
+            write_header(schedule, n, actions);
+            let entering = flat.entering;
+            let t = rounds(
+                n,
+                choices,
+                &mut schedule[4..],
+                &flat.frame,
+                &flat.first,
+                &flat.spawn,
+                &flat.join,
+                &flat.parent,
+                entering,
+            );
+            Ran::Done(t)
+        }
+    }
+}
