@@ -15,3 +15,4 @@ pub mod Standing
 pub mod Underway
 pub mod RunBytes
 pub mod RunAnswers
+pub mod Builds

@@ -1,5 +1,6 @@
 -- What a reader must believe of the entries: Entry. The others say what private functions are given and leave.
 pub mod Entry
+pub mod Build
 pub mod Machine
 pub mod TurnParts
 pub mod Requests

@@ -1,5 +1,6 @@
 // The upper library of the build runner: it runs plans and writes their schedules. What a run is stands in crate `runs`.
 // It relies on what the crates below promise, and cites their laws only. It assumes nothing.
+pub mod build;
 mod crew;
 mod deque;
 mod round;

@@ -1,0 +1,41 @@
+// Reads P, the choice count, the choices and a plan from standard input, runs the plan, and prints the counts of the run, or
+// the number of the refusal (document 01, "Cases"). The work is `scheduler::build::build`.
+use scheduler::build::Built;
+use scheduler::build::Counts;
+use scheduler::build::build;
+
+fn main() {
+    let mut input = [0u8; 8192];
+    let n = io::read_full(0, &mut input);
+    told(build(&input[..n]));
+}
+
+fn told(b: Built) {
+    match b {
+        Built::Refused(cause) => line(b"refused", wide(plan::refusal::number(cause))),
+        Built::Counted(c) => counts(c),
+    }
+}
+
+fn wide(x: u8) -> u32 {
+    x as u32
+}
+
+fn counts(c: Counts) {
+    line(b"rounds", c.rounds);
+    line(b"actions", c.actions);
+    line(b"longest", c.longest);
+    line(b"path", c.path);
+    line(b"peak", c.peak);
+    line(b"idle", c.idle);
+    line(b"requests", c.requests);
+    line(b"steals", c.steals);
+    line(b"misses", c.misses);
+}
+
+fn line(name: &[u8], value: u32) {
+    io::write_all(1, name);
+    io::write_all(1, b" ");
+    io::print_decimal(1, value as u64);
+    io::write_all(1, b"\n");
+}

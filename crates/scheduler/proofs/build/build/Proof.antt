@@ -1,0 +1,101 @@
+-- `build::build` meets its contract: each answer by the input's length and its choice count. Assumes nothing.
+use mathlib.Core.Path.{ap₂, _∙_}
+use Prim.Native.Nat.{_+_, _*_}
+use native.Mathlib.Omega.{arith}
+use Rattle.scheduler.proofs.Laws.Builds.{build-short, build-crowded, build-lacking, build-runs}
+use borrow.Author.Needs.{needs}
+use Rattle.scheduler.proofs.build.build.Statement.{statement}
+use Rattle.scheduler.proofs.build.build.Tie as tie
+
+returns : tie.Need-returns
+returns c = build-short _ (c .if1 .taken)
+
+shared-slice-read-wide8 : tie.Need-shared-slice-read-wide8
+shared-slice-read-wide8 c = search needs
+
+wide8-requires : tie.Need-wide8-requires
+wide8-requires c κs = search needs
+
+mul-count : tie.Need-mul-count
+mul-count c = search needs
+
+shared-slice-read-wide8-2 : tie.Need-shared-slice-read-wide8-2
+shared-slice-read-wide8-2 c = search needs
+
+wide8-requires-2 : tie.Need-wide8-requires-2
+wide8-requires-2 c κs = search needs
+
+add-count : tie.Need-add-count
+add-count c = search needs
+
+returns-2 : tie.Need-returns-2
+returns-2 c =
+    let f = c .before in
+    build-crowded _ _ (ap₂ (λ x y. x * 256 + y) (f .before .before .wide8 .ensures .0) (f .wide82 .ensures .0)) (omega arith) (c .if2 .taken)
+
+add-start : tie.Need-add-start
+add-start c = search needs
+
+returns-3 : tie.Need-returns-3
+returns-3 c =
+    let f = c .before .before in
+    build-lacking _ _ (ap₂ (λ x y. x * 256 + y) (f .before .before .wide8 .ensures .0) (f .wide82 .ensures .0)) (omega arith) (omega arith) (c .if3 .taken)
+
+shared-slice-read-units : tie.Need-shared-slice-read-units
+shared-slice-read-units c = search needs
+
+units-requires : tie.Need-units-requires
+units-requires c κs = search needs
+
+sub-run-plan : tie.Need-sub-run-plan
+sub-run-plan c = search needs
+
+part-run-plan-start : tie.Need-part-run-plan-start
+part-run-plan-start c = search needs
+
+part-run-plan-end : tie.Need-part-run-plan-end
+part-run-plan-end c = search needs
+
+sub-run-plan-2 : tie.Need-sub-run-plan-2
+sub-run-plan-2 c = search needs
+
+part-run-plan-start-2 : tie.Need-part-run-plan-start-2
+part-run-plan-start-2 c = search needs
+
+part-run-plan-end-2 : tie.Need-part-run-plan-end-2
+part-run-plan-end-2 c = search needs
+
+run-plan-requires : tie.Need-run-plan-requires
+run-plan-requires c κs = search needs
+
+returns-4 : tie.Need-returns-4
+returns-4 c =
+    let f = c .before .before .before .before .before .before .before in
+    c .run-plan .ensures
+    ∙ build-runs _ _ (ap₂ (λ x y. x * 256 + y) (f .before .before .wide8 .ensures .0) (f .wide82 .ensures .0)) (omega arith) (omega arith) _
+    (c .before .before .before .units .ensures) (omega arith)
+
+pub build-spec : {M : Type 1} → statement M
+build-spec =
+    tie.close
+    (tie.spec
+    returns
+    shared-slice-read-wide8
+    wide8-requires
+    mul-count
+    shared-slice-read-wide8-2
+    wide8-requires-2
+    add-count
+    returns-2
+    add-start
+    returns-3
+    shared-slice-read-units
+    units-requires
+    sub-run-plan
+    part-run-plan-start
+    part-run-plan-end
+    sub-run-plan-2
+    part-run-plan-start-2
+    part-run-plan-end-2
+    run-plan-requires
+    returns-4)

@@ -1,0 +1,65 @@
+-- What `buildrun` prints (document 01, "Cases"): "reads P (one byte), the choice count (two bytes, high first), the choices,
+-- and the plan that begins in the middle of its input".
+--   ranWith plan n choices == the nine counts of a run, or the refusal: 1 to 6, then 7, 8
+--   buildOf input          == "Before the plan is looked at, in this order: P or the count missing prints `refused 1`, a count
+--                             above 4,096 `refused 8` even if choices are missing too, missing choices `refused 1`."
+--   builtOf r              == the outcome that an answer stands for
+-- Assumes nothing.
+use Prim.Native.Nat.{ℕ, _+_, _*_, _-_}
+use mathlib.Core.Bool.{true, false}
+use mathlib.Core.List.{List}
+use lib.ListN.{length, getD, take, drop}
+use lib.Dec.{ltb}
+use Rattle.plan.specs.Refusal.{Outcome, refused, accepted, numberOf}
+use Rattle.plan.specs.Plan.{Plan}
+use Rattle.plan.specs.Reader.{readPlan}
+use Rattle.plan_measure.specs.Measure.{longest, heaviest}
+use Rattle.scheduler.specs.declared.build.Counts.{Counts}
+use Rattle.scheduler.specs.declared.build.Built.{Built}
+use Rattle.scheduler.specs.declared.build.Built.the-variants.{Refused, Counted}
+use Rattle.runs.specs.State.{State}
+use Rattle.runs.specs.Run.{runOf}
+
+unfoldable pub countsOf : Outcome Plan → Outcome State → Outcome Counts
+unfolding longest heaviest
+countsOf (refused k) o = refused k
+countsOf (accepted p) (refused k) = refused k
+countsOf (accepted p) (accepted s) =
+    let t = s .tally in
+    accepted (record {
+      rounds = t .rounds;
+      actions = t .actions;
+      longest = longest p;
+      path = heaviest p;
+      peak = t .peak;
+      idle = t .idle;
+      requests = t .requests;
+      steals = t .steals;
+      misses = t .misses;
+    })
+
+unfoldable pub ranWith : List ℕ → ℕ → List ℕ → Outcome Counts
+unfolding countsOf readPlan runOf
+ranWith plan n choices = countsOf (readPlan plan) (runOf plan n choices)
+
+-- the choice count, high byte first
+abbrev pub choiceCount : List ℕ → ℕ
+choiceCount input = getD input 1 0 * 256 + getD input 2 0
+
+unfoldable pub buildOf : List ℕ → Outcome Counts
+unfolding ranWith
+buildOf input =
+    elim (ltb (length input) 3) [
+      | true ↦ refused 1
+      | false ↦ elim (ltb 4096 (choiceCount input)) [
+        | true ↦ refused 8
+        | false ↦ elim (ltb (length input) (3 + choiceCount input)) [
+          | true ↦ refused 1
+          | false ↦ ranWith (drop (3 + choiceCount input) input) (getD input 0 0) (take (choiceCount input) (drop 3 input))
+        ]
+      ]
+    ]
+
+abbrev pub builtOf : Built → Outcome Counts
+builtOf (Refused cause) = refused (numberOf cause)
+builtOf (Counted c) = accepted c
