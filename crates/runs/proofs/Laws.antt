@@ -21,3 +21,4 @@ pub mod History
 pub mod Peak
 pub mod Demand3
 pub mod Starred
+pub mod Contrasts

@@ -98,7 +98,7 @@ F = 0x01 ∷ 0x01 ∷ 0x00 ∷ 0x00 ∷ 0x81 ∷ 0xC0 ∷ 0x40 ∷ 0x00 ∷ 0x02
 unfoldable pub one-action : List ℕ
 one-action = 0x01 ∷ 0x00 ∷ 0x80 ∷ 0x00 ∷ 0x80 ∷ 0x80 ∷ []
 
-abbrev row : ℕ → ℕ → Row
+abbrev pub row : ℕ → ℕ → Row
 row r w = record { round = r; worker = w }
 
 -- case 4's schedule, in which job 1's action 0 (round 2) is given to worker 1

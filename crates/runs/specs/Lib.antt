@@ -1,4 +1,4 @@
--- What a reader must believe of a run, in document 01's order.
+-- What a reader must believe of a run, in document 01's order. Parts names steps for proofs alone.
 pub mod State
 pub mod Turn
 pub mod Steal
@@ -8,3 +8,4 @@ pub mod Living
 pub mod Claim
 pub mod Trace
 pub mod Cases
+pub mod Parts

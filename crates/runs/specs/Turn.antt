@@ -4,7 +4,6 @@
 --   living p next j  == job j lives; weight p next == the weight of the living jobs' frames
 --   wakes            == rule 1's test; seatAfter == what rules 2 and 3 leave of a worker and its deque
 --   turn p r w j s   == worker w, which holds job j, takes its turn in round r
---   afterOf, aboveOf == two parts of a turn: how many actions of each job are done after it, and the deque after rule 1
 --   turns p r k b s  == the turns of the workers below k, where b are the workers as the round began
 -- Assumes nothing.
 use Prim.Native.Nat.{ℕ, zero, suc, _+_, max}
@@ -129,9 +128,3 @@ unfoldable pub turns : Plan → ℕ → ℕ → List Worker → State → State
 unfolding turnOf
 turns p r zero began s = s
 turns p r (suc k) began s = turnOf p r k (getD began k Idle) (turns p r k began s)
-
-abbrev pub afterOf : State → ℕ → List ℕ
-afterOf s j = set (s .next) j (suc (nextOf s j))
-
-abbrev pub aboveOf : Plan → State → ℕ → ℕ → List ℕ
-aboveOf p s w j = woken (wakes p (s .next) (afterOf s j) j (nextOf s j)) (parent p j) (dequeOf s w)

@@ -10,7 +10,7 @@ use lib.ListN.{set}
 use Rattle.plan.specs.Plan.{Plan, action}
 use Rattle.runs.specs.declared.worker.Worker.{Worker}
 use Rattle.runs.specs.State.{State, nextOf}
-pub use Rattle.runs.specs.Turn.{afterOf, aboveOf}
+pub use Rattle.runs.specs.Parts.{afterOf, aboveOf}
 use Rattle.scheduler.specs.Machine.{Progressed, Dequed, Acting}
 
 pub record Sending (p : Plan) (n : ℕ) (choices : List ℕ) (r : ℕ) (began : List Worker) (s : State) (k j w : ℕ)

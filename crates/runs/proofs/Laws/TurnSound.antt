@@ -17,7 +17,7 @@ use Rattle.plan.specs.Test.{both}
 use Rattle.plan.specs.Plan.{Plan, size, action, parent}
 use Rattle.runs.specs.State.{State, nextOf, workerOf, dequeOf}
 use Rattle.runs.specs.Turn.{ready, wakes, woken, Seat, takeBottom, seatAfter, turn, idled, turnOf}
-pub use Rattle.runs.specs.Turn.{afterOf, aboveOf}
+pub use Rattle.runs.specs.Parts.{afterOf, aboveOf}
 use Rattle.runs.proofs.Lines.Shape.{Living, Ready, Chain}
 use Rattle.runs.proofs.Lines.Member.{put}
 use Rattle.runs.proofs.Lines.Turn.{Goes, goes?, Wakes, wakes?, wakes-iff, turnLine, turn-spawn, turn-none, turn-good}

@@ -1,0 +1,92 @@
+-- Two small runs that tell rules of document 01 from errors close to them: with the error, the fact does not hold.
+-- The laws are checked in the order of their names, so a wrong definition is first refused here, by a number of these runs.
+--   G == job 0, three actions, spawns 1 at 0; job 1, one, joins position 2; frames 1
+--   H == job 0, four actions, spawns 1 at 0 and 3 at 1; job 1, four, spawns 2 at 0 and 4 at 1, last joins position 3;
+--        jobs 2, 3 and 4, one each, join position 3; frames 1
+--   done p s j i == the row of action i of job j
+-- Assumes nothing.
+use Prim.Native.Nat.{ℕ, suc}
+use mathlib.Core.Path.{_≡_, refl}
+use mathlib.Core.List.{List, [], _∷_}
+use lib.ListN.{getD}
+use Rattle.plan.specs.Plan.{Action, Job, Plan, spawnAt, entering}
+use Rattle.plan.specs.Rules.{inRange, spawnRules, joinRules, Accepted}
+use Rattle.runs.specs.State.{Row, noRow, State, place}
+use Rattle.runs.specs.Run.{run}
+use Rattle.runs.specs.Cases.{row}
+
+abbrev plain : Action
+plain = record { spawn = 0; join = 0 }
+
+abbrev spawns : ℕ → Action
+spawns c = record { spawn = suc c; join = 0 }
+
+abbrev joins : ℕ → Action
+joins t = record { spawn = 0; join = suc t }
+
+abbrev of : List Action → Job
+of actions = record { frame = 1; actions = actions }
+
+abbrev G : Plan
+G = of (spawns 1 ∷ plain ∷ plain ∷ []) ∷ of (joins 2 ∷ []) ∷ []
+
+abbrev H : Plan
+H =
+    of (spawns 1 ∷ spawns 3 ∷ plain ∷ plain ∷ [])
+    ∷ of (spawns 2 ∷ spawns 4 ∷ plain ∷ joins 3 ∷ [])
+    ∷ of (joins 3 ∷ [])
+    ∷ of (joins 3 ∷ [])
+    ∷ of (joins 3 ∷ [])
+    ∷ []
+
+pub G-accepted : Accepted G
+unfolding inRange spawnRules joinRules entering spawnAt
+G-accepted = record { range = tt; spawns = tt; joins = tt }
+
+pub H-accepted : Accepted H
+unfolding inRange spawnRules joinRules entering spawnAt
+H-accepted = record { range = tt; spawns = tt; joins = tt }
+
+abbrev G-run : State
+G-run = run G 2 (0 ∷ [])
+
+abbrev H-run : State
+H-run = run H 2 (1 ∷ 0 ∷ [])
+
+abbrev done : Plan → State → ℕ → ℕ → Row
+done p s j i = getD (s .rows) (place p j i) noRow
+
+-- worker 1 steals job 0 in round 1 and does its next action in round 2
+pub thief-waits : done G G-run 0 1 ≡ row 2 1
+unfolding run
+thief-waits = refl
+
+-- as round 2 ends worker 0's deque has job 1 at the bottom and job 0 at the top: worker 1 steals job 0
+pub top-stolen : done H H-run 0 1 ≡ row 3 1
+unfolding run
+top-stolen = refl
+
+-- job 0 stalls on worker 1 in round 5; worker 0 sends the last join to it in round 7, and does its next action
+pub parent-to-sender : done H H-run 0 3 ≡ row 8 0
+unfolding run
+parent-to-sender = refl
+
+-- in round 2 worker 0 sends the join into job 0's action 2 before worker 1 does action 1: job 0 does not stall
+pub join-in-time : done G G-run 0 2 ≡ row 3 1
+unfolding run
+join-in-time = refl
+
+-- worker 0 loses its job in round 2, and the run ends before it lays a request
+pub request-waits : G-run .tally .requests ≡ 1
+unfolding run
+request-waits = refl
+
+-- job 1 has one action, and its frame is held until that is done
+pub frame-held : G-run .tally .peak ≡ 2
+unfolding run
+frame-held = refl
+
+-- in round 4 worker 0 spawns job 4, and then job 3 ends on worker 1: jobs 0, 1, 3 and 4 live between the two turns
+pub peak-each-turn : H-run .tally .peak ≡ 4
+unfolding run
+peak-each-turn = refl
