@@ -40,7 +40,7 @@ written-told {P} output k buffer n e use-it = go (leb (length output) (length bu
     go true e use-it = use-it (cc) refl
     go false e use-it = refused-accepted e
 
-toTable-told : {P : Type 0} (s rows : List ℕ) (n : ℕ) → toTable s rows .answer ≡ accepted n
+pub toTable-told : {P : Type 0} (s rows : List ℕ) (n : ℕ) → toTable s rows .answer ≡ accepted n
     → ((p : Plan) → readPlan s ≡ accepted p → n ≡ work p → toTable s rows .buffer ≡ tableOf p ++ drop (length (tableOf p)) rows → P) → P
 unfolding toTable tabled
 toTable-told {P} s rows n e use-it = go (readPlan s) e use-it
@@ -50,7 +50,7 @@ toTable-told {P} s rows n e use-it = go (readPlan s) e use-it
     go (refused k) e use-it = refused-accepted e
     go (accepted p) e use-it = written-told (tableOf p) (work p) rows n e (use-it p refl)
 
-toPlan-told : {P : Type 0} (t bytes : List ℕ) (n : ℕ) → toPlan t bytes .answer ≡ accepted n
+pub toPlan-told : {P : Type 0} (t bytes : List ℕ) (n : ℕ) → toPlan t bytes .answer ≡ accepted n
     → ((p : Plan) → readTable t ≡ accepted p → n ≡ length (planBytes p)
     → toPlan t bytes .buffer ≡ planBytes p ++ drop (length (planBytes p)) bytes → P) → P
 unfolding toPlan encoded

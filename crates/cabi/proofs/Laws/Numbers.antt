@@ -1,0 +1,85 @@
+-- The plain numbers that an entry's answer stands for, refused or not.
+--   number-some == the number of a cause is not 0, so 0 stands for no refusal
+-- Assumes nothing.
+use Prim.Native.Nat.{ℕ}
+use native.Mathlib.Omega.{arith}
+use mathlib.Core.Path.{_≡_, refl}
+use mathlib.Core.List.{List}
+use Rattle.plan.specs.declared.refusal.Refusal.{Refusal}
+use Rattle.plan.specs.declared.refusal.Refusal.the-variants.{
+  RanOut,
+  Form,
+  Range,
+  Spawn,
+  Join,
+  Fill,
+  Workers,
+  Choices,
+  Short,
+  Table,
+  Schedule,
+  Rule,
+}
+use Rattle.plan.specs.Refusal.{Outcome, refused, accepted, numberOf}
+use Rattle.plan_measure.specs.declared.Measures.{Measures}
+use Rattle.plan_measure.specs.declared.Measured.{Measured}
+use Rattle.plan_measure.specs.declared.Measured.the-variants.{Refused as NotMeasured, Of}
+use Rattle.plan_measure.specs.Measure.{told}
+use Rattle.plan_table.specs.declared.Answer.{Answer}
+use Rattle.plan_table.specs.declared.Answer.the-variants.{Refused as NotWritten, Count}
+use Rattle.plan_table.specs.Table.{Written, answerOf}
+use Rattle.runs.specs.declared.tally.Tally.{Tally}
+use Rattle.scheduler.specs.declared.run.Ran.{Ran}
+use Rattle.scheduler.specs.declared.run.Ran.the-variants.{Refused as NotRun, Done}
+use Rattle.scheduler.specs.Entry.{runInto, ranOf, Claimed as RunClaimed}
+use Rattle.cabi.specs.Plain.{countOf, measuresOf, tallyOf, Claimed}
+
+pub number-some : (cause : Refusal) → numberOf cause ≡ 0 → ⊥
+number-some RanOut e = omega arith
+number-some Form e = omega arith
+number-some Range e = omega arith
+number-some Spawn e = omega arith
+number-some Join e = omega arith
+number-some Fill e = omega arith
+number-some Workers e = omega arith
+number-some Choices e = omega arith
+number-some Short e = omega arith
+number-some Table e = omega arith
+number-some Schedule e = omega arith
+number-some Rule e = omega arith
+
+module _ (w : Written) (a : Answer) (l : List ℕ) (ensures : record { answer = answerOf a; buffer = l } ≡ w) where
+  pub count-refused : (cause : Refusal) (k : ℕ) → a ≡ NotWritten cause → k ≡ numberOf cause
+      → (countOf (refused k) ≡ countOf (w .answer)) × (l ≡ w .buffer)
+  count-refused cause k e f = rw (← ensures, e, f) (refl, refl)
+
+  pub count-accepted : (n m : ℕ) → a ≡ Count n → m ≡ n → (countOf (accepted m) ≡ countOf (w .answer)) × (l ≡ w .buffer)
+  count-accepted n m e f = rw (← ensures, e, f) (refl, refl)
+
+  pub answer-count : (n : ℕ) → a ≡ Count n → w .answer ≡ accepted n
+  answer-count n e = rw (← ensures, e)
+
+module _ (o : Outcome Measures) (r : Measured) (ensures : told r ≡ o) where
+  pub measures-refused : (cause : Refusal) (k : ℕ) → r ≡ NotMeasured cause → k ≡ numberOf cause
+      → measuresOf (refused k) ≡ measuresOf o
+  measures-refused cause k e f = rw (← ensures, e, f)
+
+  pub measures-accepted : (m : Measures) → r ≡ Of m → measuresOf (accepted m) ≡ measuresOf o
+  measures-accepted m e = rw (← ensures, e)
+
+module _
+    (bytes : List ℕ)
+    (n : ℕ)
+    (choices lent : List ℕ)
+    (r : Ran)
+    (l : List ℕ)
+    (ensures : record { answer = ranOf r; schedule = l } ≡ runInto bytes n choices lent)
+    (claim : RunClaimed bytes n r l) where
+  pub tally-refused : (cause : Refusal) (k : ℕ) → r ≡ NotRun cause → k ≡ numberOf cause
+      → ((tallyOf (refused k) ≡ tallyOf (runInto bytes n choices lent .answer)) × (l ≡ runInto bytes n choices lent .schedule)) × Claimed bytes n (tallyOf (refused k)) l
+  tally-refused cause k e f = (rw (← ensures, e, f) (refl, refl), λ z. absurd (number-some cause (omega arith)))
+
+  pub tally-accepted : (t : Tally) → r ≡ Done t
+      → ((tallyOf (accepted t) ≡ tallyOf (runInto bytes n choices lent .answer)) × (l ≡ runInto bytes n choices lent .schedule)) × Claimed bytes n (tallyOf (accepted t)) l
+  tally-accepted t e =
+      (rw (← ensures, e) (refl, refl), λ z. let b = claim t e in (b .0, b .1, t, b .2, refl, b .3, b .4))

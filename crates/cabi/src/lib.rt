@@ -1,0 +1,138 @@
+// The library for C and Rust (include/dorewhanga.h). Each function hands its input on to the entry of its name and gives the
+// answer as plain numbers: the refusal's number first, 0 for none, then what was asked for, or 0s.
+ghost use mathlib.Core.Path.{_≡_};
+ghost use Prim.Native.Nat.{_<_};
+ghost use Rattle.plan.specs.Refusal.{numberOf};
+ghost use Rattle.plan_measure.specs.Measure.{measures};
+ghost use Rattle.plan_table.specs.Table.{toTable, toPlan};
+ghost use Rattle.scheduler.specs.Entry.{runInto};
+ghost use Rattle.cabi.specs.Plain.{countOf, measuresOf, tallyOf, Claimed};
+use plan::refusal::Refusal;
+use plan::refusal::number;
+use plan_measure::Measured;
+use plan_measure::measure;
+use plan_table::Answer;
+use plan_table::plan_to_table;
+use plan_table::table_to_plan;
+use scheduler::run::Ran;
+use scheduler::run::run;
+
+#[repr(C)]
+pub struct DwCount {
+    pub refused: u32,
+    pub count: u32,
+}
+
+#[repr(C)]
+pub struct DwMeasures {
+    pub refused: u32,
+    pub actions: u32,
+    pub longest: u32,
+    pub path: u32,
+}
+
+#[repr(C)]
+pub struct DwTally {
+    pub refused: u32,
+    pub rounds: u32,
+    pub actions: u32,
+    pub idle: u32,
+    pub requests: u32,
+    pub steals: u32,
+    pub misses: u32,
+    pub peak: u32,
+}
+
+fn cause_number(cause: Refusal) -> u32
+    ensures { λ r. ⌜ r ≡ numberOf cause ⌝ }
+{
+    number(cause) as u32
+}
+
+fn units(x: usize) -> u32
+    requires { ⌜ x < 65536 ⌝ }
+    ensures { λ r. ⌜ r ≡ x ⌝ }
+{
+    x as u32
+}
+
+#[no_mangle]
+pub extern "C" fn dw_plan_to_table(plan: &[u8], rows: &mut [u16]) -> DwCount
+    ensures { λ r. ⌜ (r ≡ countOf (toTable (now (plan .entry)) (now (rows .entry)) .answer)) × (now (rows .exit) ≡ toTable (now (plan .entry)) (now (rows .entry)) .buffer) ⌝ }
+{
+    match plan_to_table(plan, rows) {
+        Answer::Refused(cause) => DwCount {
+            refused: cause_number(cause),
+            count: 0,
+        },
+        Answer::Count(n) => DwCount {
+            refused: 0,
+            count: units(n),
+        },
+    }
+}
+
+#[no_mangle]
+pub extern "C" fn dw_table_to_plan(rows: &[u16], plan: &mut [u8]) -> DwCount
+    ensures { λ r. ⌜ (r ≡ countOf (toPlan (now (rows .entry)) (now (plan .entry)) .answer)) × (now (plan .exit) ≡ toPlan (now (rows .entry)) (now (plan .entry)) .buffer) ⌝ }
+{
+    match table_to_plan(rows, plan) {
+        Answer::Refused(cause) => DwCount {
+            refused: cause_number(cause),
+            count: 0,
+        },
+        Answer::Count(n) => DwCount {
+            refused: 0,
+            count: units(n),
+        },
+    }
+}
+
+#[no_mangle]
+pub extern "C" fn dw_measure(plan: &[u8]) -> DwMeasures
+    ensures { λ r. ⌜ r ≡ measuresOf (measures (now (plan .entry))) ⌝ }
+{
+    match measure(plan) {
+        Measured::Refused(cause) => DwMeasures {
+            refused: cause_number(cause),
+            actions: 0,
+            longest: 0,
+            path: 0,
+        },
+        Measured::Of(m) => DwMeasures {
+            refused: 0,
+            actions: m.actions,
+            longest: m.longest,
+            path: m.path,
+        },
+    }
+}
+
+#[no_mangle]
+pub extern "C" fn dw_run(plan: &[u8], workers: u32, choices: &[u8], schedule: &mut [u8]) -> DwTally
+    ensures { λ r. ⌜ (r ≡ tallyOf (runInto (now (plan .entry)) workers (now (choices .entry)) (now (schedule .entry)) .answer)) × (now (schedule .exit) ≡ runInto (now (plan .entry)) workers (now (choices .entry)) (now (schedule .entry)) .schedule) ⌝ }
+    ensures { λ r. ⌜ Claimed (now (plan .entry)) workers r (now (schedule .exit)) ⌝ }
+{
+    match run(plan, workers, choices, schedule) {
+        Ran::Refused(cause) => DwTally {
+            refused: cause_number(cause),
+            rounds: 0,
+            actions: 0,
+            idle: 0,
+            requests: 0,
+            steals: 0,
+            misses: 0,
+            peak: 0,
+        },
+        Ran::Done(t) => DwTally {
+            refused: 0,
+            rounds: t.rounds,
+            actions: t.actions,
+            idle: t.idle,
+            requests: t.requests,
+            steals: t.steals,
+            misses: t.misses,
+            peak: t.peak,
+        },
+    }
+}
