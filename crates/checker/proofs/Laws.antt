@@ -1,0 +1,8 @@
+-- What holds of the definitions in specs/, in named modules.
+pub mod Header
+pub mod RowBytes
+pub mod Form
+pub mod Keeping
+pub mod Following
+pub mod Buckets
+pub mod Judging

@@ -1,0 +1,54 @@
+-- The answers of the test of a schedule's form: at a wrong length, a header that is not well formed, a round of 0, and where
+-- the schedule is well formed. Assumes nothing.
+use Prim.Native.Nat.{ℕ, _+_, _*_, _≤_, _<_}
+use mathlib.Core.Path.{_≡_, refl}
+use mathlib.Core.Bool.{true}
+use mathlib.Core.List.{List}
+use native.Mathlib.Omega.{arith}
+use lib.ListN.{length, getD}
+use lib.Dec.{eqb}
+use borrow.Author.Tests.{eq-eqb, ne-eqb}
+use Rattle.plan.specs.Refusal.{refused}
+use Rattle.plan.specs.Field.{stop}
+use Rattle.runs.specs.Schedule.{writtenAt, readSchedule}
+use Rattle.checker.specs.Formed.{Formed, Headed, word}
+use Rattle.checker.proofs.Laws.RowBytes.{rowsFrom, rows-read, rows-stop, rows-length, rows-held}
+
+not-formed : (s : List ℕ) (n : ℕ) → readSchedule s n ≡ refused 11 → Formed s n 0
+not-formed s n e = record { broken = λ _. e; kept = λ h. absurd (omega arith) }
+
+module _ (s : List ℕ) (n : ℕ) where
+  pub wrong-length : (length s ≡ 4 + 2 * n → ⊥) → Formed s n 0
+  unfolding readSchedule
+  wrong-length h = not-formed s n (rw (ne-eqb (length s) (4 + 2 * n) h, readSchedule))
+
+  module _ (long : length s ≡ 4 + 2 * n) where
+    right-length : eqb (length s) (4 + 2 * n) ≡ true
+    right-length = eq-eqb (length s) (4 + 2 * n) long
+
+    stopped : (k : ℕ) → writtenAt s n ≡ stop k → Formed s n 0
+    unfolding readSchedule
+    stopped k e = not-formed s n (rw (right-length, e, readSchedule))
+
+    pub wrong-header : Headed s n 0 → Formed s n 0
+    wrong-header h = let (k, e) = h .broken refl in stopped k e
+
+    module _ (workers : ℕ) (some : 1 ≤ workers) (head : Headed s n workers) where
+      pub wrong-round : (k : ℕ) → k < n → word s (4 + 2 * k) < 16 → Formed s n 0
+      wrong-round k b none = stopped 11 (rw (head .kept some .1, rows-stop s n 4 k (omega arith) b none))
+
+      pub well-formed : ((k : ℕ) → getD s k 0 < 256) → ((k : ℕ) → k < n → 16 ≤ word s (4 + 2 * k)) → Formed s n workers
+      unfolding readSchedule
+      well-formed byte rounds =
+          let e = rows-read s n 4 (omega arith) byte rounds in
+          record {
+            broken = λ h. absurd (omega arith);
+            kept = λ _.
+                record {
+                  rows = rowsFrom s 4 n;
+                  read = rw (right-length, head .kept some .1, e, readSchedule);
+                  most = head .kept some .0;
+                  bytes = rows-held s n long;
+                  all = rows-length s n 4;
+                };
+          }
