@@ -6,3 +6,4 @@ pub mod Keeping
 pub mod Following
 pub mod Buckets
 pub mod Judging
+pub mod Own

@@ -1,0 +1,138 @@
+-- The schedule that a run writes: it lies within what was lent, and the checker accepts it.
+-- Assumes nothing.
+use Prim.Native.Nat.{ℕ, _+_, _*_, _-_, _≤_}
+use mathlib.Core.Path.{_≡_, refl, sym, ap, _∙_}
+use mathlib.Core.Bool.{Bool, true, false}
+use mathlib.Core.List.{List, _++_}
+use native.Mathlib.Omega.{arith}
+use lib.ListN.{length, take, drop, length-append}
+use lib.Seq.{take-at}
+use lib.Dec.{leb, leb→le}
+use Rattle.plan.specs.declared.refusal.Refusal.{Refusal}
+use Rattle.plan.specs.Refusal.{Outcome, refused, accepted, numberOf}
+use Rattle.plan.specs.Plan.{Plan, work}
+use Rattle.plan.specs.Rules.{Accepted}
+use Rattle.plan.specs.Reader.{readPlan}
+use Rattle.plan.proofs.Laws.Accepted.{accepted-range, accepted-spawns, accepted-joins}
+use Rattle.plan.proofs.Laws.Valid.{work-range}
+use Rattle.plan.proofs.Laws.Lists.{both-left, both-right, of-true}
+use Rattle.runs.specs.declared.tally.Tally.{Tally}
+use Rattle.runs.specs.State.{State}
+use Rattle.runs.specs.Run.{run, workersFit, choicesFit, admitted, runOf}
+use Rattle.runs.specs.Schedule.{scheduleBytes, checked}
+use Rattle.runs.proofs.Laws.OwnSchedule.{run-checked}
+use Rattle.runs.proofs.Laws.Whole.{run-trace, round-most, run-actions}
+use Rattle.scheduler.specs.declared.run.Ran.{Ran}
+use Rattle.scheduler.specs.declared.run.Ran.the-variants.{Done}
+use Rattle.scheduler.specs.Entry.{Result, resulted, runInto, ranOf}
+use Rattle.scheduler.proofs.Laws.RunBytes.{run-fits}
+use Rattle.checker.specs.declared.Judged.{Judged}
+use Rattle.checker.specs.declared.Judged.the-variants.{Refused}
+use Rattle.checker.specs.Answer.{judgedOf}
+
+module _ (plan : List ℕ) (n : ℕ) (choices schedule : List ℕ) where
+  abbrev result : Result
+  result = runInto plan n choices schedule
+
+  -- a plan was read and run, and its schedule written in front of what was lent
+  record Wrote (t : Tally) : Type 0 where
+    p : Plan
+    read : readPlan plan ≡ accepted p
+    some : 1 ≤ n
+    most : n ≤ 16
+    tally : t ≡ run p n choices .tally
+    written : result .schedule ≡ scheduleBytes n (run p n choices .rows) ++ drop (length (scheduleBytes n (run p n choices .rows))) schedule
+
+  module _ (t : Tally) (answer : result .answer ≡ accepted t) where
+    refuses : {P : Type 0} (k : ℕ) → result .answer ≡ refused k → P
+    refuses k e =
+        let x : _≡_ {A = Outcome Tally} (refused k) (accepted t) = sym e ∙ answer in
+        absurd (let z : _≡_ {A = ℕ} 0 1 = cc in omega arith)
+
+    wrote : Wrote t
+    unfolding runInto resulted runOf admitted
+    wrote = by-plan (readPlan plan) refl
+      where
+        by-room : (p : Plan) → readPlan plan ≡ accepted p → 1 ≤ n → n ≤ 16 → runOf plan n choices ≡ accepted (run p n choices)
+            → (b : Bool) → leb (length (scheduleBytes n (run p n choices .rows))) (length schedule) ≡ b → Wrote t
+        by-room p e some most q false f = refuses 9 (rw (q, resulted, f))
+        by-room p e some most q true f =
+            let whole : result ≡ record {
+              answer = accepted (run p n choices .tally);
+              schedule = scheduleBytes n (run p n choices .rows) ++ drop (length (scheduleBytes n (run p n choices .rows))) schedule;
+            } = rw (q, resulted, f) in
+            let x : _≡_ {A = Outcome Tally} (accepted t) (accepted (run p n choices .tally)) = sym answer ∙ ap (λ (r : Result). r .answer) whole in
+            record { p = p; read = e; some = some; most = most; tally = cc; written = ap (λ (r : Result). r .schedule) whole }
+
+        by-choices : (p : Plan) (b : Bool) → readPlan plan ≡ accepted p → workersFit n ≡ true → choicesFit n choices ≡ b → Wrote t
+        by-choices p false e w q = refuses 8 (rw (e, admitted, w, q))
+        by-choices p true e w q =
+            let f = of-true (workersFit n) w in
+            by-room p e (leb→le 1 n (both-left (leb 1 n) (leb n 16) f)) (leb→le n 16 (both-right (leb 1 n) (leb n 16) f)) (rw (e, admitted, w, q)) _ refl
+
+        by-workers : (p : Plan) (b : Bool) → readPlan plan ≡ accepted p → workersFit n ≡ b → Wrote t
+        by-workers p false e q = refuses 7 (rw (e, admitted, q))
+        by-workers p true e q = by-choices p (choicesFit n choices) e q refl
+
+        by-plan : (o : Outcome Plan) → readPlan plan ≡ o → Wrote t
+        by-plan (refused k) e = refuses k (rw e)
+        by-plan (accepted p) e = by-workers p (workersFit n) e refl
+
+    module _ (w : Wrote t) where
+      abbrev bytes : List ℕ
+      bytes = scheduleBytes n (run (w .p) n choices .rows)
+
+      kept : Accepted (w .p)
+      kept =
+          let e = w .read in
+          record { range = accepted-range plan (w .p) e; spawns = accepted-spawns plan (w .p) e; joins = accepted-joins plan (w .p) e }
+
+      long : length bytes ≡ 4 + 2 * t .actions
+      long =
+          omega (
+            arith,
+            run-fits (w .p) kept n (w .some) (w .most) choices,
+            run-actions (w .p) kept n (w .some) (w .most) choices,
+            ap (λ (t : Tally). t .actions) (w .tally),
+          )
+
+      own-room : 4 + 2 * t .actions ≤ length (result .schedule)
+      own-room = omega (arith, long, ap length (w .written) ∙ length-append bytes (drop (length bytes) schedule))
+
+      own-accepted : checked plan (take (4 + 2 * t .actions) (result .schedule)) ≡ accepted 0
+      own-accepted =
+          let (r, b, trace, e, q) = run-trace (w .p) kept n (w .some) (w .most) choices in
+          let few : r ≤ 4095 = omega (arith, round-most (w .p) kept n (w .some) (w .most) choices trace, work-range (w .p) kept) in
+          let part = ap (take (4 + 2 * t .actions)) (w .written) ∙ take-at bytes (drop (length bytes) schedule) (4 + 2 * t .actions) long in
+          ap (checked plan) part ∙ run-checked (w .p) kept n (w .some) (w .most) choices trace e few plan (w .read)
+
+-- the schedule is as long as its actions say
+pub run-room : (plan : List ℕ) (n : ℕ) (choices schedule : List ℕ) (t : Tally) → runInto plan n choices schedule .answer ≡ accepted t
+    → 4 + 2 * t .actions ≤ length (runInto plan n choices schedule .schedule)
+run-room plan n choices schedule t e = own-room plan n choices schedule t e (wrote plan n choices schedule t e)
+
+-- and the checker accepts it, for every plan, worker count and choices that are run
+pub run-accepted : (plan : List ℕ) (n : ℕ) (choices schedule : List ℕ) (t : Tally) → runInto plan n choices schedule .answer ≡ accepted t
+    → checked plan (take (4 + 2 * t .actions) (runInto plan n choices schedule .schedule)) ≡ accepted 0
+run-accepted plan n choices schedule t e = own-accepted plan n choices schedule t e (wrote plan n choices schedule t e)
+
+-- the same of what the entry answered and left
+module _ (plan : List ℕ) (n : ℕ) (choices before after : List ℕ) (r : Ran) (t : Tally)
+    (e : record { answer = ranOf r; schedule = after } ≡ runInto plan n choices before) (done : r ≡ Done t) where
+  answered : runInto plan n choices before .answer ≡ accepted t
+  answered = sym (ap (λ (x : Result). x .answer) e) ∙ ap ranOf done
+
+  left : after ≡ runInto plan n choices before .schedule
+  left = ap (λ (x : Result). x .schedule) e
+
+  pub left-room : 4 + 2 * t .actions ≤ length after
+  left-room = rw left (run-room plan n choices before t answered)
+
+  -- the checker, lent the part from 0 to that length, does not refuse it
+  pub left-accepted : (j : Judged) (cause : Refusal) → judgedOf j ≡ checked plan (take (4 + 2 * t .actions - 0) (drop 0 after)) → j ≡ Refused cause → ⊥
+  left-accepted j cause told refused-by =
+      let whole : 4 + 2 * t .actions - 0 ≡ 4 + 2 * t .actions = omega arith in
+      let x : _≡_ {A = Outcome ℕ} (refused (numberOf cause)) (accepted 0) =
+      sym (ap judgedOf refused-by) ∙ (told ∙ rw (whole, left) (run-accepted plan n choices before t answered)) in
+      let z : _≡_ {A = ℕ} 0 1 = cc in
+      omega arith
