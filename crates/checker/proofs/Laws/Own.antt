@@ -117,22 +117,23 @@ pub run-accepted : (plan : List ℕ) (n : ℕ) (choices schedule : List ℕ) (t 
 run-accepted plan n choices schedule t e = own-accepted plan n choices schedule t e (wrote plan n choices schedule t e)
 
 -- the same of what the entry answered and left
-module _ (plan : List ℕ) (n : ℕ) (choices before after : List ℕ) (r : Ran) (t : Tally)
-    (e : record { answer = ranOf r; schedule = after } ≡ runInto plan n choices before) (done : r ≡ Done t) where
-  answered : runInto plan n choices before .answer ≡ accepted t
-  answered = sym (ap (λ (x : Result). x .answer) e) ∙ ap ranOf done
+module _ (plan : List ℕ) (n : ℕ) (choices before after : List ℕ) where
+  pub left-is : (o : Outcome Tally) → record { answer = o; schedule = after } ≡ runInto plan n choices before
+      → after ≡ runInto plan n choices before .schedule
+  left-is o e = ap (λ (x : Result). x .schedule) e
 
-  left : after ≡ runInto plan n choices before .schedule
-  left = ap (λ (x : Result). x .schedule) e
+  module _ (r : Ran) (t : Tally) (e : record { answer = ranOf r; schedule = after } ≡ runInto plan n choices before) (done : r ≡ Done t) where
+    answered : runInto plan n choices before .answer ≡ accepted t
+    answered = sym (ap (λ (x : Result). x .answer) e) ∙ ap ranOf done
 
-  pub left-room : 4 + 2 * t .actions ≤ length after
-  left-room = rw left (run-room plan n choices before t answered)
+    pub left-room : 4 + 2 * t .actions ≤ length after
+    left-room = rw (left-is (ranOf r) e) (run-room plan n choices before t answered)
 
-  -- the checker, lent the part from 0 to that length, does not refuse it
-  pub left-accepted : (j : Judged) (cause : Refusal) → judgedOf j ≡ checked plan (take (4 + 2 * t .actions - 0) (drop 0 after)) → j ≡ Refused cause → ⊥
-  left-accepted j cause told refused-by =
-      let whole : 4 + 2 * t .actions - 0 ≡ 4 + 2 * t .actions = omega arith in
-      let x : _≡_ {A = Outcome ℕ} (refused (numberOf cause)) (accepted 0) =
-      sym (ap judgedOf refused-by) ∙ (told ∙ rw (whole, left) (run-accepted plan n choices before t answered)) in
-      let z : _≡_ {A = ℕ} 0 1 = cc in
-      omega arith
+    -- the checker, lent the part from 0 to that length, does not refuse it
+    pub left-accepted : (j : Judged) (cause : Refusal) → judgedOf j ≡ checked plan (take (4 + 2 * t .actions - 0) (drop 0 after)) → j ≡ Refused cause → ⊥
+    left-accepted j cause told f =
+        let whole : 4 + 2 * t .actions - 0 ≡ 4 + 2 * t .actions = omega arith in
+        let x : _≡_ {A = Outcome ℕ} (refused (numberOf cause)) (accepted 0) =
+        sym (ap judgedOf f) ∙ (told ∙ rw (whole, left-is (ranOf r) e) (run-accepted plan n choices before t answered)) in
+        let z : _≡_ {A = ℕ} 0 1 = cc in
+        omega arith

@@ -1,9 +1,8 @@
 -- `own::own_schedule` meets its contract: the schedule lies within what was lent, and the checker does not refuse it.
 -- Assumes nothing.
-use mathlib.Core.Path.{refl, ap}
+use mathlib.Core.Path.{refl}
 use borrow.Author.Needs.{needs}
-use Rattle.scheduler.specs.Entry.{Result}
-use Rattle.checker.proofs.Laws.Own.{left-room, left-accepted}
+use Rattle.checker.proofs.Laws.Own.{left-is, left-room, left-accepted}
 use Rattle.checker.proofs.own.own_schedule.Statement.{statement}
 use Rattle.checker.proofs.own.own_schedule.Tie as tie
 
@@ -49,7 +48,7 @@ same-length : tie.Need-same-length
 same-length c = search needs
 
 returns : tie.Need-returns
-returns c = (refl, ap (λ (x : Result). x .schedule) (c .before .before .before .before .run .ensures .0))
+returns c = (refl, left-is _ _ _ _ _ _ (c .before .before .before .before .run .ensures .0))
 
 same-length-2 : tie.Need-same-length-2
 same-length-2 c = search needs
@@ -57,7 +56,7 @@ same-length-2 c = search needs
 returns-2 : tie.Need-returns-2
 returns-2 c =
     let d = c .before .before .before .before .before .before .before in
-    (refl, ap (λ (x : Result). x .schedule) (d .before .before .before .before .run .ensures .0))
+    (refl, left-is _ _ _ _ _ _ (d .before .before .before .before .run .ensures .0))
 
 same-length-3 : tie.Need-same-length-3
 same-length-3 c = search needs
