@@ -1,0 +1,598 @@
+//! Writes the inputs of the program crate `check_cases` and what it has to print.
+//! What a case must give is stated here by hand, from document 01; nothing here looks at the proved code.
+//!
+//!     rustc -O tools/check_cases.rs -o target/check_cases && target/check_cases crates/check_cases
+//!
+//! It writes CRATE/data/NAME for each case, CRATE/stdout, and CRATE/src/cases.rt with one call for each case. A second checker,
+//! with each slip that it may have, shows that some case tells every slip apart.
+use std::fmt::Write;
+use std::fs;
+
+/// An action: the child's number plus 1 or 0, the join's target plus 1 or 0.
+type Action = (u32, u32);
+type Job = (u32, Vec<Action>);
+/// A round and a worker.
+type Row = (u32, u32);
+
+const NONE: Action = (0, 0);
+fn spawn(child: u32) -> Action {
+    (child + 1, 0)
+}
+fn join(target: u32) -> Action {
+    (0, target + 1)
+}
+
+struct Bits(Vec<bool>);
+
+impl Bits {
+    fn put(&mut self, width: u32, value: u32) {
+        for i in (0..width).rev() {
+            self.0.push(value >> i & 1 == 1);
+        }
+    }
+    fn number(&mut self, x: u32) {
+        if x == 0 {
+            self.put(1, 0);
+        } else {
+            self.put(1, 1);
+            self.put(8, x - 1);
+        }
+    }
+    fn bytes(&self) -> Vec<u8> {
+        self.0.chunks(8).map(|c| (0..8).fold(0, |b, i| b * 2 + *c.get(i).unwrap_or(&false) as u8)).collect()
+    }
+}
+
+fn plan(jobs: &[Job]) -> Vec<u8> {
+    let mut b = Bits(vec![]);
+    b.put(8, 1);
+    b.put(9, jobs.len() as u32);
+    for (frame, actions) in jobs {
+        b.put(16, *frame);
+        b.put(8, actions.len() as u32);
+        for &(spawn, join) in actions {
+            b.number(spawn);
+            b.number(join);
+        }
+    }
+    b.bytes()
+}
+
+fn headed(form: u32, workers: u32, actions: u32, zeros: u32, rows: &[Row]) -> Vec<u8> {
+    let mut b = Bits(vec![]);
+    b.put(8, form);
+    b.put(5, workers);
+    b.put(12, actions);
+    b.put(7, zeros);
+    for &(round, worker) in rows {
+        b.put(12, round);
+        b.put(4, worker);
+    }
+    b.bytes()
+}
+
+fn schedule(workers: u32, rows: &[Row]) -> Vec<u8> {
+    headed(1, workers, rows.len() as u32, 0, rows)
+}
+
+fn with(rows: &[Row], changes: &[(usize, Row)]) -> Vec<Row> {
+    let mut changed = rows.to_vec();
+    for &(k, row) in changes {
+        changed[k] = row;
+    }
+    changed
+}
+
+/// One job, one action.
+fn one() -> Vec<Job> {
+    vec![(1, vec![NONE])]
+}
+
+/// Document 01's plan E. Its actions stand in rows 0 to 4, 5 to 6, and 7.
+fn e() -> Vec<Job> {
+    vec![(4, vec![spawn(1), NONE, spawn(2), NONE, NONE]), (3, vec![NONE, join(4)]), (2, vec![join(4)])]
+}
+/// Case 4's rows.
+const E4: [Row; 8] = [(1, 0), (2, 1), (3, 1), (5, 1), (6, 1), (2, 0), (3, 0), (4, 1)];
+
+/// Document 01's plan F. Its actions stand in rows 0 to 2 and 3 to 6.
+fn f() -> Vec<Job> {
+    vec![(1, vec![spawn(1), NONE, NONE]), (1, vec![NONE, NONE, NONE, join(2)])]
+}
+const F2: [Row; 7] = [(1, 0), (2, 0), (9, 0), (2, 1), (3, 1), (4, 1), (5, 1)];
+
+/// Job 0 spawns n jobs of one action, one after the other; then an action that nothing enters, and one for each 8 joins.
+fn fan(n: u32) -> Vec<Job> {
+    let mut root: Vec<Action> = (1..=n).map(spawn).collect();
+    root.extend(vec![NONE; 1 + (n as usize + 7) / 8]);
+    let mut jobs = vec![(1, root)];
+    jobs.extend((0..n).map(|c| (1, vec![join(n + 1 + c / 8)])));
+    jobs
+}
+/// Worker 0 has the root's actions, one a round, and waits until round 20 with the one that 8 joins enter; worker 1 has each
+/// child in the round after its spawn. The children stand in rows 10 to 17.
+fn fan_8() -> Vec<Row> {
+    let mut rows: Vec<Row> = (0..9).map(|i| (i + 1, 0)).collect();
+    rows.push((20, 0));
+    rows.extend((1..=8).map(|c| (c + 1, 1)));
+    rows
+}
+
+/// Each job spawns the next at 0, and the next one's last action joins position 2.
+fn chain(n: u32) -> Vec<Job> {
+    (0..n)
+        .map(|j| {
+            let last = if j == 0 { NONE } else { join(2) };
+            (1, if j + 1 < n { vec![spawn(j + 1), NONE, last] } else { vec![last] })
+        })
+        .collect()
+}
+/// The rows of a chain of three jobs: 0 to 2, 3 to 5, and 6.
+const CHAIN_3: [Row; 7] = [(1, 0), (2, 0), (9, 0), (2, 1), (3, 1), (5, 1), (3, 2)];
+
+/// Job 1's first action joins position 2, its last position 4.
+fn two_joins() -> Vec<Job> {
+    vec![(1, vec![spawn(1), NONE, NONE, NONE, NONE]), (1, vec![join(2), join(4)])]
+}
+const TWO_JOINS: [Row; 7] = [(1, 0), (2, 0), (3, 0), (4, 0), (5, 0), (2, 1), (3, 1)];
+
+/// 2,048 actions: job 0 and seven jobs of 255 and one of 8.
+fn largest() -> Vec<Job> {
+    let mut root: Vec<Action> = (1..=8).map(spawn).collect();
+    root.extend(vec![NONE; 247]);
+    let mut jobs = vec![(65535, root)];
+    for c in 1..=8 {
+        let mut actions = vec![NONE; if c < 8 { 254 } else { 7 }];
+        actions.push(join(9));
+        jobs.push((65535, actions));
+    }
+    jobs
+}
+/// Worker c has job c, an action a round.
+fn largest_rows() -> Vec<Row> {
+    let mut rows: Vec<Row> = (0..255).map(|i| (if i < 9 { i + 1 } else { i + 300 }, 0)).collect();
+    for c in 1..=8 {
+        rows.extend((0..if c < 8 { 255 } else { 8 }).map(|i| (c + 1 + i, c)));
+    }
+    rows
+}
+
+/// What a checker may get wrong.
+#[derive(Clone, Copy, PartialEq, Debug)]
+enum Slip {
+    None,
+    LongerPasses,
+    ShorterPasses,
+    FormPasses,
+    NoWorkerPasses,
+    ManyWorkersPass,
+    FewerActionsPass,
+    MoreActionsPass,
+    ZeroBitPasses(u32),
+    FirstRoundPasses,
+    MiddleRoundPasses,
+    LastRoundPasses,
+    ClashPasses,
+    OnlyNeighboursClash,
+    NeighboursPass,
+    LastRowNeverClashes,
+    ClashByRound,
+    ClashByWorker,
+    OrderPasses,
+    SpawnPasses,
+    JoinPasses,
+    LastJoinOnly,
+    FirstJoinOnly,
+    JoinTargetsTheRoot,
+    SameRoundPasses,
+    OneRoundEarlierPasses,
+    WorkerPasses,
+    WorkerAtCountPasses,
+    FirstWorkerOnly,
+    RulesBeforeForm,
+}
+
+const SLIPS: [Slip; 35] = [
+    Slip::LongerPasses,
+    Slip::ShorterPasses,
+    Slip::FormPasses,
+    Slip::NoWorkerPasses,
+    Slip::ManyWorkersPass,
+    Slip::FewerActionsPass,
+    Slip::MoreActionsPass,
+    Slip::ZeroBitPasses(0),
+    Slip::ZeroBitPasses(1),
+    Slip::ZeroBitPasses(2),
+    Slip::ZeroBitPasses(3),
+    Slip::ZeroBitPasses(4),
+    Slip::ZeroBitPasses(5),
+    Slip::ZeroBitPasses(6),
+    Slip::FirstRoundPasses,
+    Slip::MiddleRoundPasses,
+    Slip::LastRoundPasses,
+    Slip::ClashPasses,
+    Slip::OnlyNeighboursClash,
+    Slip::NeighboursPass,
+    Slip::LastRowNeverClashes,
+    Slip::ClashByRound,
+    Slip::ClashByWorker,
+    Slip::OrderPasses,
+    Slip::SpawnPasses,
+    Slip::JoinPasses,
+    Slip::LastJoinOnly,
+    Slip::FirstJoinOnly,
+    Slip::JoinTargetsTheRoot,
+    Slip::SameRoundPasses,
+    Slip::OneRoundEarlierPasses,
+    Slip::WorkerPasses,
+    Slip::WorkerAtCountPasses,
+    Slip::FirstWorkerOnly,
+    Slip::RulesBeforeForm,
+];
+
+/// The places of actions, each with one that it must follow, and whether that is by a job's order, a spawn or a join.
+fn pairs(jobs: &[Job], slip: Slip) -> Vec<(usize, usize)> {
+    let first: Vec<usize> = jobs.iter().scan(0, |at, (_, a)| Some(std::mem::replace(at, *at + a.len()))).collect();
+    let mut parent = vec![0; jobs.len()];
+    let (mut orders, mut spawns, mut joins) = (vec![], vec![], vec![]);
+    for (j, (_, actions)) in jobs.iter().enumerate() {
+        for (i, &(child, target)) in actions.iter().enumerate() {
+            let here = first[j] + i;
+            if i > 0 {
+                orders.push((here, here - 1));
+            }
+            if child > 0 {
+                parent[child as usize - 1] = j;
+                spawns.push((first[child as usize - 1], here));
+            }
+            if target > 0 {
+                let to = if slip == Slip::JoinTargetsTheRoot { 0 } else { parent[j] };
+                joins.push((first[to] + target as usize - 1, here));
+            }
+        }
+    }
+    let all = joins.clone();
+    match slip {
+        Slip::LastJoinOnly => joins.retain(|x| all.iter().all(|y| y.0 != x.0 || y.1 <= x.1)),
+        Slip::FirstJoinOnly => joins.retain(|x| all.iter().all(|y| y.0 != x.0 || x.1 <= y.1)),
+        _ => {}
+    }
+    let mut kept = vec![];
+    if slip != Slip::OrderPasses {
+        kept.extend(orders);
+    }
+    if slip != Slip::SpawnPasses {
+        kept.extend(spawns);
+    }
+    if slip != Slip::JoinPasses {
+        kept.extend(joins);
+    }
+    kept
+}
+
+/// 0 for accepted, 11 or 12.
+fn judge(jobs: &[Job], s: &[u8], slip: Slip) -> u32 {
+    let n: usize = jobs.iter().map(|j| j.1.len()).sum();
+    let long = 4 + 2 * n;
+    let field = |at: usize, width: usize| (at..at + width).fold(0, |x, i| x * 2 + s.get(i / 8).map_or(0, |b| (b >> (7 - i % 8) & 1) as u32));
+    let (workers, actions) = (field(8, 5), field(13, 12) as usize);
+    let rows: Vec<Row> = (0..n).map(|k| (field(32 + 16 * k, 12), field(44 + 16 * k, 4))).collect();
+    let no_round = |k: &usize| match slip {
+        Slip::FirstRoundPasses if *k == 0 => false,
+        Slip::MiddleRoundPasses if 0 < *k && *k + 1 < n => false,
+        Slip::LastRoundPasses if *k + 1 == n => false,
+        _ => rows[*k].0 == 0,
+    };
+    let form = (s.len() > long && slip != Slip::LongerPasses)
+        || (s.len() < long && slip != Slip::ShorterPasses)
+        || (field(0, 8) != 1 && slip != Slip::FormPasses)
+        || (workers == 0 && slip != Slip::NoWorkerPasses)
+        || (workers > 16 && slip != Slip::ManyWorkersPass)
+        || (actions < n && slip != Slip::FewerActionsPass)
+        || (actions > n && slip != Slip::MoreActionsPass)
+        || (0..7).any(|i| field(25 + i, 1) == 1 && slip != Slip::ZeroBitPasses(i as u32))
+        || (0..n).any(|k| no_round(&k));
+    let clash = |a: usize, b: usize| {
+        let (x, y) = (rows[a], rows[b]);
+        let same = match slip {
+            Slip::ClashByRound => x.0 == y.0,
+            Slip::ClashByWorker => x.1 == y.1,
+            _ => x == y,
+        };
+        same && match slip {
+            Slip::ClashPasses => false,
+            Slip::OnlyNeighboursClash => b == a + 1,
+            Slip::NeighboursPass => b != a + 1,
+            Slip::LastRowNeverClashes => b + 1 < n,
+            _ => true,
+        }
+    };
+    let early = |later: usize, before: usize| match slip {
+        Slip::SameRoundPasses => rows[later].0 < rows[before].0,
+        Slip::OneRoundEarlierPasses => rows[later].0 == rows[before].0,
+        _ => rows[later].0 <= rows[before].0,
+    };
+    let stranger = |k: usize| match slip {
+        Slip::WorkerPasses => false,
+        Slip::WorkerAtCountPasses => rows[k].1 > workers,
+        Slip::FirstWorkerOnly => k == 0 && rows[k].1 >= workers,
+        _ => rows[k].1 >= workers,
+    };
+    let rule = (0..n).any(|a| (a + 1..n).any(|b| clash(a, b)))
+        || pairs(jobs, slip).iter().any(|&(later, before)| early(later, before))
+        || (0..n).any(stranger);
+    match (form, rule) {
+        (true, true) if slip == Slip::RulesBeforeForm => 12,
+        (true, _) => 11,
+        (_, true) => 12,
+        _ => 0,
+    }
+}
+
+#[derive(Default)]
+struct Cases {
+    dir: String,
+    code: String,
+    groups: String,
+    expected: String,
+    count: usize,
+    told: Vec<usize>,
+}
+
+impl Cases {
+    fn group(&mut self, name: &str) {
+        if !self.code.is_empty() {
+            self.code.push_str("}\n");
+        }
+        write!(self.code, "\npub fn {name}() {{\n").unwrap();
+        write!(self.groups, "    cases::{name}();\n").unwrap();
+    }
+
+    fn save(&mut self, call: &str, name: &str, input: Vec<u8>, answer: u32) {
+        let file = format!("{}/data/{name}", self.dir);
+        assert!(fs::metadata(&file).is_err(), "two cases named {}", name);
+        assert!(input.len() <= 16384);
+        fs::write(file, input).unwrap();
+        writeln!(self.code, "    {call}(b\"{name}\");").unwrap();
+        let answer = if answer == 0 { "accepted".into() } else { format!("refused {answer}") };
+        writeln!(self.expected, "{name}: {answer}").unwrap();
+        self.count += 1;
+    }
+
+    fn bytes(&mut self, name: &str, plan: &[u8], schedule: &[u8], answer: u32) {
+        let input = [&[(plan.len() >> 8) as u8, plan.len() as u8], plan, schedule].concat();
+        self.save("case", name, input, answer);
+    }
+
+    /// A case whose plan is accepted.
+    fn case(&mut self, name: &str, jobs: &[Job], schedule: &[u8], answer: u32) {
+        assert_eq!(judge(jobs, schedule, Slip::None), answer, "{name}");
+        for (k, &slip) in SLIPS.iter().enumerate() {
+            self.told[k] += (judge(jobs, schedule, slip) != answer) as usize;
+        }
+        self.bytes(name, &plan(jobs), schedule, answer);
+    }
+
+    fn keeps(&mut self, name: &str, jobs: &[Job], workers: u32, rows: &[Row]) {
+        self.case(name, jobs, &schedule(workers, rows), 0);
+    }
+
+    fn breaks(&mut self, name: &str, jobs: &[Job], workers: u32, rows: &[Row]) {
+        self.case(name, jobs, &schedule(workers, rows), 12);
+    }
+
+    /// A run, and the check of the schedule that it writes.
+    fn own(&mut self, name: &str, jobs: &[Job], workers: u8, choices: &[u8]) {
+        let input = [&[workers, (choices.len() >> 8) as u8, choices.len() as u8], choices, &plan(jobs)].concat();
+        let chosen = match choices.len() {
+            0 => "none".into(),
+            16 => "all".into(),
+            _ => choices.iter().map(|c| c.to_string()).collect::<Vec<_>>().join("_"),
+        };
+        self.save("own", &format!("{name}_with_{workers}_choosing_{chosen}"), input, 0);
+    }
+}
+
+fn main() {
+    let dir = std::env::args().nth(1).expect("the crate's folder");
+    let _ = fs::remove_dir_all(format!("{dir}/data"));
+    fs::create_dir_all(format!("{dir}/data")).unwrap();
+    let mut c = Cases { dir: dir.clone(), told: vec![0; SLIPS.len()], ..Cases::default() };
+    let spread: Vec<Row> = E4.iter().map(|&(r, w)| (100 * r, w)).collect();
+    let late: Vec<Row> = E4.iter().map(|&(r, w)| (4089 + r, w)).collect();
+
+    c.group("papers");
+    c.keeps("case_4_rows", &e(), 2, &E4);
+    c.breaks("case_12", &e(), 2, &with(&E4, &[(5, (2, 1))]));
+
+    c.group("accepted_schedules");
+    c.keeps("rounds_spread_out", &e(), 2, &spread);
+    c.keeps("rounds_up_to_4095", &e(), 2, &late);
+    c.keeps("header_of_3_workers_2_used", &e(), 3, &E4);
+    c.keeps("header_of_16_workers_2_used", &e(), 16, &E4);
+    // depth first: 0.0 1.0 1.1 0.1 0.2 2.0 0.3 0.4
+    c.keeps("one_worker_depth_first", &e(), 1, &[(1, 0), (4, 0), (5, 0), (7, 0), (8, 0), (2, 0), (3, 0), (6, 0)]);
+    c.keeps("worker_0_does_nothing", &e(), 2, &[(1, 1), (4, 1), (5, 1), (7, 1), (8, 1), (2, 1), (3, 1), (6, 1)]);
+    c.keeps("each_action_its_own_worker", &e(), 8, &[(1, 7), (2, 6), (3, 5), (4, 4), (5, 3), (2, 2), (3, 1), (4, 0)]);
+    c.keeps("one_action", &one(), 1, &[(1, 0)]);
+    c.keeps("one_action_by_worker_15_in_round_4095", &one(), 16, &[(4095, 15)]);
+    // unequal rows whose rounds are 256 apart for a worker number one less
+    c.keeps("rounds_256_apart", &e(), 2, &[(1, 1), (257, 0), (258, 1), (514, 0), (4095, 0), (2, 1), (258, 0), (513, 1)]);
+
+    c.group("accepted_shapes");
+    c.keeps("plan_f", &f(), 2, &F2);
+    c.keeps("eight_joins", &fan(8), 2, &fan_8());
+    c.keeps("chain_of_three", &chain(3), 3, &CHAIN_3);
+    c.keeps("two_joins_of_one_job", &two_joins(), 2, &TWO_JOINS);
+    let mut fifteen: Vec<Row> = (0..16).map(|i| (i + 1, 0)).collect();
+    fifteen.extend([(20, 0), (21, 0)]);
+    fifteen.extend((1..=15).map(|w| (17, w)));
+    c.keeps("fifteen_workers_in_one_round", &fan(15), 16, &fifteen);
+    c.keeps("2048_actions", &largest(), 9, &largest_rows());
+
+    c.group("lengths");
+    let own = schedule(2, &E4);
+    c.case("one_byte_short", &e(), &own[..19], 11);
+    c.case("one_byte_short_in_round_400", &e(), &schedule(2, &spread)[..19], 11);
+    c.case("one_byte_long", &e(), &[&own[..], &[0]].concat(), 11);
+    c.case("empty_schedule", &e(), &[], 11);
+    c.case("header_alone", &e(), &own[..4], 11);
+    c.case("three_bytes", &e(), &own[..3], 11);
+    c.case("last_row_missing", &e(), &own[..18], 11);
+    c.case("one_row_more", &e(), &[&own[..], &[0, 0x71]].concat(), 11);
+    c.case("empty_schedule_of_one_action", &one(), &[], 11);
+
+    c.group("form_and_worker_count");
+    c.case("form_0", &e(), &headed(0, 2, 8, 0, &E4), 11);
+    c.case("form_2", &e(), &headed(2, 2, 8, 0, &E4), 11);
+    c.case("form_129", &e(), &headed(129, 2, 8, 0, &E4), 11);
+    c.case("workers_0", &e(), &headed(1, 0, 8, 0, &E4), 11);
+    c.case("workers_17", &e(), &headed(1, 17, 8, 0, &E4), 11);
+    c.case("workers_18", &e(), &headed(1, 18, 8, 0, &E4), 11);
+    c.case("workers_31", &e(), &headed(1, 31, 8, 0, &E4), 11);
+
+    c.group("action_count");
+    c.case("actions_7", &e(), &headed(1, 2, 7, 0, &E4), 11);
+    c.case("actions_9", &e(), &headed(1, 2, 9, 0, &E4), 11);
+    c.case("actions_0", &e(), &headed(1, 2, 0, 0, &E4), 11);
+    c.case("actions_2056", &e(), &headed(1, 2, 2056, 0, &E4), 11);
+    c.case("actions_7_in_7_rows", &e(), &schedule(2, &E4[..7]), 11);
+    c.case("actions_9_in_9_rows", &e(), &schedule(2, &[&E4[..], &[(7, 1)]].concat()), 11);
+    c.case("schedule_of_e_for_f", &f(), &own, 11);
+    c.case("schedule_of_f_for_e", &e(), &schedule(2, &F2), 11);
+
+    c.group("zero_bits");
+    for bit in 0..7 {
+        c.case(&format!("zero_bit_{bit}_set"), &e(), &headed(1, 2, 8, 64 >> bit, &E4), 11);
+    }
+    c.case("all_zero_bits_set", &e(), &headed(1, 2, 8, 127, &E4), 11);
+
+    c.group("rounds_of_0");
+    c.case("round_0_first", &e(), &schedule(2, &with(&E4, &[(0, (0, 0))])), 11);
+    c.case("round_0_first_by_worker_1", &e(), &schedule(2, &with(&E4, &[(0, (0, 1))])), 11);
+    c.case("round_0_middle", &e(), &schedule(2, &with(&E4, &[(4, (0, 1))])), 11);
+    c.case("round_0_last", &e(), &schedule(2, &with(&E4, &[(7, (0, 1))])), 11);
+    c.case("round_0_everywhere", &e(), &schedule(2, &[(0, 0); 8]), 11);
+    c.case("round_0_last_of_2048", &largest(), &schedule(9, &with(&largest_rows(), &[(2047, (0, 8))])), 11);
+
+    c.group("clashes");
+    // every action follows the first, so that its order is broken too
+    c.breaks("clash_of_the_first_and_the_last_row", &e(), 2, &with(&E4, &[(7, (1, 0))]));
+    c.breaks("clash_of_the_second_and_the_last_row", &f(), 2, &with(&F2, &[(1, (5, 1))]));
+    c.breaks("clash_of_neighbours", &fan(8), 2, &with(&fan_8(), &[(12, (5, 1))]));
+    c.breaks("clash_of_the_last_two", &e(), 2, &with(&E4, &[(6, (4, 1))]));
+    c.breaks("clash_of_the_last_two_of_eighteen", &fan(8), 2, &with(&fan_8(), &[(16, (9, 1))]));
+    c.breaks("clash_far_apart", &fan(8), 2, &with(&fan_8(), &[(10, (9, 1))]));
+    c.breaks("clash_in_job_0_with_the_last_row", &fan(8), 2, &with(&fan_8(), &[(17, (9, 0))]));
+    c.breaks("clash_in_round_4094_by_worker_15", &fan(8), 16, &with(&fan_8(), &[(8, (4094, 15)), (17, (4094, 15)), (9, (4095, 0))]));
+    c.breaks("clash_of_2048", &largest(), 9, &with(&largest_rows(), &[(2047, (16, 7))]));
+    c.breaks("all_in_round_1_by_worker_0", &e(), 2, &[(1, 0); 8]);
+
+    c.group("order_in_a_job");
+    c.breaks("second_in_round_of_first", &e(), 2, &with(&E4, &[(1, (1, 1))]));
+    c.breaks("fourth_in_round_of_third", &e(), 3, &with(&E4, &[(3, (3, 2))]));
+    c.breaks("fourth_a_round_before_third", &e(), 3, &with(&E4, &[(3, (2, 2))]));
+    c.breaks("fifth_in_round_of_fourth", &e(), 2, &with(&E4, &[(4, (5, 0))]));
+    c.breaks("fifth_a_round_before_fourth", &e(), 2, &with(&E4, &[(3, (8, 1)), (4, (7, 1))]));
+    c.breaks("job_1_second_in_round_of_first", &e(), 3, &with(&E4, &[(6, (2, 2))]));
+    c.breaks("job_1_second_two_rounds_before_first", &e(), 3, &with(&E4, &[(5, (4, 0))]));
+    c.breaks("job_1_fourth_in_round_of_third", &f(), 3, &with(&F2, &[(6, (4, 2))]));
+    let jobs_of_one = vec![(1, vec![NONE; 8])];
+    c.breaks("one_job_with_the_rows_of_e", &jobs_of_one, 2, &E4);
+    c.breaks("last_of_2048_in_round_of_one_before", &largest(), 16, &with(&largest_rows(), &[(2047, (15, 15))]));
+
+    c.group("spawns");
+    c.breaks("job_1_in_round_of_its_spawn", &e(), 2, &with(&E4, &[(5, (1, 1))]));
+    c.breaks("job_2_in_round_of_its_spawn", &e(), 3, &with(&E4, &[(7, (3, 2))]));
+    c.breaks("job_2_a_round_before_its_spawn", &e(), 3, &with(&E4, &[(7, (2, 2))]));
+    c.breaks("grandchild_in_round_of_its_spawn", &chain(3), 3, &with(&CHAIN_3, &[(6, (2, 2))]));
+    for child in 1..=8 {
+        c.breaks(&format!("child_{child}_in_round_of_its_spawn"), &fan(8), 3, &with(&fan_8(), &[(9 + child, (child as u32, 2))]));
+    }
+
+    c.group("joins");
+    for child in 1..=8 {
+        c.breaks(&format!("join_{child}_in_round_of_its_target"), &fan(8), 2, &with(&fan_8(), &[(9 + child, (20, 1))]));
+    }
+    c.breaks("join_1_a_round_after_its_target", &fan(8), 2, &with(&fan_8(), &[(10, (21, 1))]));
+    c.breaks("join_8_a_round_after_its_target", &fan(8), 2, &with(&fan_8(), &[(17, (21, 1))]));
+    c.breaks("job_1_join_in_round_of_its_target", &e(), 2, &with(&E4, &[(6, (6, 0))]));
+    c.breaks("job_2_join_in_round_of_its_target", &e(), 2, &with(&E4, &[(7, (6, 0))]));
+    c.breaks("join_into_job_1_in_round_of_its_target", &chain(3), 3, &with(&CHAIN_3, &[(6, (5, 2))]));
+    c.breaks("first_of_two_joins_in_round_of_its_target", &two_joins(), 2, &with(&TWO_JOINS, &[(5, (3, 1)), (6, (4, 1))]));
+    c.breaks("second_of_two_joins_in_round_of_its_target", &two_joins(), 2, &with(&TWO_JOINS, &[(6, (5, 1))]));
+
+    c.group("worker_numbers");
+    c.breaks("worker_2_of_2_first", &e(), 2, &with(&E4, &[(0, (1, 2))]));
+    c.breaks("worker_2_of_2_middle", &e(), 2, &with(&E4, &[(3, (5, 2))]));
+    c.breaks("worker_2_of_2_last", &e(), 2, &with(&E4, &[(7, (4, 2))]));
+    c.breaks("worker_3_of_2_last", &e(), 2, &with(&E4, &[(7, (4, 3))]));
+    c.breaks("worker_1_of_1", &e(), 1, &E4);
+    c.breaks("worker_15_of_1", &one(), 1, &[(1, 15)]);
+    c.breaks("worker_15_of_15", &e(), 15, &with(&E4, &[(7, (4, 15))]));
+    c.keeps("worker_15_of_16", &e(), 16, &with(&E4, &[(7, (4, 15))]));
+    c.breaks("fifteen_workers_in_one_round_of_15", &fan(15), 15, &fifteen);
+
+    c.group("form_before_rules");
+    let clash = with(&E4, &[(5, (2, 1))]);
+    c.case("clash_and_one_byte_long", &e(), &[&schedule(2, &clash)[..], &[0]].concat(), 11);
+    c.case("clash_and_form_0", &e(), &headed(0, 2, 8, 0, &clash), 11);
+    c.case("clash_and_zero_bit", &e(), &headed(1, 2, 8, 1, &clash), 11);
+    c.case("clash_and_round_0_last", &e(), &schedule(2, &with(&clash, &[(7, (0, 1))])), 11);
+    c.case("order_and_actions_7", &e(), &headed(1, 2, 7, 0, &with(&E4, &[(1, (1, 1))])), 11);
+    c.case("worker_2_of_2_and_round_0_last", &e(), &schedule(2, &with(&E4, &[(0, (1, 2)), (7, (0, 1))])), 11);
+    c.case("worker_1_of_0", &e(), &schedule(0, &E4), 11);
+
+    c.group("plan_before_schedule");
+    let bytes = plan(&e());
+    let bad = headed(0, 0, 0, 127, &[(0, 15)]);
+    let changed = |at: usize, to: u8| {
+        let mut plan = bytes.clone();
+        plan[at] = to;
+        plan
+    };
+    let mut no_second = e();
+    no_second[0].1[2] = NONE;
+    let mut third = e();
+    third[2].1[0] = join(3);
+    // case 7, no byte; a plan cut short; form 2; frame 0; job 2 never spawned; case 9; case 8
+    c.bytes("no_plan_and_no_schedule", &[], &[], 1);
+    c.bytes("no_plan_and_bad_schedule", &[], &bad, 1);
+    c.bytes("plan_cut_short_and_bad_schedule", &bytes[..17], &bad, 1);
+    c.bytes("plan_of_form_2_and_bad_schedule", &changed(0, 2), &bad, 2);
+    let mut no_frame = e();
+    no_frame[1].0 = 0;
+    c.bytes("frame_0_and_bad_schedule", &plan(&no_frame), &bad, 3);
+    c.bytes("job_never_spawned_and_bad_schedule", &plan(&no_second), &bad, 4);
+    c.bytes("join_after_spawn_and_bad_schedule", &plan(&third), &bad, 5);
+    c.bytes("fill_bit_and_bad_schedule", &changed(17, 1), &bad, 6);
+    c.bytes("fill_bit_and_case_4_rows", &changed(17, 1), &own, 6);
+    c.bytes("fill_bit_and_clash", &changed(17, 1), &schedule(2, &clash), 6);
+
+    c.group("runs_of_e");
+    let all: Vec<u8> = (0..16).collect();
+    for (workers, choices) in [(1, &[][..]), (1, &[0]), (2, &[0]), (2, &[0, 1]), (2, &[1, 0, 0]), (3, &[0]), (3, &[2, 1, 0]), (16, &[0]), (16, &all)] {
+        c.own("e", &e(), workers, choices);
+    }
+    c.group("runs_of_f");
+    for (workers, choices) in [(1, &[][..]), (2, &[0]), (2, &[0, 1]), (3, &[0]), (3, &[1, 0]), (16, &[0]), (16, &all)] {
+        c.own("f", &f(), workers, choices);
+    }
+    c.group("runs_of_other_plans");
+    c.own("one_action", &one(), 1, &[]);
+    c.own("one_action", &one(), 16, &[0]);
+    for (workers, choices) in [(1, &[][..]), (2, &[0, 1]), (16, &[0]), (16, &all)] {
+        c.own("wide", &fan(100), workers, choices);
+        c.own("deep", &chain(100), workers, choices);
+    }
+    c.own("2048_actions", &largest(), 16, &[0, 1, 2]);
+
+    for (k, slip) in SLIPS.iter().enumerate() {
+        println!("{slip:?}: told apart by {} cases", c.told[k]);
+        assert!(c.told[k] > 0, "no case tells {:?} apart", slip);
+    }
+    let head = "// One call for each case. Written by tools/check_cases.rs.\nuse crate::case;\nuse crate::own;\n";
+    fs::write(format!("{dir}/src/cases.rt"), format!("{head}{}}}\n", c.code)).unwrap();
+    fs::write(format!("{dir}/stdout"), &c.expected).unwrap();
+    println!("{} cases in the groups\n{}", c.count, c.groups);
+}
