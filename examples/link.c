@@ -25,13 +25,11 @@ int main(void) {
         const uint8_t *row = schedule + 4 + 2 * k;
         printf("action %u: round %d, worker %d\n", (unsigned)k, row[0] * 16 + row[1] / 16, row[1] % 16);
     }
-#ifdef DW_CHECK
     uint32_t refused = dw_check(plan, sizeof plan, schedule, 4 + 2 * (size_t)t.actions);
     if (refused) {
         printf("the schedule is refused %u\n", (unsigned)refused);
         return 1;
     }
     printf("the schedule keeps the rules\n");
-#endif
     return 0;
 }

@@ -1,5 +1,6 @@
 -- What the exported functions answer, as plain numbers: the refusal's number, 0 for none, then what was asked for, or 0s.
 --   countOf, measuresOf, tallyOf == the numbers of an outcome
+--   checkOf                      == the number of a judgement
 --   Claimed plan n r schedule    == demand 3's claim, of what was returned and written
 -- Assumes nothing.
 use Prim.Native.Nat.{ℕ}
@@ -39,6 +40,10 @@ tallyOf (accepted t) =
       misses = t .misses;
       peak = t .peak;
     }
+
+abbrev pub checkOf : Outcome ℕ → ℕ
+checkOf (refused k) = k
+checkOf (accepted n) = 0
 
 -- where nothing is refused, the schedule begins with the bytes of rows of which, with the tally, the claim holds
 abbrev pub Claimed : List ℕ → ℕ → DwTally → List ℕ → Type 0

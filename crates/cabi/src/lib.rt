@@ -5,8 +5,11 @@ ghost use Prim.Native.Nat.{_<_};
 ghost use Rattle.plan.specs.Refusal.{numberOf};
 ghost use Rattle.plan_measure.specs.Measure.{measures};
 ghost use Rattle.plan_table.specs.Table.{toTable, toPlan};
+ghost use Rattle.runs.specs.Schedule.{checked};
 ghost use Rattle.scheduler.specs.Entry.{runInto};
-ghost use Rattle.cabi.specs.Plain.{countOf, measuresOf, tallyOf, Claimed};
+ghost use Rattle.cabi.specs.Plain.{countOf, measuresOf, tallyOf, checkOf, Claimed};
+use checker::Judged;
+use checker::check;
 use plan::refusal::Refusal;
 use plan::refusal::number;
 use plan_measure::Measured;
@@ -134,5 +137,15 @@ pub extern "C" fn dw_run(plan: &[u8], workers: u32, choices: &[u8], schedule: &m
             misses: t.misses,
             peak: t.peak,
         },
+    }
+}
+
+#[no_mangle]
+pub extern "C" fn dw_check(plan: &[u8], schedule: &[u8]) -> u32
+    ensures { λ r. ⌜ r ≡ checkOf (checked (now (plan .entry)) (now (schedule .entry))) ⌝ }
+{
+    match check(plan, schedule) {
+        Judged::Refused(cause) => cause_number(cause),
+        Judged::Accepted => 0,
     }
 }

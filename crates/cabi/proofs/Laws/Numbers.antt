@@ -32,7 +32,10 @@ use Rattle.runs.specs.declared.tally.Tally.{Tally}
 use Rattle.scheduler.specs.declared.run.Ran.{Ran}
 use Rattle.scheduler.specs.declared.run.Ran.the-variants.{Refused as NotRun, Done}
 use Rattle.scheduler.specs.Entry.{runInto, ranOf, Claimed as RunClaimed}
-use Rattle.cabi.specs.Plain.{countOf, measuresOf, tallyOf, Claimed}
+use Rattle.checker.specs.declared.Judged.{Judged}
+use Rattle.checker.specs.declared.Judged.the-variants.{Refused as NotKept, Accepted}
+use Rattle.checker.specs.Answer.{judgedOf}
+use Rattle.cabi.specs.Plain.{countOf, measuresOf, tallyOf, checkOf, Claimed}
 
 pub number-some : (cause : Refusal) → numberOf cause ≡ 0 → ⊥
 number-some RanOut e = omega arith
@@ -83,3 +86,10 @@ module _
       → ((tallyOf (accepted t) ≡ tallyOf (runInto bytes n choices lent .answer)) × (l ≡ runInto bytes n choices lent .schedule)) × Claimed bytes n (tallyOf (accepted t)) l
   tally-accepted t e =
       (rw (← ensures, e) (refl, refl), λ z. let b = claim t e in (b .0, b .1, t, b .2, refl, b .3, b .4))
+
+module _ (o : Outcome ℕ) (r : Judged) (ensures : judgedOf r ≡ o) where
+  pub check-refused : (cause : Refusal) (k : ℕ) → r ≡ NotKept cause → k ≡ numberOf cause → k ≡ checkOf o
+  check-refused cause k e f = rw (← ensures, e, f)
+
+  pub check-accepted : r ≡ Accepted → 0 ≡ checkOf o
+  check-accepted e = rw (← ensures, e)
