@@ -1,0 +1,175 @@
+//! The proved code against the second one, on the same inputs.
+
+use compare::inputs::{Aim, Shape, Wish, MAX_ACTIONS, MAX_CHOICES, MAX_JOBS};
+use compare::proved;
+use compare::random::Random;
+use std::hint::black_box;
+use std::time::Instant;
+
+const REPETITIONS: usize = 201;
+
+/// One call is too short for the clock, so a few go together.
+const TOGETHER: usize = 8;
+
+/// A call on one plan again and again would learn its branches by heart.
+const PLANS: usize = 64;
+
+const LARGEST: Wish = Wish {
+    shape: Shape::Recent,
+    jobs: MAX_JOBS,
+    actions: MAX_ACTIONS,
+    lumped: false,
+    spawns_first: false,
+    aim: Aim::Any,
+    joins: 30,
+    frame: u16::MAX,
+};
+
+fn median(mut times: Vec<f64>) -> f64 {
+    times.sort_by(f64::total_cmp);
+    times[times.len() / 2]
+}
+
+/// Medians of both in microseconds, their calls taken in turn. Calls are given
+/// the number of the plan to use.
+fn medians<T: PartialEq>(
+    mut proved: impl FnMut(usize) -> T,
+    mut second: impl FnMut(usize) -> T,
+) -> (f64, f64) {
+    for plan in 0..PLANS {
+        assert!(proved(plan) == second(plan), "the answers differ");
+    }
+    let times: (Vec<f64>, Vec<f64>) = (0..REPETITIONS)
+        .map(|repetition| {
+            let first = repetition * TOGETHER;
+            (time(first, &mut proved), time(first, &mut second))
+        })
+        .unzip();
+    (median(times.0), median(times.1))
+}
+
+fn time<T>(first: usize, call: &mut impl FnMut(usize) -> T) -> f64 {
+    let start = Instant::now();
+    for k in first..first + TOGETHER {
+        black_box(call(black_box(k % PLANS)));
+    }
+    start.elapsed().as_secs_f64() * 1e6 / TOGETHER as f64
+}
+
+fn line(name: &str, (proved, second): (f64, f64)) {
+    let ratio = proved / second;
+    println!("| {name} | {proved:.2} | {second:.2} | {ratio:.2} |");
+}
+
+fn plans_of(random: &mut Random, wish: Wish) -> Vec<Vec<u8>> {
+    (0..PLANS).map(|_| wish.grant(random).bytes()).collect()
+}
+
+fn any_list(random: &mut Random, workers: u32) -> Vec<u8> {
+    (0..MAX_CHOICES)
+        .map(|_| random.below(workers as usize) as u8)
+        .collect()
+}
+
+fn run(plans: &[Vec<u8>], workers: u32, choices: &[u8]) -> (f64, f64) {
+    let mut one = vec![0; 4 + 2 * MAX_ACTIONS];
+    let mut other = one.clone();
+    let times = medians(
+        |k| proved::run(&plans[k], workers, choices, &mut one),
+        |k| second::run(&plans[k], workers, choices, &mut other),
+    );
+    assert!(one == other, "the schedules differ");
+    times
+}
+
+fn schedule_of(plan: &[u8], workers: u32, choices: &[u8]) -> Vec<u8> {
+    let mut schedule = vec![0; 4 + 2 * MAX_ACTIONS];
+    second::run(plan, workers, choices, &mut schedule).expect("the plan is good");
+    schedule
+}
+
+fn main() {
+    let mut random = Random(0x5EED_0008);
+    let plans = plans_of(&mut random, LARGEST);
+    let tables: Vec<Vec<u16>> = plans
+        .iter()
+        .map(|plan| {
+            let mut rows = vec![0; 4 * MAX_ACTIONS];
+            let count = second::plan_to_table(plan, &mut rows);
+            assert_eq!(count, Ok(MAX_ACTIONS), "the plan is as large as can be");
+            rows
+        })
+        .collect();
+
+    println!(
+        "Medians of {REPETITIONS} repetitions of {TOGETHER} calls, both taken in turn, in \
+         microseconds a call.\nBuffers are not cleared between calls. Calls go over {PLANS} plans \
+         of {MAX_ACTIONS} actions in {MAX_JOBS} jobs, one after the other.\n"
+    );
+    println!("| Call | proved | second | proved / second |");
+    println!("|---|---:|---:|---:|");
+
+    let mut rows = (tables[0].clone(), tables[0].clone());
+    let times = medians(
+        |k| proved::plan_to_table(&plans[k], &mut rows.0),
+        |k| second::plan_to_table(&plans[k], &mut rows.1),
+    );
+    line("plan to table", times);
+    let mut bytes = (vec![0; 8 * MAX_ACTIONS], vec![0; 8 * MAX_ACTIONS]);
+    let times = medians(
+        |k| proved::table_to_plan(&tables[k], &mut bytes.0),
+        |k| second::table_to_plan(&tables[k], &mut bytes.1),
+    );
+    line("table to plan", times);
+    let times = medians(
+        |k| proved::measure(&plans[k]),
+        |k| second::measure(&plans[k]),
+    );
+    line("measure", times);
+    for workers in [1, 4, 16] {
+        let choices = any_list(&mut random, workers);
+        let times = run(&plans, workers, &choices);
+        line(&format!("run, P {workers}, mixed choices"), times);
+        let schedules: Vec<Vec<u8>> = plans
+            .iter()
+            .map(|plan| schedule_of(plan, workers, &choices))
+            .collect();
+        let times = medians(
+            |k| proved::check(&plans[k], &schedules[k]),
+            |k| second::check(&plans[k], &schedules[k]),
+        );
+        line(&format!("check of those schedules, P {workers}"), times);
+    }
+    for victim in [0, 15] {
+        let times = run(&plans, 16, &[victim; MAX_CHOICES]);
+        line(&format!("run, P 16, all choose worker {victim}"), times);
+    }
+    // A chain of jobs leaves fifteen workers with nothing but requests.
+    let chain = Wish {
+        shape: Shape::Chain,
+        aim: Aim::Early,
+        spawns_first: true,
+        ..LARGEST
+    };
+    let chains = plans_of(&mut random, chain);
+    let times = run(&chains, 16, &[0; MAX_CHOICES]);
+    line("run of a chain of jobs, P 16, all choose worker 0", times);
+    let times = run(&chains, 16, &any_list(&mut random, 16));
+    line("run of a chain of jobs, P 16, mixed choices", times);
+
+    println!("\nA run with P 4 as plans grow, again over {PLANS} of each size:\n");
+    println!("| Actions | proved | second | proved / second |");
+    println!("|---:|---:|---:|---:|");
+    let choices = any_list(&mut random, 4);
+    let mut actions = 64;
+    while actions <= MAX_ACTIONS {
+        let wish = Wish {
+            jobs: actions / 8,
+            actions,
+            ..LARGEST
+        };
+        let plans = plans_of(&mut random, wish);
+        line(&actions.to_string(), run(&plans, 4, &choices));
+        actions *= 2;
+    }
+}

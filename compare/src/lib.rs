@@ -1,0 +1,7 @@
+//! The proved runner behind its C interface, and inputs to hold it against
+//! the second one.
+
+pub mod claims;
+pub mod inputs;
+pub mod proved;
+pub mod random;

@@ -1,0 +1,38 @@
+//! The proved runner against the second one, on the same inputs.
+
+mod both;
+mod buffers;
+mod damaged;
+mod extreme;
+mod generated;
+mod small;
+
+use both::Both;
+
+type Part = fn(&mut Both);
+
+fn main() {
+    let parts: [(&str, Part); 9] = [
+        ("small plans, all lists", small::plans),
+        ("small plans, any numbers", small::any_numbers),
+        ("generated runs", generated::runs),
+        ("runs turned down", generated::turned_down),
+        ("extremes", extreme::all),
+        ("damaged plans", damaged::plans),
+        ("damaged tables", damaged::tables),
+        ("damaged and other schedules", damaged::schedules),
+        ("buffers", buffers::all),
+    ];
+    let mut both = Both::default();
+    let mut before = 0;
+    for (name, part) in parts {
+        part(&mut both);
+        println!("{:>9}  {name}", both.calls - before);
+        before = both.calls;
+    }
+    println!("{:>9}  cases in all, no difference", both.calls);
+    println!("{:>9}  of them runs that were accepted", both.runs);
+    println!("{:>9}  inputs from the generator", both.generated);
+    assert!(both.generated >= 20_000, "too few generated cases");
+    assert!(both.runs >= 20_000, "too few accepted runs");
+}

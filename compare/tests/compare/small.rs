@@ -1,0 +1,98 @@
+//! All inputs up to a small size.
+
+use crate::both::Both;
+use compare::inputs::{small_lists, small_plans, Action, Job, Sketch};
+
+/// Of at most five actions in all only 11 plans keep the rules, none of them
+/// with three jobs, so the sizes go beyond: 13,404 plans of at most ten, 9,610
+/// with three jobs. Frames are fixed; each plan gets the 59 lists of at most
+/// three choices for one to three workers.
+const MOST_ACTIONS: usize = 10;
+
+pub fn plans(both: &mut Both) {
+    let lists: Vec<(u32, Vec<Vec<u8>>)> = (1..=3)
+        .map(|workers| (workers, small_lists(workers as usize, 3)))
+        .collect();
+    small_plans(MOST_ACTIONS, |sketch| {
+        let plan = sketch.bytes();
+        let facts = both.facts(&plan, &sketch.rows());
+        for (workers, lists) in &lists {
+            for choices in lists {
+                if choices.is_empty() && *workers > 1 {
+                    let refused = both.run(&plan, *workers, choices, 64);
+                    assert_eq!(refused, Err(8));
+                } else {
+                    both.run_claimed(&plan, &facts, *workers, choices);
+                }
+            }
+        }
+    });
+}
+
+/// Plans of at most three jobs and five actions with any children from 1 to 2
+/// and any targets from 0 to 4; beyond four actions job 0 sends no join.
+/// Nearly all break a rule, so only what the reader says is compared.
+pub fn any_numbers(both: &mut Both) {
+    for total in 1..=5 {
+        for jobs in 1..=total.min(3) {
+            for first in 1..=total {
+                for second in 0..=total - first {
+                    let third = total - first - second;
+                    let counts = [first, second, third];
+                    let shaped = counts.iter().take_while(|&&count| count > 0).count();
+                    if shaped == jobs && counts[jobs..].iter().all(|&count| count == 0) {
+                        fill(both, &counts[..jobs], total > 4);
+                    }
+                }
+            }
+        }
+    }
+}
+
+fn fill(both: &mut Both, counts: &[usize], root_silent: bool) {
+    let mut sketch = Sketch {
+        jobs: counts
+            .iter()
+            .map(|&count| Job {
+                frame: 7,
+                actions: vec![Action::default(); count],
+            })
+            .collect(),
+    };
+    loop {
+        let plan = sketch.bytes();
+        let answer = both.measure(&plan);
+        if let Err(refused) = answer {
+            assert!(refused == 4 || refused == 5);
+        }
+        if !advance(&mut sketch, root_silent) {
+            return;
+        }
+    }
+}
+
+/// Counts up: each action is a digit.
+fn advance(sketch: &mut Sketch, root_silent: bool) -> bool {
+    for (number, job) in sketch.jobs.iter_mut().enumerate() {
+        for action in &mut job.actions {
+            let targets = if number == 0 && root_silent { 0 } else { 5 };
+            action.target = match action.target {
+                None if targets > 0 => Some(0),
+                Some(target) if target + 1 < targets => Some(target + 1),
+                _ => None,
+            };
+            if action.target.is_some() {
+                return true;
+            }
+            action.child = match action.child {
+                None => Some(1),
+                Some(1) => Some(2),
+                _ => None,
+            };
+            if action.child.is_some() {
+                return true;
+            }
+        }
+    }
+    false
+}

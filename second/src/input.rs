@@ -1,0 +1,79 @@
+//! One input of a whole run, and what is printed of it.
+
+use crate::plan::Plan;
+use crate::run::{check_workers, schedule_length, write_run, MAX_CHOICES};
+use crate::{measure, refusal};
+use std::fmt;
+
+const MAX_INPUT: usize = 8192;
+
+/// The counts of a run and the measures of its plan, in the printed order.
+#[derive(Clone, Copy, Debug, PartialEq, Eq)]
+#[allow(missing_docs)]
+pub struct Counts {
+    pub rounds: u32,
+    pub actions: u32,
+    pub longest: u32,
+    pub path: u32,
+    pub peak: u32,
+    pub idle: u32,
+    pub requests: u32,
+    pub steals: u32,
+    pub misses: u32,
+}
+
+impl Counts {
+    /// Names and values, in the printed order.
+    pub fn named(&self) -> [(&'static str, u32); 9] {
+        [
+            ("rounds", self.rounds),
+            ("actions", self.actions),
+            ("longest", self.longest),
+            ("path", self.path),
+            ("peak", self.peak),
+            ("idle", self.idle),
+            ("requests", self.requests),
+            ("steals", self.steals),
+            ("misses", self.misses),
+        ]
+    }
+}
+
+impl fmt::Display for Counts {
+    fn fmt(&self, f: &mut fmt::Formatter<'_>) -> fmt::Result {
+        self.named()
+            .iter()
+            .try_for_each(|(name, value)| writeln!(f, "{name} {value}"))
+    }
+}
+
+/// Runs an input of a worker count, a choice count, choices and a plan.
+pub fn build(input: &[u8]) -> Result<Counts, u32> {
+    let input = &input[..input.len().min(MAX_INPUT)];
+    let [workers, high, low, ref rest @ ..] = *input else {
+        return Err(refusal::BITS);
+    };
+    let count = usize::from(u16::from_be_bytes([high, low]));
+    if count > MAX_CHOICES {
+        return Err(refusal::CHOICES);
+    }
+    let (choices, plan) = rest.split_at_checked(count).ok_or(refusal::BITS)?;
+
+    let plan = Plan::read(plan)?;
+    let workers = u32::from(workers);
+    check_workers(workers, choices)?;
+    let measures = measure::of(&plan);
+    let mut schedule = vec![0; schedule_length(&plan)];
+    let tally = write_run(&plan, workers, choices, &mut schedule);
+    Ok(Counts {
+        rounds: tally.rounds,
+        actions: tally.actions,
+        longest: measures.longest,
+        path: measures.path,
+        peak: tally.peak,
+        idle: tally.idle,
+        requests: tally.requests,
+        steals: tally.steals,
+        misses: tally.misses,
+    })
+}

@@ -1,0 +1,20 @@
+//! A second reading of the build runner's specification, written apart from
+//! the first so that the two can be compared.
+
+#![forbid(unsafe_code)]
+#![warn(missing_docs)]
+
+mod bits;
+mod check;
+mod input;
+mod measure;
+mod plan;
+pub mod refusal;
+mod run;
+mod table;
+
+pub use check::check;
+pub use input::{build, Counts};
+pub use measure::{measure, Measures};
+pub use run::{run, Tally};
+pub use table::{plan_to_table, table_to_plan};

@@ -1,0 +1,26 @@
+//! The numbers with which an input is turned down.
+
+/// Bits run out in a plan, or bytes in the header of an input.
+pub const BITS: u32 = 1;
+/// The plan's form is not 1.
+pub const FORM: u32 = 2;
+/// A job count, frame, action count or sum is outside its range.
+pub const RANGE: u32 = 3;
+/// A spawn rule is broken.
+pub const SPAWN: u32 = 4;
+/// A join rule is broken.
+pub const JOIN: u32 = 5;
+/// A fill bit is not 0, or bytes are left over.
+pub const REST: u32 = 6;
+/// The worker count is 0 or above 16.
+pub const WORKERS: u32 = 7;
+/// The choices are too many, missing, or one is not a worker.
+pub const CHOICES: u32 = 8;
+/// The output buffer is too short.
+pub const ROOM: u32 = 9;
+/// The open table is empty, not whole rows, or breaks its row rules.
+pub const TABLE: u32 = 10;
+/// The schedule's length, header or a round is not well formed.
+pub const SCHEDULE: u32 = 11;
+/// A schedule rule is broken.
+pub const RULE: u32 = 12;
