@@ -95,6 +95,11 @@ fn e() -> Vec<Job> {
 /// Case 4's rows.
 const E4: [Row; 8] = [(1, 0), (2, 1), (3, 1), (5, 1), (6, 1), (2, 0), (3, 0), (4, 1)];
 
+/// The same with a hundred rounds for each.
+fn spread() -> Vec<Row> {
+    E4.iter().map(|&(r, w)| (100 * r, w)).collect()
+}
+
 /// Document 01's plan F. Its actions stand in rows 0 to 2 and 3 to 6.
 fn f() -> Vec<Job> {
     vec![(1, vec![spawn(1), NONE, NONE]), (1, vec![NONE, NONE, NONE, join(2)])]
@@ -115,6 +120,14 @@ fn fan_8() -> Vec<Row> {
     let mut rows: Vec<Row> = (0..9).map(|i| (i + 1, 0)).collect();
     rows.push((20, 0));
     rows.extend((1..=8).map(|c| (c + 1, 1)));
+    rows
+}
+
+/// The fifteen children in one round, each by its own worker.
+fn fan_15() -> Vec<Row> {
+    let mut rows: Vec<Row> = (0..16).map(|i| (i + 1, 0)).collect();
+    rows.extend([(20, 0), (21, 0)]);
+    rows.extend((1..=15).map(|w| (17, w)));
     rows
 }
 
@@ -185,7 +198,7 @@ enum Slip {
     FirstJoinOnly,
     JoinTargetsTheRoot,
     SameRoundPasses,
-    OneRoundEarlierPasses,
+    EarlierRoundPasses,
     WorkerPasses,
     WorkerAtCountPasses,
     FirstWorkerOnly,
@@ -223,14 +236,14 @@ const SLIPS: [Slip; 35] = [
     Slip::FirstJoinOnly,
     Slip::JoinTargetsTheRoot,
     Slip::SameRoundPasses,
-    Slip::OneRoundEarlierPasses,
+    Slip::EarlierRoundPasses,
     Slip::WorkerPasses,
     Slip::WorkerAtCountPasses,
     Slip::FirstWorkerOnly,
     Slip::RulesBeforeForm,
 ];
 
-/// The places of actions, each with one that it must follow, and whether that is by a job's order, a spawn or a join.
+/// The places of actions, each with that of one that it must follow.
 fn pairs(jobs: &[Job], slip: Slip) -> Vec<(usize, usize)> {
     let first: Vec<usize> = jobs.iter().scan(0, |at, (_, a)| Some(std::mem::replace(at, *at + a.len()))).collect();
     let mut parent = vec![0; jobs.len()];
@@ -309,7 +322,7 @@ fn judge(jobs: &[Job], s: &[u8], slip: Slip) -> u32 {
     };
     let early = |later: usize, before: usize| match slip {
         Slip::SameRoundPasses => rows[later].0 < rows[before].0,
-        Slip::OneRoundEarlierPasses => rows[later].0 == rows[before].0,
+        Slip::EarlierRoundPasses => rows[later].0 == rows[before].0,
         _ => rows[later].0 <= rows[before].0,
     };
     let stranger = |k: usize| match slip {
@@ -393,20 +406,15 @@ impl Cases {
     }
 }
 
-fn main() {
-    let dir = std::env::args().nth(1).expect("the crate's folder");
-    let _ = fs::remove_dir_all(format!("{dir}/data"));
-    fs::create_dir_all(format!("{dir}/data")).unwrap();
-    let mut c = Cases { dir: dir.clone(), told: vec![0; SLIPS.len()], ..Cases::default() };
-    let spread: Vec<Row> = E4.iter().map(|&(r, w)| (100 * r, w)).collect();
-    let late: Vec<Row> = E4.iter().map(|&(r, w)| (4089 + r, w)).collect();
-
+/// Schedules that are accepted, and document 01's case.
+fn accepted(c: &mut Cases) {
     c.group("papers");
     c.keeps("case_4_rows", &e(), 2, &E4);
     c.breaks("case_12", &e(), 2, &with(&E4, &[(5, (2, 1))]));
 
     c.group("accepted_schedules");
-    c.keeps("rounds_spread_out", &e(), 2, &spread);
+    c.keeps("rounds_spread_out", &e(), 2, &spread());
+    let late: Vec<Row> = E4.iter().map(|&(r, w)| (4089 + r, w)).collect();
     c.keeps("rounds_up_to_4095", &e(), 2, &late);
     c.keeps("header_of_3_workers_2_used", &e(), 3, &E4);
     c.keeps("header_of_16_workers_2_used", &e(), 16, &E4);
@@ -424,31 +432,27 @@ fn main() {
     c.keeps("eight_joins", &fan(8), 2, &fan_8());
     c.keeps("chain_of_three", &chain(3), 3, &CHAIN_3);
     c.keeps("two_joins_of_one_job", &two_joins(), 2, &TWO_JOINS);
-    let mut fifteen: Vec<Row> = (0..16).map(|i| (i + 1, 0)).collect();
-    fifteen.extend([(20, 0), (21, 0)]);
-    fifteen.extend((1..=15).map(|w| (17, w)));
-    c.keeps("fifteen_workers_in_one_round", &fan(15), 16, &fifteen);
+    c.keeps("fifteen_workers_in_one_round", &fan(15), 16, &fan_15());
     c.keeps("2048_actions", &largest(), 9, &largest_rows());
+}
 
+/// Each part of refusal 11 by itself.
+fn form(c: &mut Cases) {
     c.group("lengths");
     let own = schedule(2, &E4);
     c.case("one_byte_short", &e(), &own[..19], 11);
-    c.case("one_byte_short_in_round_400", &e(), &schedule(2, &spread)[..19], 11);
+    c.case("one_byte_short_in_round_400", &e(), &schedule(2, &spread())[..19], 11);
     c.case("one_byte_long", &e(), &[&own[..], &[0]].concat(), 11);
     c.case("empty_schedule", &e(), &[], 11);
     c.case("header_alone", &e(), &own[..4], 11);
-    c.case("three_bytes", &e(), &own[..3], 11);
-    c.case("last_row_missing", &e(), &own[..18], 11);
     c.case("one_row_more", &e(), &[&own[..], &[0, 0x71]].concat(), 11);
     c.case("empty_schedule_of_one_action", &one(), &[], 11);
 
     c.group("form_and_worker_count");
     c.case("form_0", &e(), &headed(0, 2, 8, 0, &E4), 11);
     c.case("form_2", &e(), &headed(2, 2, 8, 0, &E4), 11);
-    c.case("form_129", &e(), &headed(129, 2, 8, 0, &E4), 11);
     c.case("workers_0", &e(), &headed(1, 0, 8, 0, &E4), 11);
     c.case("workers_17", &e(), &headed(1, 17, 8, 0, &E4), 11);
-    c.case("workers_18", &e(), &headed(1, 18, 8, 0, &E4), 11);
     c.case("workers_31", &e(), &headed(1, 31, 8, 0, &E4), 11);
 
     c.group("action_count");
@@ -465,23 +469,23 @@ fn main() {
     for bit in 0..7 {
         c.case(&format!("zero_bit_{bit}_set"), &e(), &headed(1, 2, 8, 64 >> bit, &E4), 11);
     }
-    c.case("all_zero_bits_set", &e(), &headed(1, 2, 8, 127, &E4), 11);
 
     c.group("rounds_of_0");
     c.case("round_0_first", &e(), &schedule(2, &with(&E4, &[(0, (0, 0))])), 11);
     c.case("round_0_first_by_worker_1", &e(), &schedule(2, &with(&E4, &[(0, (0, 1))])), 11);
     c.case("round_0_middle", &e(), &schedule(2, &with(&E4, &[(4, (0, 1))])), 11);
     c.case("round_0_last", &e(), &schedule(2, &with(&E4, &[(7, (0, 1))])), 11);
-    c.case("round_0_everywhere", &e(), &schedule(2, &[(0, 0); 8]), 11);
     c.case("round_0_last_of_2048", &largest(), &schedule(9, &with(&largest_rows(), &[(2047, (0, 8))])), 11);
+}
 
+/// Each rule of refusal 12 by itself.
+fn rules(c: &mut Cases) {
     c.group("clashes");
     // every action follows the first, so that its order is broken too
     c.breaks("clash_of_the_first_and_the_last_row", &e(), 2, &with(&E4, &[(7, (1, 0))]));
     c.breaks("clash_of_the_second_and_the_last_row", &f(), 2, &with(&F2, &[(1, (5, 1))]));
     c.breaks("clash_of_neighbours", &fan(8), 2, &with(&fan_8(), &[(12, (5, 1))]));
     c.breaks("clash_of_the_last_two", &e(), 2, &with(&E4, &[(6, (4, 1))]));
-    c.breaks("clash_of_the_last_two_of_eighteen", &fan(8), 2, &with(&fan_8(), &[(16, (9, 1))]));
     c.breaks("clash_far_apart", &fan(8), 2, &with(&fan_8(), &[(10, (9, 1))]));
     c.breaks("clash_in_job_0_with_the_last_row", &fan(8), 2, &with(&fan_8(), &[(17, (9, 0))]));
     c.breaks("clash_in_round_4094_by_worker_15", &fan(8), 16, &with(&fan_8(), &[(8, (4094, 15)), (17, (4094, 15)), (9, (4095, 0))]));
@@ -495,10 +499,9 @@ fn main() {
     c.breaks("fifth_in_round_of_fourth", &e(), 2, &with(&E4, &[(4, (5, 0))]));
     c.breaks("fifth_a_round_before_fourth", &e(), 2, &with(&E4, &[(3, (8, 1)), (4, (7, 1))]));
     c.breaks("job_1_second_in_round_of_first", &e(), 3, &with(&E4, &[(6, (2, 2))]));
-    c.breaks("job_1_second_two_rounds_before_first", &e(), 3, &with(&E4, &[(5, (4, 0))]));
+    c.breaks("job_1_second_a_round_before_first", &e(), 3, &with(&E4, &[(5, (4, 0))]));
     c.breaks("job_1_fourth_in_round_of_third", &f(), 3, &with(&F2, &[(6, (4, 2))]));
-    let jobs_of_one = vec![(1, vec![NONE; 8])];
-    c.breaks("one_job_with_the_rows_of_e", &jobs_of_one, 2, &E4);
+    c.breaks("one_job_with_the_rows_of_e", &[(1, vec![NONE; 8])], 2, &E4);
     c.breaks("last_of_2048_in_round_of_one_before", &largest(), 16, &with(&largest_rows(), &[(2047, (15, 15))]));
 
     c.group("spawns");
@@ -506,7 +509,7 @@ fn main() {
     c.breaks("job_2_in_round_of_its_spawn", &e(), 3, &with(&E4, &[(7, (3, 2))]));
     c.breaks("job_2_a_round_before_its_spawn", &e(), 3, &with(&E4, &[(7, (2, 2))]));
     c.breaks("grandchild_in_round_of_its_spawn", &chain(3), 3, &with(&CHAIN_3, &[(6, (2, 2))]));
-    for child in 1..=8 {
+    for child in [1, 4, 8] {
         c.breaks(&format!("child_{child}_in_round_of_its_spawn"), &fan(8), 3, &with(&fan_8(), &[(9 + child, (child as u32, 2))]));
     }
 
@@ -514,7 +517,6 @@ fn main() {
     for child in 1..=8 {
         c.breaks(&format!("join_{child}_in_round_of_its_target"), &fan(8), 2, &with(&fan_8(), &[(9 + child, (20, 1))]));
     }
-    c.breaks("join_1_a_round_after_its_target", &fan(8), 2, &with(&fan_8(), &[(10, (21, 1))]));
     c.breaks("join_8_a_round_after_its_target", &fan(8), 2, &with(&fan_8(), &[(17, (21, 1))]));
     c.breaks("job_1_join_in_round_of_its_target", &e(), 2, &with(&E4, &[(6, (6, 0))]));
     c.breaks("job_2_join_in_round_of_its_target", &e(), 2, &with(&E4, &[(7, (6, 0))]));
@@ -526,13 +528,15 @@ fn main() {
     c.breaks("worker_2_of_2_first", &e(), 2, &with(&E4, &[(0, (1, 2))]));
     c.breaks("worker_2_of_2_middle", &e(), 2, &with(&E4, &[(3, (5, 2))]));
     c.breaks("worker_2_of_2_last", &e(), 2, &with(&E4, &[(7, (4, 2))]));
-    c.breaks("worker_3_of_2_last", &e(), 2, &with(&E4, &[(7, (4, 3))]));
     c.breaks("worker_1_of_1", &e(), 1, &E4);
     c.breaks("worker_15_of_1", &one(), 1, &[(1, 15)]);
     c.breaks("worker_15_of_15", &e(), 15, &with(&E4, &[(7, (4, 15))]));
     c.keeps("worker_15_of_16", &e(), 16, &with(&E4, &[(7, (4, 15))]));
-    c.breaks("fifteen_workers_in_one_round_of_15", &fan(15), 15, &fifteen);
+    c.breaks("fifteen_workers_in_one_round_of_15", &fan(15), 15, &fan_15());
+}
 
+/// 11 before 12, and the plan's own refusals before both.
+fn order(c: &mut Cases) {
     c.group("form_before_rules");
     let clash = with(&E4, &[(5, (2, 1))]);
     c.case("clash_and_one_byte_long", &e(), &[&schedule(2, &clash)[..], &[0]].concat(), 11);
@@ -551,27 +555,30 @@ fn main() {
         plan[at] = to;
         plan
     };
+    let mut no_frame = e();
+    no_frame[1].0 = 0;
     let mut no_second = e();
     no_second[0].1[2] = NONE;
     let mut third = e();
     third[2].1[0] = join(3);
-    // case 7, no byte; a plan cut short; form 2; frame 0; job 2 never spawned; case 9; case 8
-    c.bytes("no_plan_and_no_schedule", &[], &[], 1);
+    // case 7, a plan cut short, form 2, frame 0, job 2 never spawned, case 9, case 8
     c.bytes("no_plan_and_bad_schedule", &[], &bad, 1);
     c.bytes("plan_cut_short_and_bad_schedule", &bytes[..17], &bad, 1);
     c.bytes("plan_of_form_2_and_bad_schedule", &changed(0, 2), &bad, 2);
-    let mut no_frame = e();
-    no_frame[1].0 = 0;
     c.bytes("frame_0_and_bad_schedule", &plan(&no_frame), &bad, 3);
     c.bytes("job_never_spawned_and_bad_schedule", &plan(&no_second), &bad, 4);
     c.bytes("join_after_spawn_and_bad_schedule", &plan(&third), &bad, 5);
     c.bytes("fill_bit_and_bad_schedule", &changed(17, 1), &bad, 6);
-    c.bytes("fill_bit_and_case_4_rows", &changed(17, 1), &own, 6);
-    c.bytes("fill_bit_and_clash", &changed(17, 1), &schedule(2, &clash), 6);
+    c.bytes("fill_bit_and_case_4_rows", &changed(17, 1), &schedule(2, &E4), 6);
+}
 
+/// Schedules that runs have written: all are accepted.
+fn runs(c: &mut Cases) {
     c.group("runs_of_e");
     let all: Vec<u8> = (0..16).collect();
-    for (workers, choices) in [(1, &[][..]), (1, &[0]), (2, &[0]), (2, &[0, 1]), (2, &[1, 0, 0]), (3, &[0]), (3, &[2, 1, 0]), (16, &[0]), (16, &all)] {
+    for (workers, choices) in
+        [(1, &[][..]), (1, &[0]), (2, &[0]), (2, &[0, 1]), (2, &[1, 0, 0]), (3, &[0]), (3, &[2, 1, 0]), (16, &[0]), (16, &all)]
+    {
         c.own("e", &e(), workers, choices);
     }
     c.group("runs_of_f");
@@ -586,7 +593,19 @@ fn main() {
         c.own("deep", &chain(100), workers, choices);
     }
     c.own("2048_actions", &largest(), 16, &[0, 1, 2]);
+}
 
+fn main() {
+    let dir = std::env::args().nth(1).expect("the crate's folder");
+    let _ = fs::remove_dir_all(format!("{dir}/data"));
+    fs::create_dir_all(format!("{dir}/data")).unwrap();
+    let mut c = Cases { dir: dir.clone(), told: vec![0; SLIPS.len()], ..Cases::default() };
+    assert_eq!(plan(&e()), [0x01, 0x01, 0x80, 0x02, 0x02, 0xC0, 0x44, 0x08, 0, 0, 0x60, 0x42, 0x08, 0, 0x04, 0x02, 0x82, 0]);
+    accepted(&mut c);
+    form(&mut c);
+    rules(&mut c);
+    order(&mut c);
+    runs(&mut c);
     for (k, slip) in SLIPS.iter().enumerate() {
         println!("{slip:?}: told apart by {} cases", c.told[k]);
         assert!(c.told[k] > 0, "no case tells {:?} apart", slip);

@@ -35,8 +35,6 @@ pub fn lengths() {
     case(b"one_byte_long");
     case(b"empty_schedule");
     case(b"header_alone");
-    case(b"three_bytes");
-    case(b"last_row_missing");
     case(b"one_row_more");
     case(b"empty_schedule_of_one_action");
 }
@@ -44,10 +42,8 @@ pub fn lengths() {
 pub fn form_and_worker_count() {
     case(b"form_0");
     case(b"form_2");
-    case(b"form_129");
     case(b"workers_0");
     case(b"workers_17");
-    case(b"workers_18");
     case(b"workers_31");
 }
 
@@ -70,7 +66,6 @@ pub fn zero_bits() {
     case(b"zero_bit_4_set");
     case(b"zero_bit_5_set");
     case(b"zero_bit_6_set");
-    case(b"all_zero_bits_set");
 }
 
 pub fn rounds_of_0() {
@@ -78,7 +73,6 @@ pub fn rounds_of_0() {
     case(b"round_0_first_by_worker_1");
     case(b"round_0_middle");
     case(b"round_0_last");
-    case(b"round_0_everywhere");
     case(b"round_0_last_of_2048");
 }
 
@@ -87,7 +81,6 @@ pub fn clashes() {
     case(b"clash_of_the_second_and_the_last_row");
     case(b"clash_of_neighbours");
     case(b"clash_of_the_last_two");
-    case(b"clash_of_the_last_two_of_eighteen");
     case(b"clash_far_apart");
     case(b"clash_in_job_0_with_the_last_row");
     case(b"clash_in_round_4094_by_worker_15");
@@ -102,7 +95,7 @@ pub fn order_in_a_job() {
     case(b"fifth_in_round_of_fourth");
     case(b"fifth_a_round_before_fourth");
     case(b"job_1_second_in_round_of_first");
-    case(b"job_1_second_two_rounds_before_first");
+    case(b"job_1_second_a_round_before_first");
     case(b"job_1_fourth_in_round_of_third");
     case(b"one_job_with_the_rows_of_e");
     case(b"last_of_2048_in_round_of_one_before");
@@ -114,12 +107,7 @@ pub fn spawns() {
     case(b"job_2_a_round_before_its_spawn");
     case(b"grandchild_in_round_of_its_spawn");
     case(b"child_1_in_round_of_its_spawn");
-    case(b"child_2_in_round_of_its_spawn");
-    case(b"child_3_in_round_of_its_spawn");
     case(b"child_4_in_round_of_its_spawn");
-    case(b"child_5_in_round_of_its_spawn");
-    case(b"child_6_in_round_of_its_spawn");
-    case(b"child_7_in_round_of_its_spawn");
     case(b"child_8_in_round_of_its_spawn");
 }
 
@@ -132,7 +120,6 @@ pub fn joins() {
     case(b"join_6_in_round_of_its_target");
     case(b"join_7_in_round_of_its_target");
     case(b"join_8_in_round_of_its_target");
-    case(b"join_1_a_round_after_its_target");
     case(b"join_8_a_round_after_its_target");
     case(b"job_1_join_in_round_of_its_target");
     case(b"job_2_join_in_round_of_its_target");
@@ -145,7 +132,6 @@ pub fn worker_numbers() {
     case(b"worker_2_of_2_first");
     case(b"worker_2_of_2_middle");
     case(b"worker_2_of_2_last");
-    case(b"worker_3_of_2_last");
     case(b"worker_1_of_1");
     case(b"worker_15_of_1");
     case(b"worker_15_of_15");
@@ -164,7 +150,6 @@ pub fn form_before_rules() {
 }
 
 pub fn plan_before_schedule() {
-    case(b"no_plan_and_no_schedule");
     case(b"no_plan_and_bad_schedule");
     case(b"plan_cut_short_and_bad_schedule");
     case(b"plan_of_form_2_and_bad_schedule");
@@ -173,7 +158,6 @@ pub fn plan_before_schedule() {
     case(b"join_after_spawn_and_bad_schedule");
     case(b"fill_bit_and_bad_schedule");
     case(b"fill_bit_and_case_4_rows");
-    case(b"fill_bit_and_clash");
 }
 
 pub fn runs_of_e() {

@@ -70,11 +70,15 @@ fn case(name: &[u8]) {
 }
 
 fn case_told(bytes: &[u8], len: usize) {
-    if len <= bytes.len() && 2 <= len {
-        let start = 2 + wide8(bytes[0]) * 256 + wide8(bytes[1]);
-        if start <= len {
-            told(check(&bytes[2..start], &bytes[start..len]));
-        }
+    if bytes.len() < len {
+        return;
+    }
+    if len < 2 {
+        return;
+    }
+    let start = 2 + wide8(bytes[0]) * 256 + wide8(bytes[1]);
+    if start <= len {
+        told(check(&bytes[2..start], &bytes[start..len]));
     }
 }
 
@@ -87,11 +91,15 @@ fn own(name: &[u8]) {
 }
 
 fn own_told(bytes: &[u8], len: usize) {
-    if len <= bytes.len() && 3 <= len {
-        let start = 3 + wide8(bytes[1]) * 256 + wide8(bytes[2]);
-        if start <= len {
-            run_told(units(bytes[0]), &bytes[3..start], &bytes[start..len]);
-        }
+    if bytes.len() < len {
+        return;
+    }
+    if len < 3 {
+        return;
+    }
+    let start = 3 + wide8(bytes[1]) * 256 + wide8(bytes[2]);
+    if start <= len {
+        run_told(units(bytes[0]), &bytes[3..start], &bytes[start..len]);
     }
 }
 
