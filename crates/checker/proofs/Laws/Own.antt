@@ -10,14 +10,13 @@ use lib.Seq.{take-at}
 use lib.Dec.{leb, leb→le}
 use Rattle.plan.specs.declared.refusal.Refusal.{Refusal}
 use Rattle.plan.specs.Refusal.{Outcome, refused, accepted, numberOf}
-use Rattle.plan.specs.Plan.{Plan, work}
+use Rattle.plan.specs.Plan.{Plan}
 use Rattle.plan.specs.Rules.{Accepted}
 use Rattle.plan.specs.Reader.{readPlan}
 use Rattle.plan.proofs.Laws.Accepted.{accepted-range, accepted-spawns, accepted-joins}
 use Rattle.plan.proofs.Laws.Valid.{work-range}
 use Rattle.plan.proofs.Laws.Lists.{both-left, both-right, of-true}
 use Rattle.runs.specs.declared.tally.Tally.{Tally}
-use Rattle.runs.specs.State.{State}
 use Rattle.runs.specs.Run.{run, workersFit, choicesFit, admitted, runOf}
 use Rattle.runs.specs.Schedule.{scheduleBytes, checked}
 use Rattle.runs.proofs.Laws.OwnSchedule.{run-checked}
