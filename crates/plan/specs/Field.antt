@@ -1,4 +1,5 @@
 -- Bit fields (document 01: "bits taken most significant first").
+--   PowersOfTwo l    == the table l holds the powers of two from 2^0 to 2^31
 --   bitsOf w v       == the w low bits of v, most significant first
 --   bits bytes       == the bits of the bytes, most significant first
 --   number bs        == the number that the bits bs stand for, most significant first
@@ -6,13 +7,18 @@
 --   fieldAt s w at   == the field of w bits at place at of the bytes s, or that the bits ran out
 --   stepOf f         == the step that the field reader's answer stands for
 -- Assumes nothing.
-use Prim.Native.Nat.{ℕ, zero, suc, _+_, _*_, _/_, _%_, _^_}
+use Prim.Native.Nat.{ℕ, zero, suc, _+_, _*_, _/_, _%_, _^_, _<_}
+use mathlib.Core.Path.{_≡_}
 use mathlib.Core.Bool.{true, false}
 use mathlib.Core.List.{List, [], _∷_, _++_}
-use lib.ListN.{length, take, drop}
+use lib.ListN.{length, getD, take, drop}
 use lib.Dec.{leb}
 use Rattle.plan.specs.declared.field.Field.{Field}
 use Rattle.plan.specs.declared.field.Field.the-variants.{RanOut, Cut}
+
+-- "a fixed table of the powers of two from 2^0 to 2^31"
+abbrev pub PowersOfTwo : List ℕ → Type 0
+PowersOfTwo l = (k : ℕ) → k < 32 → getD l k 0 ≡ 2 ^ k
 
 abbrev pub bitsOf : ℕ → ℕ → List ℕ
 bitsOf zero v = []

@@ -1,5 +1,5 @@
 -- What the steps of the field reader and of the field writer do. Private functions alone cite this.
---   windowAt s i  == the 32 bits from byte i of s on, zero past the end
+--   windowOf s    == the first 32 bits of the bytes s, zero past their end
 --   Loose out k   == k is a sink that holds up to 31 bits, for which the buffer out has room
 -- Assumes nothing.
 use Prim.Native.Nat.{ℕ, _+_, _*_, _-_, _^_, _≤_, _<_}
@@ -9,8 +9,8 @@ use lib.ListN.{length, take, drop, replicate}
 use Rattle.plan.specs.declared.field.Sink.{Sink}
 use Rattle.plan.specs.Field.{bitsOf, bits}
 
-unfoldable pub windowAt : List ℕ → ℕ → List ℕ
-windowAt s i = take 32 (bits (drop i s) ++ replicate 32 0)
+unfoldable pub windowOf : List ℕ → List ℕ
+windowOf s = take 32 (bits s ++ replicate 32 0)
 
 pub record Loose (out : List ℕ) (k : Sink) : Type 0 where
   pub few : k .bits < 32

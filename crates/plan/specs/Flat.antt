@@ -5,6 +5,8 @@
 --   Spawned           == the arrays hold each job's parent and the position of its spawn
 --   Entered           == the array holds how many joins enter each action
 --   Holds p f         == f holds the plan p: all of these
+--   ReadInto s r f    == what reading the bytes s into the arrays f answers: the refusal, or that they hold the plan
+--   jobsIn, actionsIn == the counts that such an answer gives
 --   Read s r          == what reading the bytes s answers: the refusal, or arrays that hold the plan
 -- Assumes nothing.
 use Prim.Native.Nat.{ℕ, zero, suc, _+_, _≤_, _<_}
@@ -13,6 +15,7 @@ use mathlib.Core.List.{List, [], _∷_, map}
 use lib.ListN.{length, getD, take}
 use Rattle.plan.specs.declared.flat.FlatPlan.{FlatPlan}
 use Rattle.plan.specs.declared.flat.Reading.{Reading}
+use Rattle.plan.specs.declared.flat.Found.{Found}
 use Rattle.plan.specs.declared.flat.Verdict.{Verdict}
 use Rattle.plan.specs.declared.flat.Verdict.the-variants.{Refused, Accepted}
 use Rattle.plan.specs.Refusal.{Outcome, refused, accepted, numberOf}
@@ -55,6 +58,18 @@ pub record Holds (p : Plan) (f : FlatPlan) : Type 0 where
   pub joins : Joins p (f .join)
   pub spawned : Spawned p (f .parent) (f .«spawn_position»)
   pub entered : Entered p (f .entering)
+
+abbrev pub jobsIn : Found → ℕ
+jobsIn (Found.Refused cause) = 0
+jobsIn (Found.Plan jobs actions) = jobs
+
+abbrev pub actionsIn : Found → ℕ
+actionsIn (Found.Refused cause) = 0
+actionsIn (Found.Plan jobs actions) = actions
+
+abbrev pub ReadInto : List ℕ → Found → FlatPlan → Type 0
+ReadInto s (Found.Refused cause) f = readPlan s ≡ refused (numberOf cause)
+ReadInto s (Found.Plan jobs actions) f = (p : Plan) × (readPlan s ≡ accepted p) × Holds p f
 
 abbrev pub Told : Outcome Plan → Verdict → FlatPlan → Type 0
 Told (refused n) (Refused cause) f = n ≡ numberOf cause

@@ -2,9 +2,9 @@
 ghost use mathlib.Core.Path.{_≡_};
 ghost use Prim.Native.Nat.{ℕ, _+_, _*_, _/_, _^_, _≤_, _<_};
 ghost use mathlib.Core.List.{[]};
-ghost use lib.ListN.{length, getD};
-ghost use Rattle.plan.specs.Field.{fieldAt, stepOf, bitsOf, number};
-ghost use Rattle.plan.specs.FieldParts.{windowAt, Loose};
+ghost use lib.ListN.{length, take, drop};
+ghost use Rattle.plan.specs.Field.{PowersOfTwo, fieldAt, stepOf, bitsOf, number};
+ghost use Rattle.plan.specs.FieldParts.{windowOf, Loose};
 ghost use Rattle.plan.specs.Sink.{sinkBits, Sound, Put, Done};
 
 // The powers of two from 2^0 to 2^31.
@@ -49,48 +49,62 @@ pub enum Field {
     Cut { value: u32, next: usize },
 }
 
-fn power(k: usize) -> u64
-    requires { ⌜ k < 32 ⌝ }
+// The table, for one caller to hold and to lend: a constant's place is filled anew in each function that names it.
+pub fn power_table() -> [u64; 32]
+    ensures { λ r. ⌜ PowersOfTwo r ⌝ }
+{
+    POWERS
+}
+
+fn power(powers: &[u64; 32], k: usize) -> u64
+    requires { ⌜ (k < 32) × PowersOfTwo (now powers) ⌝ }
     ensures { λ r. ⌜ r ≡ 2 ^ k ⌝ }
 {
-    POWERS[k]
+    powers[k]
 }
 
-// The byte at i, or 0 past the end.
-fn byte_or_zero(s: &[u8], i: usize) -> u64
-    ensures { λ r. ⌜ (r ≡ getD (now (s .entry)) i 0) × (r < 256) ⌝ }
+fn wide(x: u8) -> u64
+    ensures { λ r. ⌜ (r ≡ x) × (r < 256) ⌝ }
 {
-    if i < s.len() { s[i] as u64 } else { 0 }
+    x as u64
 }
 
-// The 32 bits from byte i on, zero past the end.
-fn window(s: &[u8], i: usize) -> u64
-    requires { ⌜ i < 4294967296 ⌝ }
-    ensures { λ r. ⌜ (r ≡ number (windowAt (now (s .entry)) i)) × (r < 4294967296) ⌝ }
+// The bytes from byte i on that hold the first `bits` bits there, at the top of 32.
+fn window(s: &[u8], i: usize, bits: usize) -> u64
+    requires { ⌜ (i < 4294967296) × (bits ≤ 32) × (8 * i + bits ≤ 8 * length (now s)) ⌝ }
+    ensures { λ r. ⌜ (r ≡ number (windowOf (take ((bits + 7) / 8) (drop i (now (s .entry)))))) × (r < 4294967296) ⌝ }
 {
-    let a = byte_or_zero(s, i);
-    let b = byte_or_zero(s, i + 1);
-    let c = byte_or_zero(s, i + 2);
-    let d = byte_or_zero(s, i + 3);
-    a * 16777216 + b * 65536 + c * 256 + d
+    if bits == 0 {
+        return 0;
+    }
+    let a = wide(s[i]) * 16777216;
+    if bits <= 8 {
+        return a;
+    }
+    let b = a + wide(s[i + 1]) * 65536;
+    if bits <= 16 {
+        return b;
+    }
+    let c = b + wide(s[i + 2]) * 256;
+    if bits <= 24 {
+        return c;
+    }
+    c + wide(s[i + 3])
 }
 
-// The field of `width` bits at place `at`, counted in bits. The field is cut out of four whole bytes: what stands before it is
-// shifted out to the left, and what stands behind it is shifted out to the right, both by a product with a power of two.
-pub fn cut(s: &[u8], at: usize, width: usize) -> Field
-    requires { ⌜ (at < 4294967296) × (width ≤ 24) ⌝ }
+// The field of `width` bits at place `at`, counted in bits. The field is cut out of the whole bytes that it lies in: what stands
+// before it is shifted out to the left, and what stands behind it is shifted out to the right, both by a product with a power
+// of two.
+pub fn cut(s: &[u8], powers: &[u64; 32], at: usize, width: usize) -> Field
+    requires { ⌜ (at < 4294967296) × (width ≤ 24) × PowersOfTwo (now powers) ⌝ }
     ensures { λ r. ⌜ stepOf r ≡ fieldAt (now (s .entry)) width at ⌝ }
 {
-    let byte = at / 8;
+    if s.len() < (at + width + 7) / 8 {
+        return Field::RanOut;
+    }
     let skip = at % 8;
-    if s.len() < byte {
-        return Field::RanOut;
-    }
-    if s.len() - byte < (skip + width + 7) / 8 {
-        return Field::RanOut;
-    }
-    let from_field = window(s, byte) * power(skip) % 4294967296;
-    let value = from_field * power(width) / 4294967296;
+    let from_field = window(s, at / 8, skip + width) * power(powers, skip) % 4294967296;
+    let value = from_field * power(powers, width) / 4294967296;
     Field::Cut {
         value: value as u32,
         next: at + width,
@@ -130,13 +144,14 @@ fn flush(out: &mut [u8], sink: Sink) -> Sink
 }
 
 // Writes one field of `width` bits behind what is written.
-pub fn put(out: &mut [u8], sink: Sink, value: u64, width: usize) -> Sink
+pub fn put(out: &mut [u8], powers: &[u64; 32], sink: Sink, value: u64, width: usize) -> Sink
     requires { ⌜ Sound (now out) sink ⌝ }
+    requires { ⌜ PowersOfTwo (now powers) ⌝ }
     requires { ⌜ (width ≤ 24) × (value < 2 ^ width) × (8 * sink .bytes + sink .bits + width ≤ 8 * length (now out)) ⌝ }
     ensures { λ r. ⌜ Put (now (out .entry)) sink (bitsOf width value) (now (out .exit)) r ⌝ }
 {
     let bits = sink.bits + width;
-    let held = sink.held + value * (power(31 - bits) * 2);
+    let held = sink.held + value * (power(powers, 31 - bits) * 2);
     flush(
         out,
         Sink {

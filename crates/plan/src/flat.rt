@@ -18,6 +18,12 @@ pub struct FlatPlan {
     pub entering: [u8; 2048],
 }
 
+// What reading into lent arrays answers: a plan with its counts, or why there is none.
+pub enum Found {
+    Refused(Refusal),
+    Plan { jobs: usize, actions: usize },
+}
+
 pub enum Verdict {
     Refused(Refusal),
     Accepted,

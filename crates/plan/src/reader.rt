@@ -3,11 +3,15 @@ ghost use mathlib.Core.Path.{_≡_};
 ghost use Prim.Native.Nat.{_+_, _*_, _^_, _≤_, _<_};
 ghost use lib.ListN.{length, getD};
 ghost use Rattle.plan.specs.Reader.{numberAt, jobsAt, planAt, fills};
-ghost use Rattle.plan.specs.Flat.{Read};
+ghost use Rattle.plan.specs.Field.{PowersOfTwo};
+ghost use Rattle.plan.specs.Flat.{jobsIn, actionsIn, ReadInto, Read};
+ghost use Rattle.plan.specs.Given.{Blank};
 ghost use Rattle.plan.specs.Progress.{numberStep, RowsLong, ArraysLong, ActionRead, ActionsRead, HeaderRead, JobRead, PlanRead};
 use crate::field::Field;
 use crate::field::cut;
+use crate::field::power_table;
 use crate::flat::FlatPlan;
+use crate::flat::Found;
 use crate::flat::Reading;
 use crate::flat::Verdict;
 use crate::refusal::Refusal;
@@ -43,14 +47,14 @@ pub enum Body {
 }
 
 // A bit, and if it is 1 a number of 8 bits.
-fn number_at(s: &[u8], at: usize) -> Number
-    requires { ⌜ at < 2 ^ 18 ⌝ }
+fn number_at(s: &[u8], powers: &[u64; 32], at: usize) -> Number
+    requires { ⌜ (at < 2 ^ 18) × PowersOfTwo (now powers) ⌝ }
     ensures { λ r. ⌜ numberStep r ≡ numberAt (now (s .entry)) at ⌝ }
 {
     let Field::Cut {
         value: there,
         next: after,
-    } = cut(s, at, 1)
+    } = cut(s, powers, at, 1)
     else {
         return Number::Refused(Refusal::RanOut);
     };
@@ -60,7 +64,7 @@ fn number_at(s: &[u8], at: usize) -> Number
             next: after,
         };
     }
-    let Field::Cut { value, next } = cut(s, after, 8) else {
+    let Field::Cut { value, next } = cut(s, powers, after, 8) else {
         return Number::Refused(Refusal::RanOut);
     };
     Number::Is {
@@ -72,6 +76,7 @@ fn number_at(s: &[u8], at: usize) -> Number
 // Reads the action at place `at` into place k of the arrays.
 fn read_action(
     s: &[u8],
+    powers: &[u64; 32],
     at: usize,
     number: u8,
     k: usize,
@@ -79,20 +84,20 @@ fn read_action(
     spawn: &mut [u16; 2048],
     join: &mut [u16; 2048],
 ) -> Progress
-    requires { ⌜ (at < 2 ^ 17) × (k < 2048) × RowsLong (record { job = now job; spawn = now spawn; join = now join }) ⌝ }
+    requires { ⌜ (at < 2 ^ 17) × (k < 2048) × RowsLong (record { job = now job; spawn = now spawn; join = now join }) × PowersOfTwo (now powers) ⌝ }
     ensures { λ r. ⌜ ActionRead (now (s .entry)) at number k (record { job = now (job .entry); spawn = now (spawn .entry); join = now (join .entry) }) (record { job = now (job .exit); spawn = now (spawn .exit); join = now (join .exit) }) r ⌝ }
 {
     let Number::Is {
         value: child,
         next: after,
-    } = number_at(s, at)
+    } = number_at(s, powers, at)
     else {
         return Progress::Refused(Refusal::RanOut);
     };
     let Number::Is {
         value: target,
         next,
-    } = number_at(s, after)
+    } = number_at(s, powers, after)
     else {
         return Progress::Refused(Refusal::RanOut);
     };
@@ -105,6 +110,7 @@ fn read_action(
 // Reads `count` actions of one job into the arrays from place `from` on.
 fn read_actions(
     s: &[u8],
+    powers: &[u64; 32],
     at: usize,
     number: u8,
     from: usize,
@@ -113,14 +119,14 @@ fn read_actions(
     spawn: &mut [u16; 2048],
     join: &mut [u16; 2048],
 ) -> Progress
-    requires { ⌜ (at + 18 * count < 2 ^ 17) × (from + count ≤ 2048) × RowsLong (record { job = now job; spawn = now spawn; join = now join }) ⌝ }
+    requires { ⌜ (at + 18 * count < 2 ^ 17) × (from + count ≤ 2048) × RowsLong (record { job = now job; spawn = now spawn; join = now join }) × PowersOfTwo (now powers) ⌝ }
     ensures { λ r. ⌜ ActionsRead (now (s .entry)) at count number from (record { job = now (job .entry); spawn = now (spawn .entry); join = now (join .entry) }) (record { job = now (job .exit); spawn = now (spawn .exit); join = now (join .exit) }) r ⌝ }
 {
     let mut place = at;
     let mut k = from;
     let mut left = count;
     while 0 < left {
-        let Progress::At(next) = read_action(s, place, number, k, job, spawn, join) else {
+        let Progress::At(next) = read_action(s, powers, place, number, k, job, spawn, join) else {
             return Progress::Refused(Refusal::RanOut);
         };
         place = next;
@@ -131,21 +137,21 @@ fn read_actions(
 }
 
 // Reads a job's frame and action count, where `before` actions came before it.
-fn read_header(s: &[u8], at: usize, j: usize, before: usize, frame: &mut [u16; 256]) -> Header
-    requires { ⌜ (at < 2 ^ 16) × (j < 256) × (before ≤ 2048) × (length (now frame) ≡ 256) ⌝ }
+fn read_header(s: &[u8], powers: &[u64; 32], at: usize, j: usize, before: usize, frame: &mut [u16; 256]) -> Header
+    requires { ⌜ (at < 2 ^ 16) × (j < 256) × (before ≤ 2048) × (length (now frame) ≡ 256) × PowersOfTwo (now powers) ⌝ }
     ensures { λ r. ⌜ HeaderRead (now (s .entry)) before at j (now (frame .entry)) (now (frame .exit)) r ⌝ }
 {
     let Field::Cut {
         value: weight,
         next: after,
-    } = cut(s, at, 16)
+    } = cut(s, powers, at, 16)
     else {
         return Header::Refused(Refusal::RanOut);
     };
     if weight == 0 {
         return Header::Refused(Refusal::Range);
     }
-    let Field::Cut { value, next } = cut(s, after, 8) else {
+    let Field::Cut { value, next } = cut(s, powers, after, 8) else {
         return Header::Refused(Refusal::RanOut);
     };
     let size = value as usize;
@@ -162,6 +168,7 @@ fn read_header(s: &[u8], at: usize, j: usize, before: usize, frame: &mut [u16; 2
 // Reads job j, and tells how many actions there are up to its end.
 fn read_job(
     s: &[u8],
+    powers: &[u64; 32],
     at: usize,
     j: usize,
     before: usize,
@@ -171,13 +178,13 @@ fn read_job(
     spawn: &mut [u16; 2048],
     join: &mut [u16; 2048],
 ) -> Header
-    requires { ⌜ (at < 2 ^ 16) × (j < 256) × (before ≤ 2048) × ArraysLong (record { frame = now frame; first = now first; rows = record { job = now job; spawn = now spawn; join = now join } }) ⌝ }
+    requires { ⌜ (at < 2 ^ 16) × (j < 256) × (before ≤ 2048) × ArraysLong (record { frame = now frame; first = now first; rows = record { job = now job; spawn = now spawn; join = now join } }) × PowersOfTwo (now powers) ⌝ }
     ensures { λ r. ⌜ JobRead (now (s .entry)) before at j (record { frame = now (frame .entry); first = now (first .entry); rows = record { job = now (job .entry); spawn = now (spawn .entry); join = now (join .entry) } }) (record { frame = now (frame .exit); first = now (first .exit); rows = record { job = now (job .exit); spawn = now (spawn .exit); join = now (join .exit) } }) r ⌝ }
 {
-    match read_header(s, at, j, before, frame) {
+    match read_header(s, powers, at, j, before, frame) {
         Header::Refused(cause) => Header::Refused(cause),
         Header::Is { size, next } => {
-            match read_actions(s, next, j as u8, before, size, job, spawn, join) {
+            match read_actions(s, powers, next, j as u8, before, size, job, spawn, join) {
                 Progress::Refused(cause) => Header::Refused(cause),
                 Progress::At(end) => {
                     first[j + 1] = (before + size) as u16;
@@ -194,6 +201,7 @@ fn read_job(
 // Reads all jobs.
 fn read_jobs(
     s: &[u8],
+    powers: &[u64; 32],
     at: usize,
     jobs: usize,
     frame: &mut [u16; 256],
@@ -202,14 +210,14 @@ fn read_jobs(
     spawn: &mut [u16; 2048],
     join: &mut [u16; 2048],
 ) -> Body
-    requires { ⌜ (at ≤ 17) × (jobs ≤ 256) × (getD (now first) 0 0 ≡ 0) × ArraysLong (record { frame = now frame; first = now first; rows = record { job = now job; spawn = now spawn; join = now join } }) ⌝ }
+    requires { ⌜ (at ≤ 17) × (jobs ≤ 256) × (getD (now first) 0 0 ≡ 0) × ArraysLong (record { frame = now frame; first = now first; rows = record { job = now job; spawn = now spawn; join = now join } }) × PowersOfTwo (now powers) ⌝ }
     ensures { λ r. ⌜ PlanRead (jobsAt (now (s .entry)) jobs 0 at) (record { frame = now (frame .exit); first = now (first .exit); rows = record { job = now (job .exit); spawn = now (spawn .exit); join = now (join .exit) } }) r ⌝ }
 {
     let mut place = at;
     let mut actions = 0;
     let mut j = 0;
     while j < jobs {
-        match read_job(s, place, j, actions, frame, first, job, spawn, join) {
+        match read_job(s, powers, place, j, actions, frame, first, job, spawn, join) {
             Header::Refused(cause) => {
                 return Body::Refused(cause);
             }
@@ -230,26 +238,27 @@ fn read_jobs(
 // Reads the form and the job count, and then the jobs.
 fn read_body(
     s: &[u8],
+    powers: &[u64; 32],
     frame: &mut [u16; 256],
     first: &mut [u16; 257],
     job: &mut [u8; 2048],
     spawn: &mut [u16; 2048],
     join: &mut [u16; 2048],
 ) -> Body
-    requires { ⌜ (getD (now first) 0 0 ≡ 0) × ArraysLong (record { frame = now frame; first = now first; rows = record { job = now job; spawn = now spawn; join = now join } }) ⌝ }
+    requires { ⌜ (getD (now first) 0 0 ≡ 0) × ArraysLong (record { frame = now frame; first = now first; rows = record { job = now job; spawn = now spawn; join = now join } }) × PowersOfTwo (now powers) ⌝ }
     ensures { λ r. ⌜ PlanRead (planAt (now (s .entry))) (record { frame = now (frame .exit); first = now (first .exit); rows = record { job = now (job .exit); spawn = now (spawn .exit); join = now (join .exit) } }) r ⌝ }
 {
     let Field::Cut {
         value: form,
         next: after,
-    } = cut(s, 0, 8)
+    } = cut(s, powers, 0, 8)
     else {
         return Body::Refused(Refusal::RanOut);
     };
     if form != 1 {
         return Body::Refused(Refusal::Form);
     }
-    let Field::Cut { value, next } = cut(s, after, 9) else {
+    let Field::Cut { value, next } = cut(s, powers, after, 9) else {
         return Body::Refused(Refusal::RanOut);
     };
     let jobs = value as usize;
@@ -259,22 +268,60 @@ fn read_body(
     if 256 < jobs {
         return Body::Refused(Refusal::Range);
     }
-    read_jobs(s, next, jobs, frame, first, job, spawn, join)
+    read_jobs(s, powers, next, jobs, frame, first, job, spawn, join)
 }
 
 // Zero bits fill the last byte, and nothing follows.
-fn filled(s: &[u8], at: usize) -> bool
-    requires { ⌜ (at < 2 ^ 16) × (at ≤ 8 * length (now s)) ⌝ }
+fn filled(s: &[u8], powers: &[u64; 32], at: usize) -> bool
+    requires { ⌜ (at < 2 ^ 16) × (at ≤ 8 * length (now s)) × PowersOfTwo (now powers) ⌝ }
     ensures { λ r. ⌜ r ≡ fills (now (s .entry)) at ⌝ }
 {
     let fill = (8 - at % 8) % 8;
-    let Field::Cut { value, next } = cut(s, at, fill) else {
+    let Field::Cut { value, next } = cut(s, powers, at, fill) else {
         return false;
     };
     if value != 0 {
         return false;
     }
     next / 8 == s.len()
+}
+
+// Reads the plan that the bytes hold into the arrays, or tells why the bytes are turned down: 1, 2 and 3 as the fields are
+// read, then 6, 4, 5.
+pub fn read_into(
+    s: &[u8],
+    frame: &mut [u16; 256],
+    first: &mut [u16; 257],
+    job: &mut [u8; 2048],
+    spawn: &mut [u16; 2048],
+    join: &mut [u16; 2048],
+    parent: &mut [u8; 256],
+    position: &mut [u8; 256],
+    entering: &mut [u8; 2048],
+) -> Found
+    requires { ⌜ Blank (record { jobs = 0; actions = 0; frame = now frame; first = now first; job = now job; spawn = now spawn; join = now join; parent = now parent; «spawn_position» = now position; entering = now entering }) ⌝ }
+    ensures { λ r. ⌜ ReadInto (now (s .entry)) r (record { jobs = jobsIn r; actions = actionsIn r; frame = now (frame .exit); first = now (first .exit); job = now (job .exit); spawn = now (spawn .exit); join = now (join .exit); parent = now (parent .exit); «spawn_position» = now (position .exit); entering = now (entering .exit) }) ⌝ }
+{
+    let powers = power_table();
+    match read_body(s, &powers, frame, first, job, spawn, join) {
+        Body::Refused(cause) => Found::Refused(cause),
+        Body::Is {
+            jobs,
+            actions,
+            next,
+        } => {
+            if !filled(s, &powers, next) {
+                return Found::Refused(Refusal::Fill);
+            }
+            if !spawn_rules(jobs, actions, first, job, spawn, parent, position) {
+                return Found::Refused(Refusal::Spawn);
+            }
+            if !join_rules(actions, first, job, spawn, join, parent, position, entering) {
+                return Found::Refused(Refusal::Join);
+            }
+            Found::Plan { jobs, actions }
+        }
+    }
 }
 
 // The answer to bytes that are turned down.
@@ -298,7 +345,7 @@ fn refuse(cause: Refusal) -> Reading
     }
 }
 
-// The plan that the bytes hold, or why they are turned down: 1, 2 and 3 as the fields are read, then 6, 4, 5.
+// The plan that the bytes hold, or why they are turned down.
 pub fn read_plan(s: &[u8]) -> Reading
     ensures { λ r. ⌜ Read (now (s .entry)) r ⌝ }
 {
@@ -307,50 +354,35 @@ pub fn read_plan(s: &[u8]) -> Reading
     let mut job = [0u8; 2048];
     let mut spawn = [0u16; 2048];
     let mut join = [0u16; 2048];
-    match read_body(s, &mut frame, &mut first, &mut job, &mut spawn, &mut join) {
-        Body::Refused(cause) => refuse(cause),
-        Body::Is {
-            jobs,
-            actions,
-            next,
-        } => {
-            if !filled(s, next) {
-                return refuse(Refusal::Fill);
-            }
-            let spawns = spawn_rules(jobs, actions, &first, &job, &spawn);
-            let parent = spawns.parent;
-            let spawn_position = spawns.position;
-            if !spawns.kept {
-                return refuse(Refusal::Spawn);
-            }
-            let joins = join_rules(
+    let mut parent = [0u8; 256];
+    let mut spawn_position = [255u8; 256];
+    let mut entering = [0u8; 2048];
+    match read_into(
+        s,
+        &mut frame,
+        &mut first,
+        &mut job,
+        &mut spawn,
+        &mut join,
+        &mut parent,
+        &mut spawn_position,
+        &mut entering,
+    ) {
+        Found::Refused(cause) => refuse(cause),
+        Found::Plan { jobs, actions } => Reading {
+            verdict: Verdict::Accepted,
+            plan: FlatPlan {
+                jobs,
                 actions,
-                &first,
-                &job,
-                &spawn,
-                &join,
-                &parent,
-                &spawn_position,
-            );
-            let entering = joins.entering;
-            if !joins.kept {
-                return refuse(Refusal::Join);
-            }
-            Reading {
-                verdict: Verdict::Accepted,
-                plan: FlatPlan {
-                    jobs,
-                    actions,
-                    frame,
-                    first,
-                    job,
-                    spawn,
-                    join,
-                    parent,
-                    spawn_position,
-                    entering,
-                },
-            }
-        }
+                frame,
+                first,
+                job,
+                spawn,
+                join,
+                parent,
+                spawn_position,
+                entering,
+            },
+        },
     }
 }

@@ -5,23 +5,10 @@ ghost use lib.Dec.{T};
 ghost use Rattle.plan.specs.Plan.{Plan, work};
 ghost use Rattle.plan.specs.Rules.{spawnRules, joinRules};
 ghost use Rattle.plan.specs.Flat.{Spawned, Entered};
-ghost use Rattle.plan.specs.Given.{SpawnsGiven, JoinsGiven};
+ghost use Rattle.plan.specs.Given.{SpawnsGiven, Unspawned, JoinsGiven, Unentered};
 ghost use Rattle.plan.specs.Kept.{Recorded, SpawnTold, AllTold, Counted, JoinTold};
 use crate::flat::wide8;
 use crate::flat::wide16;
-
-// Whether the spawn rules are kept, and, where they are, each job's parent and the position of its spawn there.
-pub struct Spawns {
-    pub kept: bool,
-    pub parent: [u8; 256],
-    pub position: [u8; 256],
-}
-
-// Whether the join rules are kept, and, where they are, how many joins enter each action.
-pub struct Joins {
-    pub kept: bool,
-    pub entering: [u8; 2048],
-}
 
 // Records what action k spawns, or tells that it may not spawn it. A position of 255 marks a job that no action has spawned:
 // the last position of a job is at most 254.
@@ -95,32 +82,24 @@ fn all_spawned(jobs: usize, position: &[u8; 256]) -> bool
     true
 }
 
-// Whether every job but 0 is spawned exactly once, by a job of smaller number.
+// Whether every job but 0 is spawned exactly once, by a job of smaller number. Where they are, `parent` and `position` tell of
+// each job who spawned it and where.
 pub fn spawn_rules(
     jobs: usize,
     actions: usize,
     first: &[u16; 257],
     job: &[u8; 2048],
     spawn: &[u16; 2048],
-) -> Spawns
-    requires { ⌜ ((p : Plan) × SpawnsGiven p jobs actions (now first) (now job) (now spawn)) ⌝ }
-    ensures { λ r. ⌜ ((p : Plan) → SpawnsGiven p jobs actions (now (first .entry)) (now (job .entry)) (now (spawn .entry)) → (r .kept ≡ spawnRules p) × (T (r .kept) → Spawned p (r .parent) (r .position))) ⌝ }
+    parent: &mut [u8; 256],
+    position: &mut [u8; 256],
+) -> bool
+    requires { ⌜ ((p : Plan) × SpawnsGiven p jobs actions (now first) (now job) (now spawn)) × Unspawned (now parent) (now position) ⌝ }
+    ensures { λ r. ⌜ ((p : Plan) → SpawnsGiven p jobs actions (now (first .entry)) (now (job .entry)) (now (spawn .entry)) → (r ≡ spawnRules p) × (T r → Spawned p (now (parent .exit)) (now (position .exit)))) ⌝ }
 {
-    let mut parent = [0u8; 256];
-    let mut position = [255u8; 256];
-    if !spawns_kept(jobs, actions, first, job, spawn, &mut parent, &mut position) {
-        return Spawns {
-            kept: false,
-            parent,
-            position,
-        };
+    if !spawns_kept(jobs, actions, first, job, spawn, parent, position) {
+        return false;
     }
-    let kept = all_spawned(jobs, &position);
-    Spawns {
-        kept,
-        parent,
-        position,
-    }
+    all_spawned(jobs, position)
 }
 
 // Counts the join that action k sends, or tells that it may not send it.
@@ -192,7 +171,7 @@ fn joins_kept(
 }
 
 // Whether joins go to later actions of the parent, not right after a spawn, at most 8 into one, and every last action but
-// job 0's sends one.
+// job 0's sends one. Where they do, `entering` tells of each action how many enter it.
 pub fn join_rules(
     actions: usize,
     first: &[u16; 257],
@@ -201,20 +180,10 @@ pub fn join_rules(
     join: &[u16; 2048],
     parent: &[u8; 256],
     position: &[u8; 256],
-) -> Joins
-    requires { ⌜ ((p : Plan) × JoinsGiven p actions (now first) (now job) (now spawn) (now join) (now parent) (now position)) ⌝ }
-    ensures { λ r. ⌜ ((p : Plan) → JoinsGiven p actions (now (first .entry)) (now (job .entry)) (now (spawn .entry)) (now (join .entry)) (now (parent .entry)) (now (position .entry)) → (r .kept ≡ joinRules p) × (T (r .kept) → Entered p (r .entering))) ⌝ }
+    entering: &mut [u8; 2048],
+) -> bool
+    requires { ⌜ ((p : Plan) × JoinsGiven p actions (now first) (now job) (now spawn) (now join) (now parent) (now position)) × Unentered (now entering) ⌝ }
+    ensures { λ r. ⌜ ((p : Plan) → JoinsGiven p actions (now (first .entry)) (now (job .entry)) (now (spawn .entry)) (now (join .entry)) (now (parent .entry)) (now (position .entry)) → (r ≡ joinRules p) × (T r → Entered p (now (entering .exit)))) ⌝ }
 {
-    let mut entering = [0u8; 2048];
-    let kept = joins_kept(
-        actions,
-        first,
-        job,
-        spawn,
-        join,
-        parent,
-        position,
-        &mut entering,
-    );
-    Joins { kept, entering }
+    joins_kept(actions, first, job, spawn, join, parent, position, entering)
 }

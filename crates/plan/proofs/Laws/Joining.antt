@@ -16,7 +16,7 @@ use Rattle.plan.specs.Test.{both, either, all, count}
 use Rattle.plan.specs.Plan.{Plan, Placed, size, action, work, placed, noPlaced, parent, spawnAt, enters, entering}
 use Rattle.plan.specs.Rules.{inRange, joinFits, fewEnter, lastSends, joinRules, Accepted}
 use Rattle.plan.specs.Flat.{Entered}
-use Rattle.plan.specs.Given.{JoinsGiven}
+use Rattle.plan.specs.Given.{JoinsGiven, Unentered}
 use Rattle.plan.specs.Kept.{Counted, JoinTold}
 use Rattle.plan.proofs.Laws.Lists.{both-intro, both-left, both-right, all-by}
 use Rattle.plan.proofs.Laws.Counts.{decT, either-left, either-right, equal-tests, count-take, count-one-more, count-no-more, array-by}
@@ -284,17 +284,17 @@ module _ (p : Plan) (k : ℕ) (first job spawn join parents positions : List ℕ
                 (now ∙ r .counts a t v u ∙ sym (same-count a t f), rw now (r .few a t v u))
 
 -- before the first action
-pub counted-start : (p : Plan) → T (inRange p) → Counted p 0 (replicate 2048 0)
-counted-start p g =
+pub counted-start : (p : Plan) → T (inRange p) → (l : List ℕ) → Unentered l → Counted p 0 l
+counted-start p g l u =
     record {
-      long = rw length-replicate (work-in-range p g .1);
+      long = rw (u, length-replicate) (work-in-range p g .1);
       fits = λ i b. absurd (not-suc-le-zero b);
       counts = λ q t h b. zero-at q t h b;
       few = λ q t h b. rw (zero-at q t h b) (omega arith);
     }
   where
-    zero-at : (q t : ℕ) → q < length p → t < size p q → _≡_ {A = ℕ} (getD (replicate 2048 0) (start p q + t) 0) 0
-    zero-at q t h b = getD-replicate 2048 (start p q + t) 0 0 (omega (arith, place-below p q t h b, work-in-range p g))
+    zero-at : (q t : ℕ) → q < length p → t < size p q → getD l (start p q + t) 0 ≡ 0
+    zero-at q t h b = rw u (getD-replicate 2048 (start p q + t) 0 0 (omega (arith, place-below p q t h b, work-in-range p g)))
 
 -- what the count of every action says of the join rules
 module _ (p : Plan) (l : List ℕ) where

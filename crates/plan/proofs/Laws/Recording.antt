@@ -15,7 +15,7 @@ use Rattle.plan.specs.Test.{both, all, count, below}
 use Rattle.plan.specs.Plan.{Plan, Placed, action, work, placed, noPlaced, spawnerIn, parent, spawnAt}
 use Rattle.plan.specs.Rules.{inRange, spawnFits, spawnedOnce, spawnRules}
 use Rattle.plan.specs.Flat.{Spawned}
-use Rattle.plan.specs.Given.{SpawnsGiven}
+use Rattle.plan.specs.Given.{SpawnsGiven, Unspawned}
 use Rattle.plan.specs.Kept.{spawning, Recorded, SpawnTold, AllTold}
 use Rattle.plan.proofs.Laws.Lists.{both-intro, all-by}
 use Rattle.plan.proofs.Laws.Counts.{either-right, equal-tests, count-none, count-miss, count-take, count-one-more, count-no-more, below-by}
@@ -177,13 +177,13 @@ module _ (p : Plan) (jobs k : ℕ) (first job spawn : List ℕ) (g : SpawnsGiven
                 (same-count c (omega arith) ∙ u .0, getD-set-other P (s - 1) c (getD job k 0) 0 y ∙ u .1, getD-set-other Q (s - 1) c (k - w) 0 y ∙ u .2)
 
 -- before the first action
-pub recorded-start : (p : Plan) → T (inRange p) → (n : ℕ) → Recorded p 0 (replicate 256 n) (replicate 256 255)
-recorded-start p g n =
+pub recorded-start : (p : Plan) → T (inRange p) → (P Q : List ℕ) → Unspawned P Q → Recorded p 0 P Q
+recorded-start p g P Q u =
     record {
-      long = (rw length-replicate (jobs-in-range p g .1), rw length-replicate (jobs-in-range p g .1));
+      long = (omega (arith, u .parents, jobs-in-range p g), rw (u .positions, length-replicate) (jobs-in-range p g .1));
       fits = λ i b. absurd (not-suc-le-zero b);
       none = λ c b z. refl;
-      once = λ c b z. absurd (z (getD-replicate 256 c 255 0 (omega (arith, jobs-in-range p g))));
+      once = λ c b z. absurd (z (rw (u .positions) (getD-replicate 256 c 255 0 (omega (arith, jobs-in-range p g)))));
     }
 
 -- what the record of every action says of the spawn rules, with whether every job but 0 is in it

@@ -1,16 +1,16 @@
--- A field is cut out of the 32 bits from its first byte on by two products with powers of two.
+-- A field is cut out of the whole bytes that it lies in, at the top of 32 bits, by two products with powers of two.
 -- Assumes nothing.
 use mathlib.Core.Path.{_≡_, refl, sym, ap, _∙_}
 use mathlib.Core.List.{List, [], _∷_, _++_}
 use Prim.Native.Nat.{ℕ, _+_, _*_, _/_, _%_, _^_, _≤_, _<_}
-use native.Mathlib.Nat.{add-mul, mul-assoc, mul-comm, mul-lt-mul-of-pos-right, mul-pos, add-zero, lt-of-lt-of-le}
+use native.Mathlib.Nat.{add-mul, mul-assoc, mul-comm, mul-lt-mul-of-pos-right, mul-pos, lt-of-lt-of-le}
 use native.Mathlib.Omega.{arith}
 use lib.Arith.{digits-lt, digits-div, digits-mod}
 use lib.Pow.{pow-add, pow-pos, pow-mono, shl-lt}
-use lib.ListN.{length, getD, take, drop, replicate, length-append, length-drop, take-append-drop}
-use lib.Seq.{take-append-le, drop-append-le, drop-drop, getD-drop, length-take-le}
+use lib.ListN.{length, getD, take, drop, replicate, length-append, length-take, length-drop, take-append-drop, List·getD-eq-default}
+use lib.Seq.{take-append-le, drop-append-le, drop-drop, getD-take, getD-drop, length-take-le}
 use Rattle.plan.specs.Field.{bitsOf, bits, number, step, fieldAt}
-use Rattle.plan.specs.FieldParts.{windowAt}
+use Rattle.plan.specs.FieldParts.{windowOf}
 use Rattle.plan.proofs.Laws.Bits.{Binary, append-binary, take-binary, drop-binary, zeros-binary, bits-binary}
 use Rattle.plan.proofs.Laws.Bits.{bits-length, bits-append, bits-take, bits-drop, number-append, number-bitsOf, number-below, field-within}
 
@@ -51,33 +51,44 @@ cut-number l k w p h =
 part-front : (x y : List ℕ) (k w : ℕ) → k + w ≤ length x → take w (drop k (x ++ y)) ≡ take w (drop k x)
 part-front x y k w h = rw (drop-append-le k x y (omega arith)) (take-append-le w (drop k x) y (rw length-drop (omega arith)))
 
-window-length : (s : List ℕ) (i : ℕ) → length (windowAt s i) ≡ 32
-unfolding windowAt
-window-length s i = length-take-le 32 (bits (drop i s) ++ replicate 32 0) (rw length-append (omega arith))
+window-length : (s : List ℕ) → length (windowOf s) ≡ 32
+unfolding windowOf
+window-length s = length-take-le 32 (bits s ++ replicate 32 0) (rw length-append (omega arith))
 
-window-binary : (s : List ℕ) (i : ℕ) → Binary (windowAt s i)
-unfolding windowAt
-window-binary s i =
-    take-binary 32 (bits (drop i s) ++ replicate 32 0) (append-binary (bits (drop i s)) (replicate 32 0) (bits-binary (drop i s)) (zeros-binary 32))
+window-binary : (s : List ℕ) → Binary (windowOf s)
+unfolding windowOf
+window-binary s = take-binary 32 (bits s ++ replicate 32 0) (append-binary (bits s) (replicate 32 0) (bits-binary s) (zeros-binary 32))
 
-window-part : (s : List ℕ) (at w : ℕ) → w ≤ 24 → at + w ≤ 8 * length s → take w (drop (at % 8) (windowAt s (at / 8))) ≡ take w (drop at (bits s))
-unfolding windowAt
+window-front : (s : List ℕ) (k w : ℕ) → k + w ≤ 32 → k + w ≤ 8 * length s → take w (drop k (windowOf s)) ≡ take w (drop k (bits s))
+unfolding windowOf
+window-front s k w b h =
+    let x = bits s ++ replicate 32 0 in
+    sym (part-front (take 32 x) (drop 32 x) k w (omega (arith, window-length s))) ∙ ap (λ (r : List ℕ). take w (drop k r)) (take-append-drop 32 x)
+    ∙ part-front (bits s) (replicate 32 0) k w (omega (arith, bits-length s))
+
+-- the whole bytes that the field lies in
+abbrev pub held : List ℕ → ℕ → ℕ → List ℕ
+held s at w = take ((at % 8 + w + 7) / 8) (drop (at / 8) s)
+
+window-part : (s : List ℕ) (at w : ℕ) → w ≤ 24 → at + w ≤ 8 * length s → take w (drop (at % 8) (windowOf (held s at w))) ≡ take w (drop at (bits s))
 window-part s at w b h =
     let i = at / 8 in
     let k = at % 8 in
-    let t = bits (drop i s) in
-    let x = t ++ replicate 32 0 in
+    let n = (k + w + 7) / 8 in
+    let t = drop i s in
+    let size : length (take n t) ≡ n = length-take-le n t (omega (arith, length-drop i s)) in
     let place : 8 * i + k ≡ at = omega arith in
-    sym (part-front (take 32 x) (drop 32 x) k w (omega (arith, window-length s i))) ∙ ap (λ (r : List ℕ). take w (drop k r)) (take-append-drop 32 x)
-    ∙ part-front t (replicate 32 0) k w (omega (arith, bits-length (drop i s), length-drop i s)) ∙ ap (λ (r : List ℕ). take w (drop k r)) (bits-drop i s)
+    window-front (take n t) k w (omega arith) (omega (arith, size))
+    ∙ sym (part-front (bits (take n t)) (bits (drop n t)) k w (omega (arith, size, bits-length (take n t))))
+    ∙ ap (λ (r : List ℕ). take w (drop k r)) (sym (bits-append (take n t) (drop n t)) ∙ ap bits (take-append-drop n t) ∙ bits-drop i s)
     ∙ ap (λ (r : List ℕ). take w r) (drop-drop k (8 * i) (bits s)) ∙ ap (λ (n : ℕ). take w (drop n (bits s))) place
 
 -- what `cut` computes of the window x and the powers p and q
-pub window-field : (s : List ℕ) (at w x p q : ℕ) → w ≤ 24 → at + w ≤ 8 * length s → x ≡ number (windowAt s (at / 8)) → p ≡ 2 ^ (at % 8) → q ≡ 2 ^ w → fieldAt s w at ≡ step (x * p % 4294967296 * q / 4294967296) (at + w)
+pub window-field : (s : List ℕ) (at w x p q : ℕ) → w ≤ 24 → at + w ≤ 8 * length s → x ≡ number (windowOf (held s at w)) → p ≡ 2 ^ (at % 8) → q ≡ 2 ^ w → fieldAt s w at ≡ step (x * p % 4294967296 * q / 4294967296) (at + w)
 window-field s at w x p q b h e f g =
-    let l = window-length s (at / 8) in
+    let l = window-length (held s at w) in
     let value : x * p % 4294967296 * q / 4294967296 ≡ number (take w (drop at (bits s))) =
-    rw (e, f, g) (rw l at (cut-number (windowAt s (at / 8)) (at % 8) w (window-binary s (at / 8)) (omega arith))) ∙ ap number (window-part s at w b h) in
+    rw (e, f, g) (rw l at (cut-number (windowOf (held s at w)) (at % 8) w (window-binary (held s at w)) (omega arith))) ∙ ap number (window-part s at w b h) in
     rw value (field-within s w at h)
 
 pub product-fits : (x y k : ℕ) → x < 4294967296 → y ≡ 2 ^ k → k ≤ 32 → x * y < 2 ^ 64
@@ -96,12 +107,11 @@ first-four (a ∷ b ∷ []) = refl
 first-four (a ∷ b ∷ c ∷ []) = refl
 first-four (a ∷ b ∷ c ∷ d ∷ t) = refl
 
-window-bits : (s : List ℕ) (i : ℕ) → windowAt s i ≡ bits (getD s i 0 ∷ getD s (i + 1) 0 ∷ getD s (i + 2) 0 ∷ getD s (i + 3) 0 ∷ [])
-unfolding windowAt
-window-bits s i =
-    let t = drop i s in
+window-bits : (t : List ℕ) → windowOf t ≡ bits (getD t 0 0 ∷ getD t 1 0 ∷ getD t 2 0 ∷ getD t 3 0 ∷ [])
+unfolding windowOf
+window-bits t =
     ap (λ (z : List ℕ). take 32 (bits t ++ z)) zero-bytes ∙ ap (λ (l : List ℕ). take 32 l) (sym (bits-append t (replicate 4 0)))
-    ∙ sym (bits-take 4 (t ++ replicate 4 0)) ∙ ap bits (first-four t) ∙ rw (getD-drop i s 0 0, getD-drop i s 1 0, getD-drop i s 2 0, getD-drop i s 3 0, add-zero i)
+    ∙ sym (bits-take 4 (t ++ replicate 4 0)) ∙ ap bits (first-four t)
 
 number-byte : (b : ℕ) (s : List ℕ) → b < 256 → number (bits (b ∷ s)) ≡ b * 2 ^ (8 * length s) + number (bits s)
 unfolding bits
@@ -111,9 +121,19 @@ number-none : number (bits []) ≡ 0
 unfolding bits
 number-none = refl
 
-pub window-value : (s : List ℕ) (i a b c d : ℕ) → (a ≡ getD s i 0) × (a < 256) → (b ≡ getD s (i + 1) 0) × (b < 256) → (c ≡ getD s (i + 2) 0) × (c < 256) → (d ≡ getD s (i + 3) 0) × (d < 256) → (a * 16777216 + b * 65536 + c * 256 + d ≡ number (windowAt s i)) × (a * 16777216 + b * 65536 + c * 256 + d < 4294967296)
-window-value s i a b c d f g h j = (
-  rw (window-bits s i, ← f .0, ← g .0, ← h .0, ← j .0)
-      (omega (arith, number-byte a (b ∷ c ∷ d ∷ []) (f .1), number-byte b (c ∷ d ∷ []) (g .1), number-byte c (d ∷ []) (h .1), number-byte d [] (j .1), number-none)),
-  omega arith,
-)
+-- x is byte j of the list t, 0 past its end
+abbrev pub Byte : List ℕ → ℕ → ℕ → Type 0
+Byte t j x = (x ≡ getD t j 0) × (x < 256)
+
+pub bytes-number : (t : List ℕ) (a b c d : ℕ) → Byte t 0 a → Byte t 1 b → Byte t 2 c → Byte t 3 d → a * 16777216 + b * 65536 + c * 256 + d ≡ number (windowOf t)
+bytes-number t a b c d f g h j =
+    rw (window-bits t, ← f .0, ← g .0, ← h .0, ← j .0)
+    (omega (arith, number-byte a (b ∷ c ∷ d ∷ []) (f .1), number-byte b (c ∷ d ∷ []) (g .1), number-byte c (d ∷ []) (h .1), number-byte d [] (j .1), number-none))
+
+-- the n bytes from byte i on
+module _ (s : List ℕ) (i n : ℕ) where
+  pub there : (j x : ℕ) → j < n → (x ≡ getD s (i + j) 0) × (x < 256) → Byte (take n (drop i s)) j x
+  there j x h e = (e .0 ∙ sym (rw (getD-take, getD-drop)), e .1)
+
+  pub past : (j : ℕ) → n ≤ j → Byte (take n (drop i s)) j 0
+  past j h = (sym (List·getD-eq-default (take n (drop i s)) 0 (omega (arith, length-take n (drop i s)))), omega arith)

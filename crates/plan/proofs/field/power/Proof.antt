@@ -1,9 +1,5 @@
--- `plan::field::power` meets its contract: the table is compared with the doubled numbers from 1 on.
+-- `plan::field::power` meets its contract.
 -- Assumes nothing.
-use mathlib.Core.Path.{_∙_}
-use Prim.Native.Nat.{_^_}
-use native.Mathlib.Nat.{one-mul}
-use Rattle.plan.proofs.Laws.PowerTable.{doubles-at}
 use borrow.Author.Needs.{needs}
 use Rattle.plan.proofs.field.power.Statement.{statement}
 use Rattle.plan.proofs.field.power.Tie as tie
@@ -11,11 +7,11 @@ use Rattle.plan.proofs.field.power.Tie as tie
 mul-result : tie.Need-mul-result
 mul-result c = search needs
 
-array-read-result : tie.Need-array-read-result
-array-read-result c = search needs
+element-copy-out-result : tie.Need-element-copy-out-result
+element-copy-out-result c = search needs
 
 returns : tie.Need-returns
-returns c = doubles-at 32 1 (c .args .k) (c .pre) ∙ one-mul (2 ^ c .args .k)
+returns c = c .before .pre .1 (c .before .args .k) (c .before .pre .0)
 
 pub power-spec : {M : Type 1} → statement M
-power-spec = tie.close (tie.spec mul-result array-read-result returns)
+power-spec = tie.close (tie.spec mul-result element-copy-out-result returns)

@@ -12,26 +12,30 @@ use Rattle.plan.proofs.rules.spawn_rules.Tie as tie
 
 spawns-kept-requires : tie.Need-spawns-kept-requires
 spawns-kept-requires c κs =
-    let x = c .before .before .pre in (x .0, x .1, recorded-start (x .0) (x .1 .range) 0)
+    let x = c .before .before .pre in
+    (x .0 .0, x .0 .1, recorded-start (x .0 .0) (x .0 .1 .range) _ _ (x .1))
 
 returns : tie.Need-returns
-returns c = λ p g. (
-  sym
-      (false-of (spawnRules p)
-      (c .before .spawns-kept .ensures p g (recorded-start p (g .range) 0) .broken
-      (not-passed (c .before .spawns-kept .result) (c .if1 .taken)))),
-  λ x. absurd x,
-)
+returns c = λ p g.
+    let k = c .before in
+    (
+      sym
+          (false-of (spawnRules p)
+          (k .spawns-kept .ensures p g (recorded-start p (g .range) _ _ (k .before .before .before .pre .1)) .broken
+          (not-passed (k .spawns-kept .result) (c .if1 .taken)))),
+      λ x. absurd x,
+    )
 
 all-spawned-requires : tie.Need-all-spawned-requires
 all-spawned-requires c κs =
-    let x = c .before .before .before .before .before .pre in omega (arith, x .1 .count, jobs-in-range (x .0) (x .1 .range))
+    let x = c .before .before .before .before .before .pre .0 in omega (arith, x .1 .count, jobs-in-range (x .0) (x .1 .range))
 
 returns-2 : tie.Need-returns-2
 returns-2 c = λ p g.
+    let k = c .before .before .before in
     spawns-told p _ _ _ (g .count)
-    (c .before .before .before .spawns-kept .ensures p g (recorded-start p (g .range) 0) .kept
-    (passed (c .before .before .before .spawns-kept .result) (c .before .before .if1 .left))) _ (c .all-spawned .ensures)
+    (k .spawns-kept .ensures p g (recorded-start p (g .range) _ _ (k .before .before .before .pre .1)) .kept
+    (passed (k .spawns-kept .result) (c .before .before .if1 .left))) _ (c .all-spawned .ensures)
 
 pub spawn-rules-spec : {M : Type 1} → statement M
 spawn-rules-spec = tie.close (tie.spec spawns-kept-requires returns all-spawned-requires returns-2)
