@@ -13,8 +13,8 @@ use crate::rows::take_rows;
 use crate::rows::write_rows;
 use crate::writer::plan_bits;
 use crate::writer::write_plan;
-use plan::flat::Verdict;
-use plan::reader::read_plan;
+use plan::flat::Found;
+use plan::reader::read_into;
 use plan::refusal::Refusal;
 use plan::rules::join_rules;
 use plan::rules::spawn_rules;
@@ -29,24 +29,31 @@ pub enum Answer {
 pub fn plan_to_table(bytes: &[u8], rows: &mut [u16]) -> Answer
     ensures { λ r. ⌜ record { answer = answerOf r; buffer = now (rows .exit) } ≡ toTable (now (bytes .entry)) (now (rows .entry)) ⌝ }
 {
-    let read = read_plan(bytes);
-    let verdict = read.verdict;
-    let plan = read.plan;
-    match verdict {
-        Verdict::Refused(cause) => Answer::Refused(cause),
-        Verdict::Accepted => {
-            let actions = plan.actions;
+    let mut frame = [0u16; 256];
+    let mut first = [0u16; 257];
+    let mut job = [0u8; 2048];
+    let mut spawn = [0u16; 2048];
+    let mut join = [0u16; 2048];
+    let mut parent = [0u8; 256];
+    let mut position = [255u8; 256];
+    let mut entering = [0u8; 2048];
+    match read_into(
+        bytes,
+        &mut frame,
+        &mut first,
+        &mut job,
+        &mut spawn,
+        &mut join,
+        &mut parent,
+        &mut position,
+        &mut entering,
+    ) {
+        Found::Refused(cause) => Answer::Refused(cause),
+        Found::Plan { jobs: _, actions } => {
             if rows.len() < 4 * actions {
                 return Answer::Refused(Refusal::Short);
             }
-            write_rows(
-                actions,
-                &plan.frame,
-                &plan.job,
-                &plan.spawn,
-                &plan.join,
-                rows,
-            );
+            write_rows(actions, &frame, &job, &spawn, &join, rows);
             Answer::Count(actions)
         }
     }
@@ -66,14 +73,30 @@ fn encode(
     requires { ⌜ ((p : Plan) × WriterGiven p jobs rows (now frame) (now first) (now job) (now spawn) (now join)) ⌝ }
     ensures { λ r. ⌜ ((p : Plan) → WriterGiven p jobs rows (now (frame .entry)) (now (first .entry)) (now (job .entry)) (now (spawn .entry)) (now (join .entry)) → record { answer = answerOf r; buffer = now (bytes .exit) } ≡ encoded (ruled p) (now (bytes .entry))) ⌝ }
 {
-    let spawns = spawn_rules(jobs, rows, first, job, spawn);
-    let parent = spawns.parent;
-    let position = spawns.position;
-    if !spawns.kept {
+    let mut parent = [0u8; 256];
+    let mut position = [255u8; 256];
+    let mut entering = [0u8; 2048];
+    if !spawn_rules(
+        jobs,
+        rows,
+        first,
+        job,
+        spawn,
+        &mut parent,
+        &mut position,
+    ) {
         return Answer::Refused(Refusal::Spawn);
     }
-    let joins = join_rules(rows, first, job, spawn, join, &parent, &position);
-    if !joins.kept {
+    if !join_rules(
+        rows,
+        first,
+        job,
+        spawn,
+        join,
+        &parent,
+        &position,
+        &mut entering,
+    ) {
         return Answer::Refused(Refusal::Join);
     }
     if bytes.len() < (plan_bits(jobs, rows, spawn, join) + 7) / 8 {

@@ -8,14 +8,10 @@ use mathlib.Core.List.{List, _++_}
 use lib.ListN.{length, drop}
 use lib.Dec.{T, eqb}
 use borrow.Author.Tests.{le-leb, lt-leb}
-use Rattle.plan.specs.declared.flat.FlatPlan.{FlatPlan}
-use Rattle.plan.specs.declared.flat.Verdict.{Verdict}
-use Rattle.plan.specs.declared.flat.Verdict.the-variants.{Refused, Accepted}
-use Rattle.plan.specs.declared.refusal.Refusal.{Refusal}
-use Rattle.plan.specs.Refusal.{Outcome, refused, accepted, numberOf}
+use Rattle.plan.specs.Refusal.{refused, accepted}
 use Rattle.plan.specs.Plan.{Plan, work}
 use Rattle.plan.specs.Reader.{readPlan}
-use Rattle.plan.specs.Flat.{Told, Holds, Spawned}
+use Rattle.plan.specs.Flat.{Spawned}
 use Rattle.plan_table.specs.Table.{written, tableOf, tabled, toTable, rowsOf, rowRules, planOf, ruled, readTable, encoded, toPlan}
 use Rattle.plan.specs.Test.{both}
 use Rattle.plan.specs.Rules.{inRange, spawnRules, joinRules}
@@ -24,20 +20,6 @@ use Rattle.plan.specs.Given.{SpawnsGiven, JoinsGiven}
 use Rattle.plan_table.specs.GivenRows.{WriterGiven, BitsGiven}
 use Rattle.plan.proofs.Laws.Lists.{true-of, of-true}
 use Rattle.plan_table.proofs.Laws.Rows.{table-length}
-
-pub told-refused : (o : Outcome Plan) (v : Verdict) (f : FlatPlan) (cause : Refusal) → Told o v f → v ≡ Refused cause → o ≡ refused (numberOf cause)
-told-refused o v f cause t e = go o (rw e at t)
-  where
-    go : (o : Outcome Plan) → Told o (Refused cause) f → o ≡ refused (numberOf cause)
-    go (refused n) t = rw t
-    go (accepted p) t = absurd t
-
-pub told-accepted : (o : Outcome Plan) (v : Verdict) (f : FlatPlan) → Told o v f → v ≡ Accepted → (p : Plan) × (o ≡ accepted p) × Holds p f
-told-accepted o v f t e = go o (rw e at t)
-  where
-    go : (o : Outcome Plan) → Told o Accepted f → (p : Plan) × (o ≡ accepted p) × Holds p f
-    go (refused n) t = absurd t
-    go (accepted p) t = (p, refl, t)
 
 pub written-short : (output : List ℕ) (n : ℕ) (buffer : List ℕ) → length buffer < length output
     → written output n buffer ≡ record { answer = refused 9; buffer = buffer }

@@ -1,6 +1,6 @@
 -- `plan::table::encode` meets its contract: each answer by what the rules and the writer tell of the plan. Assumes nothing.
 use Prim.Native.Nat.{_+_, _/_}
-use mathlib.Core.Path.{_≡_, ap, sym, _∙_}
+use mathlib.Core.Path.{_≡_, refl, ap, sym, _∙_}
 use mathlib.Core.Bool.{true, false}
 use native.Mathlib.Omega.{arith}
 use lib.ListN.{length}
@@ -32,14 +32,14 @@ Given s p =
 
 -- the spawn rules are kept
 abbrev start : tie.Else1 → tie.Start
-start c = c .before .before .before .before .before .before
+start c = c .before .before .before .before .before
 
 spawned : (c : tie.Else1) (p : Plan) → Given (start c) p
-    → (spawnRules p ≡ true) × Spawned p (c .before .before .before .before .spawn-rules .result .parent) (c .before .before .before .before .spawn-rules .result .position)
+    → (spawnRules p ≡ true) × Spawned p (c .before .spawn-rules .last .1 .1 .1 .1 .1 .0) (c .before .spawn-rules .last .1 .1 .1 .1 .1 .1 .0)
 spawned c p g =
-    let r = c .before .before .before .before .spawn-rules in
+    let r = c .before .spawn-rules in
     let e = r .ensures p (spawns-given g) in
-    let k : r .result .kept ≡ true = not-false _ (c .if1 .left) in
+    let k : r .result ≡ true = not-false _ (c .if1 .left) in
     (sym (e .0) ∙ k, e .1 (of-true _ k))
 
 -- the join rules are kept
@@ -49,32 +49,34 @@ else1 c = c .before .before .before .before .before
 joined : (c : tie.Else2) (p : Plan) → Given (start (else1 c)) p → joinRules p ≡ true
 joined c p g =
     let s = spawned (else1 c) p g in
-    let r = c .before .before .join-rules in
+    let r = c .before .join-rules in
     let e = r .ensures p (joins-given g _ _ (s .0) (s .1)) in
-    let k : r .result .kept ≡ true = not-false _ (c .if2 .left) in
+    let k : r .result ≡ true = not-false _ (c .if2 .left) in
     sym (e .0) ∙ k
 
 spawn-rules-requires : tie.Need-spawn-rules-requires
-spawn-rules-requires c κs = (c .before .pre .0, spawns-given (c .before .pre .1))
+spawn-rules-requires c κs =
+    let q = c .before .before .before .pre in
+    ((q .0, spawns-given (q .1)), record { parents = refl; positions = refl })
 
 returns : tie.Need-returns
 returns c p g =
-    let r = c .before .before .before .before .spawn-rules in
-    let k : r .result .kept ≡ false = not-true _ (c .if1 .taken) in
+    let r = c .before .spawn-rules in
+    let k : r .result ≡ false = not-true _ (c .if1 .taken) in
     encoded-spawns p _ (g .laid .range) (sym (r .ensures p (spawns-given g) .0) ∙ k)
 
 join-rules-requires : tie.Need-join-rules-requires
 join-rules-requires c κs =
-    let o = c .before .before in
+    let o = c .before .before .before in
     let q = start o .pre in
     let s = spawned o (q .0) (q .1) in
-    (q .0, joins-given (q .1) _ _ (s .0) (s .1))
+    ((q .0, joins-given (q .1) _ _ (s .0) (s .1)), refl)
 
 returns-2 : tie.Need-returns-2
 returns-2 c p g =
     let s = spawned (c .before .before .before .before .before) p g in
-    let r = c .before .before .join-rules in
-    let k : r .result .kept ≡ false = not-true _ (c .if2 .taken) in
+    let r = c .before .join-rules in
+    let k : r .result ≡ false = not-true _ (c .if2 .taken) in
     encoded-joins p _ (g .laid .range) (s .0) (sym (r .ensures p (joins-given g _ _ (s .0) (s .1)) .0) ∙ k)
 
 plan-bits-requires : tie.Need-plan-bits-requires

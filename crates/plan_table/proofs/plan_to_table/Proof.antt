@@ -1,52 +1,73 @@
 -- `plan::table::plan_to_table` meets its contract: each answer by what reading the bytes tells. Assumes nothing.
 use Prim.Native.Nat.{_≤_}
-use mathlib.Core.Path.{_≡_}
-use lib.ListN.{length}
+use mathlib.Core.Path.{_≡_, refl}
+use Rattle.plan.specs.declared.flat.FlatPlan.{FlatPlan}
 use Rattle.plan.specs.Plan.{Plan}
 use Rattle.plan.specs.Refusal.{accepted}
 use Rattle.plan.specs.Reader.{readPlan}
 use Rattle.plan.specs.Flat.{Holds}
 use Rattle.plan_table.specs.GivenRows.{RowsGiven}
-use Rattle.plan_table.proofs.Laws.Rows.{owners-few}
-use Rattle.plan_table.proofs.Laws.Answers.{told-refused, told-accepted, table-refused, table-short, table-whole}
+use Rattle.plan.proofs.Laws.Accepted.{accepted-range}
+use Rattle.plan.proofs.Laws.Spawning.{work-in-range}
+use Rattle.plan_table.proofs.Laws.Answers.{table-refused, table-short, table-whole}
 use native.Mathlib.Omega.{arith}
 use borrow.Author.Needs.{needs}
 use Rattle.plan_table.proofs.plan_to_table.Statement.{statement}
 use Rattle.plan_table.proofs.plan_to_table.Tie as tie
 
-read-plan-requires : tie.Need-read-plan-requires
-read-plan-requires c κs = search needs
+read-into-requires : tie.Need-read-into-requires
+read-into-requires c κs =
+    record {
+      frames = refl;
+      firsts = refl;
+      begins = refl;
+      owners = refl;
+      spawns = refl;
+      joins = refl;
+      spawned = record { parents = refl; positions = refl };
+      entered = refl;
+    }
 
-enum-known-verdict : tie.Need-enum-known-verdict
-enum-known-verdict c = search needs
+enum-known-cause : tie.Need-enum-known-cause
+enum-known-cause c = search needs
 
-enum-told : tie.Need-enum-told
-enum-told c = search needs
+enum-known-actions : tie.Need-enum-known-actions
+enum-known-actions c = search needs
 
--- the plan that was read
-told : (c : tie.After-enum-told) → (p : Plan) × (readPlan (c .before .before .before .before .before .before .args .bytes .now) ≡ accepted p)
-    × Holds p (c .before .before .before .read-plan .result .plan)
-told c =
-    let r = c .before .before .before .read-plan in
-    told-accepted _ (r .result .verdict) (r .result .plan) (r .ensures) (c .enum-told .given .1)
+-- the arrays that were read into, and the plan that they hold
+abbrev flat : tie.After-actions → FlatPlan
+flat c =
+    let l = c .before .before .read-into .last .1 in
+    record {
+      jobs = c .actions .given .0 .0;
+      actions = c .actions .given .0 .1 .0;
+      frame = l .0;
+      first = l .1 .0;
+      job = l .1 .1 .0;
+      spawn = l .1 .1 .1 .0;
+      join = l .1 .1 .1 .1 .0;
+      parent = l .1 .1 .1 .1 .1 .0;
+      «spawn_position» = l .1 .1 .1 .1 .1 .1 .0;
+      entering = l .1 .1 .1 .1 .1 .1 .1 .0;
+    }
 
-few : (c : tie.After-enum-told) → c .before .before .before .read-plan .result .plan .actions ≤ 2048
+told : (c : tie.After-actions) → (p : Plan) × (readPlan (c .before .before .before .before .before .before .before .before .before .before .before .before .before .args .bytes .now) ≡ accepted p) × Holds p (flat c)
+told c = rw (c .actions .given .1) at (c .before .before .read-into .ensures)
+
+few : (c : tie.After-actions) → flat c .actions ≤ 2048
 few c =
     let p = told c in
-    let f = c .before .before .before .read-plan .result .plan in
-    let n : length (f .job) ≡ 2048 = search needs in
-    omega (arith, p .2 .actions, owners-few (p .0) (f .job) (p .2 .owners))
+    omega (arith, p .2 .actions, work-in-range (p .0) (accepted-range _ (p .0) (p .1)))
 
 mul-if1 : tie.Need-mul-if1
-mul-if1 c = omega (arith, few c)
+mul-if1 c = omega (arith, few (c .before))
 
 returns : tie.Need-returns
 returns c =
-    let p = told (c .before) in
+    let p = told (c .before .before) in
     table-short _ _ (p .0) (p .1) (omega (arith, p .2 .actions))
 
-given : (c : tie.After-enum-told) → let f = c .before .before .before .read-plan .result .plan in
-    RowsGiven (told c .0) (f .actions) (f .frame) (f .job) (f .spawn) (f .join)
+given : (c : tie.After-actions) → RowsGiven (told c .0) (flat c .actions) (flat c .frame) (flat c .job) (flat c .spawn) (flat c .join)
 given c =
     let h = told c .2 in
     record {
@@ -65,26 +86,26 @@ write-rows-requires c κs =
 
 returns-2 : tie.Need-returns-2
 returns-2 c =
-    let r = c .before .before .before .before .read-plan in
-    table-refused _ _ _ (told-refused _ (r .result .verdict) (r .result .plan) _ (r .ensures) (c .before .verdict .given .1))
+    let z = c .before in
+    table-refused _ _ _ (rw (z .cause .given .1) at (z .before .before .read-into .ensures))
 
 same-length : tie.Need-same-length
 same-length c = search needs
 
 returns-3 : tie.Need-returns-3
 returns-3 c =
-    let t = c .before .before .before .before .before .before .before .before .before .before in
+    let o = c .before .before .before .before .before .before .before .before in
+    let t = o .before .before in
     let p = told t in
-    table-whole _ _ (p .0) _ _ (p .1) (p .2 .actions) (c .before .before .before .before .before .before .before .before .before .if1 .left)
-    (c .before .before .write-rows .ensures (p .0) (given t))
+    table-whole _ _ (p .0) _ _ (p .1) (p .2 .actions) (o .if1 .left) (c .before .before .write-rows .ensures (p .0) (given t))
 
 pub plan-to-table-spec : {M : Type 1} → statement M
 plan-to-table-spec =
     tie.close
     (tie.spec
-    read-plan-requires
-    enum-known-verdict
-    enum-told
+    read-into-requires
+    enum-known-cause
+    enum-known-actions
     mul-if1
     returns
     write-rows-requires

@@ -7,13 +7,15 @@ use Rattle.plan_table.proofs.writer.put_header.Statement.{statement}
 use Rattle.plan_table.proofs.writer.put_header.Tie as tie
 
 put-requires : tie.Need-put-requires
-put-requires c κs = search needs
+put-requires c κs =
+    let b = c .before .before in
+    (b .pre .0, (b .pre .1 .0, (omega arith, omega arith, omega arith)))
 
 put-requires-2 : tie.Need-put-requires-2
 put-requires-2 c κs =
     let b = c .before .before .before .before .before .before in
     let w = c .before .before .before .put .ensures in
-    (w .sound, (omega arith, b .pre .1 .0, omega (arith, put-length (b .pre .0) w, w .same)))
+    (w .sound, (b .pre .1 .0, (omega arith, b .pre .1 .1 .0, omega (arith, put-length (b .pre .0) w, w .same))))
 
 same-length : tie.Need-same-length
 same-length c = search needs
