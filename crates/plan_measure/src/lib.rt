@@ -5,10 +5,10 @@ ghost use lib.ListN.{length};
 ghost use Rattle.plan.specs.Plan.{Plan, size};
 ghost use Rattle.plan_measure.specs.Measure.{measures, told, longest as longestOf, heaviest as heaviestOf};
 ghost use Rattle.plan_measure.specs.Times.{at, PathsGiven, ends, begins, TimesGiven, JobGiven, TimedFrom, SendGiven, Sent, PassGiven, Passed};
-use plan::flat::Verdict;
+use plan::flat::Found;
 use plan::flat::wide8;
 use plan::flat::wide16;
-use plan::reader::read_plan;
+use plan::reader::read_into;
 use plan::refusal::Refusal;
 
 // T1, T∞ and S1.
@@ -183,21 +183,30 @@ fn longest<'a>(
 pub fn measure(bytes: &[u8]) -> Measured
     ensures { λ r. ⌜ told r ≡ measures (now (bytes .entry)) ⌝ }
 {
-    let read = read_plan(bytes);
-    let verdict = read.verdict;
-    let plan = read.plan;
-    match verdict {
-        Verdict::Refused(cause) => Measured::Refused(cause),
-        Verdict::Accepted => {
-            let actions = plan.actions as u32;
-            let jobs = plan.jobs;
-            let length = longest(jobs, &plan.first, &plan.spawn, &plan.join);
-            let path = heaviest(jobs, &plan.frame, &plan.parent);
-            Measured::Of(Measures {
-                actions,
-                longest: length,
-                path,
-            })
-        }
+    let mut frame = [0u16; 256];
+    let mut first = [0u16; 257];
+    let mut job = [0u8; 2048];
+    let mut spawn = [0u16; 2048];
+    let mut join = [0u16; 2048];
+    let mut parent = [0u8; 256];
+    let mut position = [255u8; 256];
+    let mut entering = [0u8; 2048];
+    match read_into(
+        bytes,
+        &mut frame,
+        &mut first,
+        &mut job,
+        &mut spawn,
+        &mut join,
+        &mut parent,
+        &mut position,
+        &mut entering,
+    ) {
+        Found::Refused(cause) => Measured::Refused(cause),
+        Found::Plan { jobs, actions } => Measured::Of(Measures {
+            actions: actions as u32,
+            longest: longest(jobs, &first, &spawn, &join),
+            path: heaviest(jobs, &frame, &parent),
+        }),
     }
 }

@@ -1,17 +1,14 @@
 -- What the answer of reading tells of the plan to be measured.
 -- Assumes nothing.
 use Prim.Native.Nat.{ℕ, _≤_}
-use mathlib.Core.Path.{_≡_, refl, sym, _∙_}
+use mathlib.Core.Path.{_≡_, sym, _∙_}
 use mathlib.Core.List.{List}
 use native.Mathlib.Omega.{arith}
 use lib.ListN.{length}
 use Rattle.plan.specs.declared.flat.FlatPlan.{FlatPlan}
-use Rattle.plan.specs.declared.flat.Verdict.{Verdict}
-use Rattle.plan.specs.declared.flat.Verdict.the-variants.{Refused, Accepted}
-use Rattle.plan.specs.declared.refusal.Refusal.{Refusal}
-use Rattle.plan.specs.Refusal.{Outcome, refused, accepted, numberOf}
+use Rattle.plan.specs.Refusal.{refused, accepted}
 use Rattle.plan.specs.Plan.{Plan, work}
-use Rattle.plan.specs.Flat.{Holds, Told}
+use Rattle.plan.specs.Flat.{Holds}
 use Rattle.plan.specs.Reader.{readPlan}
 use Rattle.plan_measure.specs.Measure.{measured, measures, longest, heaviest}
 use Rattle.plan_measure.specs.Times.{RulesKept, PathsGiven, TimesGiven}
@@ -33,7 +30,7 @@ measurable-answer s f m length path e g =
     (λ i. accepted (record { actions = m .actions i; longest = e i; path = g i })) ∙ sym (m .answer)
 
 module _ (s : List ℕ) where
-  holds-measurable : (p : Plan) (f : FlatPlan) → readPlan s ≡ accepted p → Holds p f → Measurable s f
+  pub holds-measurable : (p : Plan) (f : FlatPlan) → readPlan s ≡ accepted p → Holds p f → Measurable s f
   unfolding measures measured
   holds-measurable p f e h =
       let rules : RulesKept p = record { range = accepted-range s p e; spawns = accepted-spawns s p e; joins = accepted-joins s p e } in
@@ -46,22 +43,6 @@ module _ (s : List ℕ) where
         answer = rw e;
       }
 
-  pub told-measurable : (v : Verdict) (f : FlatPlan) → v ≡ Accepted → Told (readPlan s) v f → Measurable s f
-  told-measurable v f e t = go (readPlan s) refl v e t
-    where
-      go : (o : Outcome Plan) → readPlan s ≡ o → (v : Verdict) → v ≡ Accepted → Told o v f → Measurable s f
-      go (refused n) r (Refused cause) e t = let z : _≡_ {A = ℕ} 0 1 = cc in absurd (omega arith)
-      go (refused n) r Accepted e t = absurd t
-      go (accepted p) r (Refused cause) e t = absurd t
-      go (accepted p) r Accepted e t = holds-measurable p f r t
-
-  pub told-refused : (v : Verdict) (f : FlatPlan) (cause : Refusal) → v ≡ Refused cause → Told (readPlan s) v f
-      → measures s ≡ refused (numberOf cause)
+  pub measures-refused : (n : ℕ) → readPlan s ≡ refused n → measures s ≡ refused n
   unfolding measures measured
-  told-refused v f cause e t = go (readPlan s) refl v e t
-    where
-      go : (o : Outcome Plan) → readPlan s ≡ o → (v : Verdict) → v ≡ Refused cause → Told o v f → measured o ≡ refused (numberOf cause)
-      go (refused n) r (Refused other) e t = let same : other ≡ cause = cc in rw (t, same)
-      go (refused n) r Accepted e t = absurd t
-      go (accepted p) r (Refused other) e t = absurd t
-      go (accepted p) r Accepted e t = let z : _≡_ {A = ℕ} 0 1 = cc in absurd (omega arith)
+  measures-refused n e = rw e
