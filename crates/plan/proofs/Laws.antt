@@ -13,6 +13,7 @@ pub mod Sink
 pub mod Steps
 pub mod Written
 pub mod Accepted
+pub mod Blank
 pub mod Outcomes
 pub mod Readings
 pub mod Fits

@@ -5,6 +5,7 @@
 --   Spawned           == the arrays hold each job's parent and the position of its spawn
 --   Entered           == the array holds how many joins enter each action
 --   Holds p f         == f holds the plan p: all of these
+--   Blank f           == f are arrays to read into: of full length, with no spawn and no join noted; 255 stands for no spawn
 --   ReadInto s r f    == what reading the bytes s into the arrays f answers: the refusal, or that they hold the plan
 --   jobsIn, actionsIn == the counts that such an answer gives
 --   Read s r          == what reading the bytes s answers: the refusal, or arrays that hold the plan
@@ -12,7 +13,7 @@
 use Prim.Native.Nat.{ℕ, zero, suc, _+_, _≤_, _<_}
 use mathlib.Core.Path.{_≡_}
 use mathlib.Core.List.{List, [], _∷_, map}
-use lib.ListN.{length, getD, take}
+use lib.ListN.{length, getD, take, replicate}
 use Rattle.plan.specs.declared.flat.FlatPlan.{FlatPlan}
 use Rattle.plan.specs.declared.flat.Reading.{Reading}
 use Rattle.plan.specs.declared.flat.Found.{Found}
@@ -58,6 +59,17 @@ pub record Holds (p : Plan) (f : FlatPlan) : Type 0 where
   pub joins : Joins p (f .join)
   pub spawned : Spawned p (f .parent) (f .«spawn_position»)
   pub entered : Entered p (f .entering)
+
+pub record Blank (f : FlatPlan) : Type 0 where
+  pub frames : length (f .frame) ≡ 256
+  pub firsts : length (f .first) ≡ 257
+  pub begins : getD (f .first) 0 0 ≡ 0
+  pub owners : length (f .job) ≡ 2048
+  pub spawns : length (f .spawn) ≡ 2048
+  pub joins : length (f .join) ≡ 2048
+  pub parents : length (f .parent) ≡ 256
+  pub positions : f .«spawn_position» ≡ replicate 256 255
+  pub entered : f .entering ≡ replicate 2048 0
 
 abbrev pub jobsIn : Found → ℕ
 jobsIn (Found.Refused cause) = 0

@@ -3,14 +3,12 @@
 --   Unspawned ..     == the arrays for parents and spawn positions are those before the first action
 --   JoinsGiven p ..  == the same for the join rules: the spawn rules hold, and parents and spawn positions are known
 --   Unentered l      == the array that counts joins is that before the first action
---   Blank f          == arrays that a plan is read into
 -- Assumes nothing.
 use Prim.Native.Nat.{ℕ}
 use mathlib.Core.Path.{_≡_}
 use mathlib.Core.List.{List}
-use lib.ListN.{length, getD, replicate}
+use lib.ListN.{length, replicate}
 use lib.Dec.{T}
-use Rattle.plan.specs.declared.flat.FlatPlan.{FlatPlan}
 use Rattle.plan.specs.Plan.{Plan, work}
 use Rattle.plan.specs.Rules.{inRange, spawnRules}
 use Rattle.plan.specs.Flat.{Firsts, Jobs, Spawns, Joins, Spawned}
@@ -39,13 +37,3 @@ pub record JoinsGiven (p : Plan) (actions : ℕ) (first job spawn join parent po
 
 abbrev pub Unentered : List ℕ → Type 0
 Unentered l = l ≡ replicate 2048 0
-
-pub record Blank (f : FlatPlan) : Type 0 where
-  pub frames : length (f .frame) ≡ 256
-  pub firsts : length (f .first) ≡ 257
-  pub begins : getD (f .first) 0 0 ≡ 0
-  pub owners : length (f .job) ≡ 2048
-  pub spawns : length (f .spawn) ≡ 2048
-  pub joins : length (f .join) ≡ 2048
-  pub spawned : Unspawned (f .parent) (f .«spawn_position»)
-  pub entered : Unentered (f .entering)

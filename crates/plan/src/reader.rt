@@ -4,8 +4,7 @@ ghost use Prim.Native.Nat.{_+_, _*_, _^_, _≤_, _<_};
 ghost use lib.ListN.{length, getD};
 ghost use Rattle.plan.specs.Reader.{numberAt, jobsAt, planAt, fills};
 ghost use Rattle.plan.specs.Field.{PowersOfTwo};
-ghost use Rattle.plan.specs.Flat.{jobsIn, actionsIn, ReadInto, Read};
-ghost use Rattle.plan.specs.Given.{Blank};
+ghost use Rattle.plan.specs.Flat.{Blank, jobsIn, actionsIn, ReadInto, Read};
 ghost use Rattle.plan.specs.Progress.{numberStep, RowsLong, ArraysLong, ActionRead, ActionsRead, HeaderRead, JobRead, PlanRead};
 use crate::field::Field;
 use crate::field::cut;
@@ -137,7 +136,14 @@ fn read_actions(
 }
 
 // Reads a job's frame and action count, where `before` actions came before it.
-fn read_header(s: &[u8], powers: &[u64; 32], at: usize, j: usize, before: usize, frame: &mut [u16; 256]) -> Header
+fn read_header(
+    s: &[u8],
+    powers: &[u64; 32],
+    at: usize,
+    j: usize,
+    before: usize,
+    frame: &mut [u16; 256],
+) -> Header
     requires { ⌜ (at < 2 ^ 16) × (j < 256) × (before ≤ 2048) × (length (now frame) ≡ 256) × PowersOfTwo (now powers) ⌝ }
     ensures { λ r. ⌜ HeaderRead (now (s .entry)) before at j (now (frame .entry)) (now (frame .exit)) r ⌝ }
 {

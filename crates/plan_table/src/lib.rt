@@ -76,15 +76,7 @@ fn encode(
     let mut parent = [0u8; 256];
     let mut position = [255u8; 256];
     let mut entering = [0u8; 2048];
-    if !spawn_rules(
-        jobs,
-        rows,
-        first,
-        job,
-        spawn,
-        &mut parent,
-        &mut position,
-    ) {
+    if !spawn_rules(jobs, rows, first, job, spawn, &mut parent, &mut position) {
         return Answer::Refused(Refusal::Spawn);
     }
     if !join_rules(

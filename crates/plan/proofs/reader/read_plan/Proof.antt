@@ -12,6 +12,7 @@ use Rattle.plan.specs.Refusal.{refused, accepted, numberOf}
 use Rattle.plan.specs.Plan.{Plan}
 use Rattle.plan.specs.Reader.{readPlan}
 use Rattle.plan.specs.Flat.{Holds, Read}
+use Rattle.plan.proofs.Laws.Blank.{blank}
 use Rattle.plan.proofs.reader.read_plan.Statement.{statement}
 use Rattle.plan.proofs.reader.read_plan.Tie as tie
 
@@ -22,17 +23,7 @@ told-plan : (s : List ℕ) (p : Plan) (f : FlatPlan) → readPlan s ≡ accepted
 told-plan s p f e h = rw e h
 
 read-into-requires : tie.Need-read-into-requires
-read-into-requires c κs =
-    record {
-      frames = refl;
-      firsts = refl;
-      begins = refl;
-      owners = refl;
-      spawns = refl;
-      joins = refl;
-      spawned = record { parents = refl; positions = refl };
-      entered = refl;
-    }
+read-into-requires c κs = blank
 
 enum-known-cause : tie.Need-enum-known-cause
 enum-known-cause c = search needs

@@ -17,8 +17,7 @@ spawns-kept-requires c κs =
 
 returns : tie.Need-returns
 returns c = λ p g.
-    let k = c .before in
-    (
+    let k = c .before in (
       sym
           (false-of (spawnRules p)
           (k .spawns-kept .ensures p g (recorded-start p (g .range) _ _ (k .before .before .before .pre .1)) .broken
