@@ -4,8 +4,3 @@ pub enum Worker {
     Holding(u8),
     Waiting { victim: u8, laid: u16 },
 }
-
-// A worker's place in an array that a struct holds.
-pub struct Seat {
-    pub is: Worker,
-}

@@ -6,8 +6,9 @@ pub mod Sending
 pub mod Settling
 pub mod Turning
 pub mod Running
-pub mod Manning
+pub mod Codes
 pub mod Picks
+pub mod Manning
 pub mod Halves
 pub mod ScheduleBytes
 pub mod Starting

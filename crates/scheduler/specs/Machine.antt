@@ -7,6 +7,8 @@
 --   Dequed           == the arrays hold the sixteen deques, each within its 256 places; a job stands at a place not above its number
 --   Given            == what taking the top job of a deque gives
 --   Printed          == the bytes behind the schedule's header hold the rows of the actions that are done
+--   codeOf, Fitting  == a worker as a number, and the workers that the numbers tell apart
+--   Seated           == the array holds the numbers of the sixteen workers
 --   Manned           == the workers, the weight of the living frames and the counts
 --   InRun            == s is the state of a run of n workers at a stage of round r
 --   Acting, Acted, Machine, Moved == what a turn is given and leaves
@@ -20,9 +22,8 @@ use Rattle.plan.specs.Test.{both, count}
 use Rattle.plan.specs.Plan.{Plan, size, work, placed, enters, parent as parentOf}
 use Rattle.plan.specs.Rules.{Accepted}
 use Rattle.plan.specs.Flat.{Frames, Firsts, Spawns, Joins, Entered}
-use Rattle.scheduler.specs.declared.crew.Crew.{Crew}
+use Rattle.scheduler.specs.declared.account.Account.{Account}
 use Rattle.scheduler.specs.declared.turn.Turned.{Turned}
-use Rattle.runs.specs.declared.worker.Seat.{Seat}
 use Rattle.runs.specs.declared.worker.Worker.{Worker}
 use Rattle.runs.specs.declared.worker.Worker.the-variants.{Idle, Holding, Waiting}
 use Rattle.runs.specs.State.{Row, noRow, State, nextOf, workerOf, place}
@@ -69,15 +70,22 @@ pub record Printed (p : Plan) (s : State) (bytes : List ℕ) : Type 0 where
   pub down : (j i : ℕ) → j < length p → i < nextOf s j
       → getD bytes (2 * place p j i + 1) 0 ≡ getD (s .rows) (place p j i) noRow .round % 16 * 16 + getD (s .rows) (place p j i) noRow .worker
 
--- what stands past the end of the seats
-abbrev pub noSeat : Seat
-noSeat = record { is = Idle }
+-- a worker as a number, and the workers whose numbers tell them apart
+abbrev pub codeOf : Worker → ℕ
+codeOf Idle = 0
+codeOf (Holding j) = suc j
+codeOf (Waiting v l) = (l + 32) * 16 + v
 
-abbrev pub Seated : List Worker → List Seat → Type 0
-Seated ws seats = (length seats ≡ 16) × ((w : ℕ) → w < 16 → getD seats w noSeat .is ≡ getD ws w Idle)
+abbrev pub Fitting : Worker → Type 0
+Fitting Idle = 0 < 1
+Fitting (Holding j) = j < 256
+Fitting (Waiting v l) = (v < 16) × (l ≤ 2048)
 
-pub record Manned (p : Plan) (s : State) (c : Crew) : Type 0 where
-  pub seats : Seated (s .workers) (c .seats)
+abbrev pub Seated : List Worker → List ℕ → Type 0
+Seated ws seats = (length seats ≡ 16) × ((w : ℕ) → w < 16 → getD seats w 0 ≡ codeOf (getD ws w Idle))
+
+pub record Manned (p : Plan) (s : State) (c : Account) (seats : List ℕ) : Type 0 where
+  pub seated : Seated (s .workers) seats
   pub weighs : c .weight ≡ weight p (s .next)
   pub counts : c .tally ≡ s .tally
 
@@ -107,8 +115,8 @@ pub record Acted (p : Plan) (t : State) (w : ℕ) (after : Turned) (next missing
   pub progressed : Progressed p (t .next) next missing
   pub dequed : Dequed (t .deques) slots top len
 
-pub record Machine (p : Plan) (s : State) (c : Crew) (rows next missing slots top len : List ℕ) : Type 0 where
-  pub manned : Manned p s c
+pub record Machine (p : Plan) (s : State) (c : Account) (seats rows next missing slots top len : List ℕ) : Type 0 where
+  pub manned : Manned p s c seats
   pub printed : Printed p s rows
   pub progressed : Progressed p (s .next) next missing
   pub dequed : Dequed (s .deques) slots top len
@@ -125,6 +133,7 @@ Oldest n ws who = (length who ≡ 16) × ((v : ℕ) → v < 16 → getD who v 0 
 pub record RunGiven (p : Plan) (n : ℕ) (choices frame first spawn join parent entering : List ℕ) : Type 0 where
   pub planned : Planned p frame first spawn join parent
   pub entered : Entered p entering
+  pub long : length entering ≡ 2048
   pub some : 1 ≤ n
   pub most : n ≤ 16
   pub fit : T (choicesFit n choices)

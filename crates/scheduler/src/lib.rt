@@ -1,9 +1,11 @@
 // The upper library of the build runner: it runs plans and writes their schedules. What a run is stands in crate `runs`.
 // It relies on what the crates below promise, and cites their laws only. It assumes nothing.
+mod account;
 pub mod build;
-mod crew;
+mod count;
 mod deque;
 mod round;
 pub mod run;
+mod seat;
 mod steal;
 mod turn;

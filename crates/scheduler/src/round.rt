@@ -2,7 +2,7 @@
 ghost use mathlib.Core.Path.{_≡_};
 ghost use mathlib.Core.Bool.{false};
 ghost use mathlib.Core.List.{List};
-ghost use Prim.Native.Nat.{ℕ, _+_, _*_, _/_, _%_, _≤_, _<_, max};
+ghost use Prim.Native.Nat.{ℕ, _+_, _*_, _/_, _%_, _≤_, _<_};
 ghost use lib.ListN.{length, getD, set};
 ghost use Rattle.plan.specs.Plan.{Plan};
 ghost use Rattle.runs.specs.declared.worker.Worker.{Worker};
@@ -12,13 +12,15 @@ ghost use Rattle.runs.specs.Turn.{turn as turnAt, turnOf, turns as turnsOf, idl
 ghost use Rattle.runs.specs.Run.{round as roundOf, ended};
 ghost use Rattle.runs.specs.Trace.{turning};
 ghost use Rattle.scheduler.specs.Machine.{InRun, Planned, Machine, Kept, Manned};
-use crate::crew::Crew;
+use crate::account::Account;
+use crate::count::acted;
+use crate::count::idled;
+use crate::seat::code_of;
+use crate::seat::worker_at;
 use crate::steal::second_half;
 use crate::turn::act;
 use plan::flat::wide8;
 use plan::flat::wide16;
-use runs::tally::Tally;
-use runs::worker::Seat;
 use runs::worker::Worker;
 
 // Writes the row of the action at place k: 12 bits of round and 4 of worker. It never sees the schedule's header.
@@ -30,18 +32,13 @@ fn write_row(rows: &mut [u8], k: usize, round: usize, w: usize)
     rows[2 * k + 1] = (round % 16 * 16 + w) as u8;
 }
 
-fn larger(a: u32, b: u32) -> u32
-    ensures { λ r. ⌜ r ≡ max a b ⌝ }
-{
-    if a < b { b } else { a }
-}
-
 // Worker w, which holds job j, takes its turn.
 fn take_turn(
-    crew: Crew,
+    account: Account,
     round: usize,
     w: usize,
     j: usize,
+    seats: &mut [u16; 16],
     rows: &mut [u8],
     frame: &[u16; 256],
     first: &[u16; 257],
@@ -53,9 +50,9 @@ fn take_turn(
     slots: &mut [u8; 4096],
     top: &mut [u16; 16],
     len: &mut [u16; 16],
-) -> Crew
-    requires { ⌜ ((p : Plan) × (n : ℕ) × (choices : List ℕ) × (b : List Worker) × (s : State) × InRun p n choices round b (turning w) s × Planned p (now frame) (now first) (now spawn) (now join) (now parent) × Machine p s crew (now rows) (now next) (now missing) (now slots) (now top) (now len) × (w < n) × (workerOf s w ≡ Holding j)) ⌝ }
-    ensures { λ c. ⌜ ((p : Plan) (n : ℕ) (choices : List ℕ) (b : List Worker) (s : State) → InRun p n choices round b (turning w) s → Planned p (now (frame .entry)) (now (first .entry)) (now (spawn .entry)) (now (join .entry)) (now (parent .entry)) → Machine p s crew (now (rows .entry)) (now (next .entry)) (now (missing .entry)) (now (slots .entry)) (now (top .entry)) (now (len .entry)) → (w < n) → (workerOf s w ≡ Holding j) → Machine p (turnAt p round w j s) c (now (rows .exit)) (now (next .exit)) (now (missing .exit)) (now (slots .exit)) (now (top .exit)) (now (len .exit)) × Kept p (now (rows .entry)) (now (rows .exit))) ⌝ }
+) -> Account
+    requires { ⌜ ((p : Plan) × (n : ℕ) × (choices : List ℕ) × (b : List Worker) × (s : State) × InRun p n choices round b (turning w) s × Planned p (now frame) (now first) (now spawn) (now join) (now parent) × Machine p s account (now seats) (now rows) (now next) (now missing) (now slots) (now top) (now len) × (w < n) × (workerOf s w ≡ Holding j)) ⌝ }
+    ensures { λ a. ⌜ ((p : Plan) (n : ℕ) (choices : List ℕ) (b : List Worker) (s : State) → InRun p n choices round b (turning w) s → Planned p (now (frame .entry)) (now (first .entry)) (now (spawn .entry)) (now (join .entry)) (now (parent .entry)) → Machine p s account (now (seats .entry)) (now (rows .entry)) (now (next .entry)) (now (missing .entry)) (now (slots .entry)) (now (top .entry)) (now (len .entry)) → (w < n) → (workerOf s w ≡ Holding j) → Machine p (turnAt p round w j s) a (now (seats .exit)) (now (rows .exit)) (now (next .exit)) (now (missing .exit)) (now (slots .exit)) (now (top .exit)) (now (len .exit)) × Kept p (now (rows .entry)) (now (rows .exit))) ⌝ }
 {
     let k = wide16(first[j]) + wide8(next[j]);
     write_row(rows, k, round, w);
@@ -63,7 +60,7 @@ fn take_turn(
         k,
         j,
         w,
-        crew.weight,
+        account.weight,
         frame,
         first,
         spawn,
@@ -77,50 +74,29 @@ fn take_turn(
     );
     let worker = after.worker;
     let weight = after.weight;
-    let t = crew.tally;
-    let mut seats = crew.seats;
-    seats[w] = Seat { is: worker };
-    Crew {
-        seats,
+    seats[w] = code_of(worker);
+    Account {
         weight,
-        tally: Tally {
-            rounds: round as u32,
-            actions: t.actions + 1,
-            idle: t.idle,
-            requests: t.requests,
-            steals: t.steals,
-            misses: t.misses,
-            peak: larger(t.peak, weight),
-        },
+        tally: acted(account.tally, round, weight),
     }
 }
 
 // A worker that holds nothing has its turn.
-fn idled(crew: Crew, round: usize) -> Crew
-    requires { ⌜ (round ≤ 2048) × (crew .tally .idle ≤ 32768) ⌝ }
-    ensures { λ c. ⌜ ((p : Plan) (s : State) → Manned p s crew → Manned p (idledOf round s) c) ⌝ }
+fn rest(account: Account, round: usize) -> Account
+    requires { ⌜ (round ≤ 2048) × (account .tally .idle ≤ 32768) ⌝ }
+    ensures { λ a. ⌜ ((p : Plan) (s : State) (seats : List ℕ) → Manned p s account seats → Manned p (idledOf round s) a seats) ⌝ }
 {
-    let t = crew.tally;
-    let seats = crew.seats;
-    Crew {
-        seats,
-        weight: crew.weight,
-        tally: Tally {
-            rounds: round as u32,
-            actions: t.actions,
-            idle: t.idle + 1,
-            requests: t.requests,
-            steals: t.steals,
-            misses: t.misses,
-            peak: t.peak,
-        },
+    Account {
+        weight: account.weight,
+        tally: idled(account.tally, round),
     }
 }
 
 fn turn_of(
-    crew: Crew,
+    account: Account,
     round: usize,
     w: usize,
+    seats: &mut [u16; 16],
     rows: &mut [u8],
     frame: &[u16; 256],
     first: &[u16; 257],
@@ -132,19 +108,19 @@ fn turn_of(
     slots: &mut [u8; 4096],
     top: &mut [u16; 16],
     len: &mut [u16; 16],
-) -> Crew
-    requires { ⌜ ((p : Plan) × (n : ℕ) × (choices : List ℕ) × (b : List Worker) × (s : State) × InRun p n choices round b (turning w) s × Planned p (now frame) (now first) (now spawn) (now join) (now parent) × Machine p s crew (now rows) (now next) (now missing) (now slots) (now top) (now len) × (w < n)) ⌝ }
-    ensures { λ c. ⌜ ((p : Plan) (n : ℕ) (choices : List ℕ) (b : List Worker) (s : State) → InRun p n choices round b (turning w) s → Planned p (now (frame .entry)) (now (first .entry)) (now (spawn .entry)) (now (join .entry)) (now (parent .entry)) → Machine p s crew (now (rows .entry)) (now (next .entry)) (now (missing .entry)) (now (slots .entry)) (now (top .entry)) (now (len .entry)) → (w < n) → Machine p (turnOf p round w (getD b w Idle) s) c (now (rows .exit)) (now (next .exit)) (now (missing .exit)) (now (slots .exit)) (now (top .exit)) (now (len .exit)) × Kept p (now (rows .entry)) (now (rows .exit))) ⌝ }
+) -> Account
+    requires { ⌜ ((p : Plan) × (n : ℕ) × (choices : List ℕ) × (b : List Worker) × (s : State) × InRun p n choices round b (turning w) s × Planned p (now frame) (now first) (now spawn) (now join) (now parent) × Machine p s account (now seats) (now rows) (now next) (now missing) (now slots) (now top) (now len) × (w < n)) ⌝ }
+    ensures { λ a. ⌜ ((p : Plan) (n : ℕ) (choices : List ℕ) (b : List Worker) (s : State) → InRun p n choices round b (turning w) s → Planned p (now (frame .entry)) (now (first .entry)) (now (spawn .entry)) (now (join .entry)) (now (parent .entry)) → Machine p s account (now (seats .entry)) (now (rows .entry)) (now (next .entry)) (now (missing .entry)) (now (slots .entry)) (now (top .entry)) (now (len .entry)) → (w < n) → Machine p (turnOf p round w (getD b w Idle) s) a (now (seats .exit)) (now (rows .exit)) (now (next .exit)) (now (missing .exit)) (now (slots .exit)) (now (top .exit)) (now (len .exit)) × Kept p (now (rows .entry)) (now (rows .exit))) ⌝ }
 {
-    let seat = crew.seats[w];
-    let is = seat.is;
+    let is = worker_at(seats[w]);
     match is {
-        Worker::Idle => idled(crew, round),
+        Worker::Idle => rest(account, round),
         Worker::Holding(j) => take_turn(
-            crew,
+            account,
             round,
             w,
             wide8(j),
+            seats,
             rows,
             frame,
             first,
@@ -157,15 +133,16 @@ fn turn_of(
             top,
             len,
         ),
-        Worker::Waiting { victim: _, laid: _ } => idled(crew, round),
+        Worker::Waiting { victim: _, laid: _ } => rest(account, round),
     }
 }
 
 // First half: the turns of the workers, in rising number.
 fn turns(
-    crew: Crew,
+    account: Account,
     n: usize,
     round: usize,
+    seats: &mut [u16; 16],
     rows: &mut [u8],
     frame: &[u16; 256],
     first: &[u16; 257],
@@ -177,17 +154,18 @@ fn turns(
     slots: &mut [u8; 4096],
     top: &mut [u16; 16],
     len: &mut [u16; 16],
-) -> Crew
-    requires { ⌜ ((p : Plan) × (choices : List ℕ) × (b : List Worker) × (s : State) × InRun p n choices round b (turning 0) s × Planned p (now frame) (now first) (now spawn) (now join) (now parent) × Machine p s crew (now rows) (now next) (now missing) (now slots) (now top) (now len)) ⌝ }
-    ensures { λ c. ⌜ ((p : Plan) (choices : List ℕ) (b : List Worker) (s : State) → InRun p n choices round b (turning 0) s → Planned p (now (frame .entry)) (now (first .entry)) (now (spawn .entry)) (now (join .entry)) (now (parent .entry)) → Machine p s crew (now (rows .entry)) (now (next .entry)) (now (missing .entry)) (now (slots .entry)) (now (top .entry)) (now (len .entry)) → Machine p (turnsOf p round n b s) c (now (rows .exit)) (now (next .exit)) (now (missing .exit)) (now (slots .exit)) (now (top .exit)) (now (len .exit)) × Kept p (now (rows .entry)) (now (rows .exit))) ⌝ }
+) -> Account
+    requires { ⌜ ((p : Plan) × (choices : List ℕ) × (b : List Worker) × (s : State) × InRun p n choices round b (turning 0) s × Planned p (now frame) (now first) (now spawn) (now join) (now parent) × Machine p s account (now seats) (now rows) (now next) (now missing) (now slots) (now top) (now len)) ⌝ }
+    ensures { λ a. ⌜ ((p : Plan) (choices : List ℕ) (b : List Worker) (s : State) → InRun p n choices round b (turning 0) s → Planned p (now (frame .entry)) (now (first .entry)) (now (spawn .entry)) (now (join .entry)) (now (parent .entry)) → Machine p s account (now (seats .entry)) (now (rows .entry)) (now (next .entry)) (now (missing .entry)) (now (slots .entry)) (now (top .entry)) (now (len .entry)) → Machine p (turnsOf p round n b s) a (now (seats .exit)) (now (rows .exit)) (now (next .exit)) (now (missing .exit)) (now (slots .exit)) (now (top .exit)) (now (len .exit)) × Kept p (now (rows .entry)) (now (rows .exit))) ⌝ }
 {
-    let mut c = crew;
+    let mut a = account;
     let mut w = 0;
     while w < n {
-        c = turn_of(
-            c,
+        a = turn_of(
+            a,
             round,
             w,
+            seats,
             rows,
             frame,
             first,
@@ -202,13 +180,14 @@ fn turns(
         );
         w += 1;
     }
-    c
+    a
 }
 
 pub fn round(
-    crew: Crew,
+    account: Account,
     n: usize,
     choices: &[u8],
+    seats: &mut [u16; 16],
     rows: &mut [u8],
     frame: &[u16; 256],
     first: &[u16; 257],
@@ -220,16 +199,17 @@ pub fn round(
     slots: &mut [u8; 4096],
     top: &mut [u16; 16],
     len: &mut [u16; 16],
-) -> Crew
-    requires { ⌜ ((p : Plan) × (r : ℕ) × (s : State) × InRun p n (now choices) r (s .workers) (turning 0) s × Planned p (now frame) (now first) (now spawn) (now join) (now parent) × Machine p s crew (now rows) (now next) (now missing) (now slots) (now top) (now len) × (ended p s ≡ false)) ⌝ }
-    ensures { λ c. ⌜ ((p : Plan) (r : ℕ) (s : State) → InRun p n (now (choices .entry)) r (s .workers) (turning 0) s → Planned p (now (frame .entry)) (now (first .entry)) (now (spawn .entry)) (now (join .entry)) (now (parent .entry)) → Machine p s crew (now (rows .entry)) (now (next .entry)) (now (missing .entry)) (now (slots .entry)) (now (top .entry)) (now (len .entry)) → ended p s ≡ false → Machine p (roundOf p n (now (choices .entry)) s) c (now (rows .exit)) (now (next .exit)) (now (missing .exit)) (now (slots .exit)) (now (top .exit)) (now (len .exit)) × Kept p (now (rows .entry)) (now (rows .exit))) ⌝ }
+) -> Account
+    requires { ⌜ ((p : Plan) × (r : ℕ) × (s : State) × InRun p n (now choices) r (s .workers) (turning 0) s × Planned p (now frame) (now first) (now spawn) (now join) (now parent) × Machine p s account (now seats) (now rows) (now next) (now missing) (now slots) (now top) (now len) × (ended p s ≡ false)) ⌝ }
+    ensures { λ a. ⌜ ((p : Plan) (r : ℕ) (s : State) → InRun p n (now (choices .entry)) r (s .workers) (turning 0) s → Planned p (now (frame .entry)) (now (first .entry)) (now (spawn .entry)) (now (join .entry)) (now (parent .entry)) → Machine p s account (now (seats .entry)) (now (rows .entry)) (now (next .entry)) (now (missing .entry)) (now (slots .entry)) (now (top .entry)) (now (len .entry)) → ended p s ≡ false → Machine p (roundOf p n (now (choices .entry)) s) a (now (seats .exit)) (now (rows .exit)) (now (next .exit)) (now (missing .exit)) (now (slots .exit)) (now (top .exit)) (now (len .exit)) × Kept p (now (rows .entry)) (now (rows .exit))) ⌝ }
 {
-    let r = crew.tally.rounds as usize + 1;
-    let began = crew.seats;
-    let c = turns(
-        crew,
+    let r = account.tally.rounds as usize + 1;
+    let began = *seats;
+    let t = turns(
+        account,
         n,
         r,
+        seats,
         rows,
         frame,
         first,
@@ -243,7 +223,7 @@ pub fn round(
         len,
     );
     if wide8(next[0]) == wide16(first[1]) {
-        return c;
+        return t;
     }
-    second_half(c, began, choices, n, r, slots, top, len)
+    second_half(t, &began, choices, n, r, seats, slots, top, len)
 }

@@ -8,7 +8,7 @@ ghost use Rattle.runs.specs.Run.{run as runOfPlan, choicesFit};
 ghost use Rattle.scheduler.specs.Entry.{runInto, ranOf, Claimed};
 ghost use Rattle.scheduler.specs.Machine.{RunGiven, Printed, Kept};
 ghost use Rattle.scheduler.specs.Header.{headerBytes};
-use crate::crew::Crew;
+use crate::account::Account;
 use crate::round::round;
 use plan::flat::Verdict;
 use plan::flat::wide8;
@@ -16,8 +16,6 @@ use plan::flat::wide16;
 use plan::reader::read_plan;
 use plan::refusal::Refusal;
 use runs::tally::Tally;
-use runs::worker::Seat;
-use runs::worker::Worker;
 
 // The counts of a run, or why there was none.
 pub enum Ran {
@@ -40,23 +38,19 @@ fn rounds<'a>(
     spawn: &'a [u16; 2048],
     join: &'a [u16; 2048],
     parent: &'a [u8; 256],
-    entering: [u8; 2048],
+    missing: &mut [u8; 2048],
 ) -> Tally
-    requires { ⌜ ((p : Plan) × RunGiven p n (now choices) (now frame) (now first) (now spawn) (now join) (now parent) entering × (2 * work p ≤ length (now rows))) ⌝ }
-    ensures { λ t. ⌜ ((p : Plan) → RunGiven p n (now (choices .entry)) (now (frame .entry)) (now (first .entry)) (now (spawn .entry)) (now (join .entry)) (now (parent .entry)) entering → 2 * work p ≤ length (now (rows .entry)) → (t ≡ runOfPlan p n (now (choices .entry)) .tally) × Printed p (runOfPlan p n (now (choices .entry))) (now (rows .exit)) × Kept p (now (rows .entry)) (now (rows .exit))) ⌝ }
+    requires { ⌜ ((p : Plan) × RunGiven p n (now choices) (now frame) (now first) (now spawn) (now join) (now parent) (now missing) × (2 * work p ≤ length (now rows))) ⌝ }
+    ensures { λ t. ⌜ ((p : Plan) → RunGiven p n (now (choices .entry)) (now (frame .entry)) (now (first .entry)) (now (spawn .entry)) (now (join .entry)) (now (parent .entry)) (now (missing .entry)) → 2 * work p ≤ length (now (rows .entry)) → (t ≡ runOfPlan p n (now (choices .entry)) .tally) × Printed p (runOfPlan p n (now (choices .entry))) (now (rows .exit)) × Kept p (now (rows .entry)) (now (rows .exit))) ⌝ }
 {
     let mut next = [0u8; 256];
-    let mut missing = entering;
     let mut slots = [0u8; 4096];
     let mut top = [0u16; 16];
     let mut len = [0u16; 16];
-    let mut seats = [Seat { is: Worker::Idle }; 16];
-    seats[0] = Seat {
-        is: Worker::Holding(0),
-    };
+    let mut seats = [0u16; 16];
+    seats[0] = 1;
     let weight = units(frame[0]);
-    let mut c = Crew {
-        seats,
+    let mut a = Account {
         weight,
         tally: Tally {
             rounds: 0,
@@ -69,10 +63,11 @@ fn rounds<'a>(
         },
     };
     while wide8(next[0]) < wide16(first[1]) {
-        c = round(
-            c,
+        a = round(
+            a,
             n,
             choices,
+            &mut seats,
             rows,
             frame,
             first,
@@ -80,13 +75,13 @@ fn rounds<'a>(
             join,
             parent,
             &mut next,
-            &mut missing,
+            missing,
             &mut slots,
             &mut top,
             &mut len,
         );
     }
-    c.tally
+    a.tally
 }
 
 // Every choice is below n, there are at most 4,096, and some where there is more than one worker.
@@ -146,7 +141,7 @@ pub fn run(plan: &[u8], workers: u32, choices: &[u8], schedule: &mut [u8]) -> Ra
                 return Ran::Refused(Refusal::Short);
             }
             write_header(schedule, n, actions);
-            let entering = flat.entering;
+            let mut missing = flat.entering;
             let t = rounds(
                 n,
                 choices,
@@ -156,7 +151,7 @@ pub fn run(plan: &[u8], workers: u32, choices: &[u8], schedule: &mut [u8]) -> Ra
                 &flat.spawn,
                 &flat.join,
                 &flat.parent,
-                entering,
+                &mut missing,
             );
             Ran::Done(t)
         }

@@ -13,7 +13,7 @@ use lib.ListN.{getD}
 use Rattle.plan.specs.Plan.{Plan, size}
 use Rattle.plan.proofs.Laws.Valid.{jobs-range}
 use Rattle.plan.proofs.Laws.Placed.{first-at, start-suc}
-use Rattle.scheduler.specs.declared.crew.Crew.{Crew}
+use Rattle.scheduler.specs.declared.account.Account.{Account}
 use Rattle.runs.specs.declared.worker.Worker.{Worker}
 use Rattle.runs.specs.declared.worker.Worker.the-variants.{Idle, Holding, Waiting}
 use Rattle.runs.specs.State.{State, nextOf}
@@ -66,10 +66,10 @@ lays-deques choices r zero b s = refl
 lays-deques choices r (suc k) b s = lay-deques choices r k (getD b k Idle) (lays choices r k b s) ∙ lays-deques choices r k b s
 
 -- what stands for a state stands for one with the same actions and rows, with another crew and other deques
-machine-rests : (p : Plan) (s t : State) (c c′ : Crew) (rows next missing slots top len top′ len′ : List ℕ)
-    → Machine p s c rows next missing slots top len → t .next ≡ s .next → t .rows ≡ s .rows → Manned p t c′
-    → Dequed (t .deques) slots top′ len′ → Machine p t c′ rows next missing slots top′ len′
-machine-rests p s t c c′ rows next missing slots top len top′ len′ m e f manned dequed = record {
+machine-rests : (p : Plan) (s t : State) (c c′ : Account) (seats seats′ rows next missing slots top len top′ len′ : List ℕ)
+    → Machine p s c seats rows next missing slots top len → t .next ≡ s .next → t .rows ≡ s .rows → Manned p t c′ seats′
+    → Dequed (t .deques) slots top′ len′ → Machine p t c′ seats′ rows next missing slots top′ len′
+machine-rests p s t c c′ seats seats′ rows next missing slots top len top′ len′ m e f manned dequed = record {
   manned = manned;
   printed = record {
     room = m .printed .room;
@@ -101,8 +101,8 @@ module _ {p : Plan} {n : ℕ} {choices : List ℕ} {r : ℕ} {b : List Worker} {
       let ne : nextOf s 0 ≢ size p 0 = λ q. d (a ∙ (q ∙ sym f)) in
       lt-leb (size p 0) (nextOf s 0) (omega arith)
 
-module _ {p : Plan} {n : ℕ} {choices : List ℕ} {r : ℕ} {s : State} {c : Crew} (run : InRun p n choices r (s .workers) (turning 0) s)
-    (manned : Manned p s c) where
+module _ {p : Plan} {n : ℕ} {choices : List ℕ} {r : ℕ} {s : State} {c : Account} {seats : List ℕ} (run : InRun p n choices r (s .workers) (turning 0) s)
+    (manned : Manned p s c seats) where
   round-counted : suc (s .tally .rounds) ≡ c .tally .rounds + 1
   round-counted = omega (arith, ap (λ t. t .rounds) (manned .counts))
 
@@ -114,10 +114,10 @@ module _ {p : Plan} {n : ℕ} {choices : List ℕ} {r : ℕ} {s : State} {c : Cr
       rw known run
 
   -- the round after the turns of its first half
-  module _ {frame first spawn join parent rows next missing slots top len : List ℕ} {c′ : Crew}
+  module _ {frame first spawn join parent seats′ rows next missing slots top len : List ℕ} {c′ : Account}
       (planned : Planned p frame first spawn join parent)
-      (half : Machine p (turns p (c .tally .rounds + 1) n (s .workers) s) c′ rows next missing slots top len) where
-    pub round-ends : getD next 0 0 ≡ getD first 1 0 → Machine p (round p n choices s) c′ rows next missing slots top len
+      (half : Machine p (turns p (c .tally .rounds + 1) n (s .workers) s) c′ seats′ rows next missing slots top len) where
+    pub round-ends : getD next 0 0 ≡ getD first 1 0 → Machine p (round p n choices s) c′ seats′ rows next missing slots top len
     round-ends e =
         let last = ended-there (run-turns round-now n (le-refl n)) planned (half .progressed) e in
         rw (round-last p n choices (c .tally .rounds + 1) s round-counted last) half
@@ -128,13 +128,13 @@ module _ {p : Plan} {n : ℕ} {choices : List ℕ} {r : ℕ} {s : State} {c : Cr
           let turned = run-turns round-now n (le-refl n) in
           run-at turned (goes-on (turned .trace) (ended-not turned planned (half .progressed) more))
 
-      pub round-serves : {c″ : Crew} {top′ len′ : List ℕ}
-          → Manned p (serves n n (lays choices (c .tally .rounds + 1) n (s .workers) (turns p (c .tally .rounds + 1) n (s .workers) s))) c″
+      pub round-serves : {c″ : Account} {seats″ top′ len′ : List ℕ}
+          → Manned p (serves n n (lays choices (c .tally .rounds + 1) n (s .workers) (turns p (c .tally .rounds + 1) n (s .workers) s))) c″ seats″
           → Dequed (serves n n (lays choices (c .tally .rounds + 1) n (s .workers) (turns p (c .tally .rounds + 1) n (s .workers) s)) .deques)
           slots top′ len′
-          → Machine p (round p n choices s) c″ rows next missing slots top′ len′
+          → Machine p (round p n choices s) c″ seats″ rows next missing slots top′ len′
       round-serves crew deques =
           let turned = run-turns round-now n (le-refl n) in
           let (e, f) = second-still n choices (c .tally .rounds + 1) (s .workers) (turns p (c .tally .rounds + 1) n (s .workers) s) in
           rw (round-on p n choices (c .tally .rounds + 1) s round-counted (ended-not turned planned (half .progressed) more))
-          (machine-rests p _ _ _ _ _ _ _ _ _ _ _ _ half e f crew deques)
+          (machine-rests p _ _ _ _ _ _ _ _ _ _ _ _ _ _ half e f crew deques)

@@ -1,42 +1,32 @@
--- The crew after a request and after a service stands for the state after it.
+-- The account and the seats after a request and after a service.
 -- Assumes nothing.
-use Prim.Native.Nat.{ℕ, suc, _+_, _%_, _<_}
+use Prim.Native.Nat.{ℕ, suc, _%_, _<_}
 use mathlib.Core.Path.{_≡_, refl, sym, _∙_}
-use mathlib.Core.Logic.{by-cases}
+use mathlib.Core.Logic.{_≢_}
 use mathlib.Core.List.{List, [], _∷_}
 use native.Mathlib.Omega.{arith}
-use native.Mathlib.Decide.{ℕ-discrete}
-use native.Mathlib.Numerals.{add-one}
-use lib.ListN.{length, getD, set, length-set}
+use lib.ListN.{length, getD, set}
 use lib.Seq.{getD-set-same, getD-set-other}
 use Rattle.plan.specs.Plan.{Plan}
-use Rattle.scheduler.specs.declared.crew.Crew.{Crew}
+use Rattle.scheduler.specs.declared.account.Account.{Account}
 use Rattle.runs.specs.declared.tally.Tally.{Tally}
-use Rattle.runs.specs.declared.worker.Seat.{Seat}
 use Rattle.runs.specs.declared.worker.Worker.{Worker}
 use Rattle.runs.specs.declared.worker.Worker.the-variants.{Idle, Holding, Waiting}
-use Rattle.runs.specs.State.{State, dequeOf}
+use Rattle.runs.specs.State.{State, workerOf, dequeOf}
 use Rattle.runs.specs.Steal.{laid, lay, topOf, given, serve}
-use Rattle.scheduler.specs.Machine.{noSeat, Seated, Manned, Dequed, Given}
+use Rattle.runs.specs.Trace.{laying, laid as laidOn, served}
+use Rattle.scheduler.specs.Machine.{codeOf, Fitting, InRun, Seated, Manned, Dequed, Given}
+use Rattle.scheduler.specs.Requests.{Serving}
+use Rattle.scheduler.proofs.Laws.Codes.{seated-set}
+use Rattle.scheduler.proofs.Laws.Running.{run-sound, run-seats, run-at}
+use Rattle.scheduler.proofs.Laws.Picks.{served-below}
 
-pub seated-set : (ws : List Worker) (seats : List Seat) → Seated ws seats → length ws ≡ 16 → (w : ℕ) → w < 16 → (x : Worker)
-    → Seated (set ws w x) (set seats w (record { is = x }))
-seated-set ws seats (long, at) sixteen w h x = (length-set seats w _ ∙ long, there)
-  where
-    there : (k : ℕ) → k < 16 → getD (set seats w (record { is = x })) k noSeat .is ≡ getD (set ws w x) k Idle
-    there k b =
-        by-cases (ℕ-discrete k w)
-        (λ e. rw (e, getD-set-same ws w x Idle (omega arith), getD-set-same seats w (record { is = x }) noSeat (omega arith)))
-        (λ f. rw (getD-set-other ws w k x Idle f, getD-set-other seats w k (record { is = x }) noSeat f) (at k b))
-
--- a worker, from its seat
-pub seat-worker : (ws : List Worker) (seats : List Seat) → Seated ws seats → (w : ℕ) → w < 16 → (x : Worker) → getD seats w noSeat .is ≡ x
-    → getD ws w Idle ≡ x
-seat-worker ws seats seated w h x e = sym (seated .1 w h) ∙ e
-
--- the crew with another worker at one seat, and other counts
-abbrev pub reseated : Crew → ℕ → Worker → Tally → Crew
-reseated c w x t = record { seats = set (c .seats) w (record { is = x }); weight = c .weight; tally = t }
+-- a worker that was not idle as the round began lays no request
+pub lay-rests : (choices : List ℕ) (r w : ℕ) (x : Worker) (s : State) → codeOf x ≢ 0 → lay choices r w x s ≡ s
+unfolding lay
+lay-rests choices r w Idle s f = absurd (f refl)
+lay-rests choices r w (Holding j) s f = refl
+lay-rests choices r w (Waiting v l) s f = refl
 
 -- the counts after a request, a steal and a miss
 abbrev pub asked : Tally → Tally
@@ -44,7 +34,7 @@ asked t = record {
   rounds = t .rounds;
   actions = t .actions;
   idle = t .idle;
-  requests = t .requests + 1;
+  requests = suc (t .requests);
   steals = t .steals;
   misses = t .misses;
   peak = t .peak;
@@ -56,7 +46,7 @@ stolen t = record {
   actions = t .actions;
   idle = t .idle;
   requests = t .requests;
-  steals = t .steals + 1;
+  steals = suc (t .steals);
   misses = t .misses;
   peak = t .peak;
 }
@@ -68,44 +58,72 @@ missed t = record {
   idle = t .idle;
   requests = t .requests;
   steals = t .steals;
-  misses = t .misses + 1;
+  misses = suc (t .misses);
   peak = t .peak;
 }
 
-module _ (p : Plan) (s : State) (c : Crew) (sixteen : length (s .workers) ≡ 16) (m : Manned p s c) (w : ℕ) (h : w < 16) where
-  pub laid-manned : (choices : List ℕ) (r : ℕ)
-      → Manned p (lay choices r w Idle s) (reseated c w (Waiting (getD choices ((c .tally .requests) % length choices) 0) r) (asked (c .tally)))
-  unfolding lay laid
-  laid-manned choices r =
-      rw (m .counts, add-one) (record { seats = seated-set (s .workers) (c .seats) (m .seats) sixteen w h _; weighs = m .weighs; counts = refl })
+module _ (p : Plan) (s : State) (c : Account) (seats : List ℕ) (sixteen : length (s .workers) ≡ 16) (m : Manned p s c seats) (w : ℕ) (h : w < 16) where
+  reseated : (x : Worker) → Seated (set (s .workers) w x) (set seats w (codeOf x))
+  reseated x =
+      seated-set (s .workers) (set (s .workers) w x) seats w x h (sym (getD-set-same (s .workers) w x Idle (omega arith)))
+      (λ v f. getD-set-other (s .workers) w v x Idle f) (m .seated)
 
-  pub missed-manned : (v : ℕ) → Manned p (given v w [] s) (reseated c w Idle (missed (c .tally)))
-  unfolding given
-  missed-manned v =
-      rw (m .counts, add-one) (record { seats = seated-set (s .workers) (c .seats) (m .seats) sixteen w h _; weighs = m .weighs; counts = refl })
+  module _ (choices : List ℕ) (r : ℕ) where
+    -- the worker that asks, as its seat then has it
+    abbrev pub asker : Worker
+    asker = Waiting (getD choices ((c .tally .requests) % length choices) 0) r
 
-  pub stolen-manned : (v x : ℕ) (d : List ℕ) → Manned p (given v w (x ∷ d) s) (reseated c w (Holding (topOf x d)) (stolen (c .tally)))
-  unfolding given
-  stolen-manned v x d =
-      rw (m .counts, add-one) (record { seats = seated-set (s .workers) (c .seats) (m .seats) sixteen w h _; weighs = m .weighs; counts = refl })
+    pub asker-waits : workerOf (lay choices r w Idle s) w ≡ asker
+    unfolding lay laid
+    asker-waits =
+        rw (m .counts) (getD-set-same (s .workers) w _ Idle (omega arith))
+
+    pub laid-manned : (t : Tally) → t ≡ asked (c .tally) → Manned p (lay choices r w Idle s) (record { weight = c .weight; tally = t }) (set seats w (codeOf asker))
+    unfolding lay laid
+    laid-manned t e =
+        rw (e, m .counts) (record { seated = reseated _; weighs = m .weighs; counts = refl })
 
   -- what taking the top job of the victim's deque gives decides the service
   module _ (v : ℕ) (x : Worker) (slots top len : List ℕ) where
-    pub steal-served : (j : ℕ) → x ≡ Holding j → Given (s .deques) v (dequeOf s v) x slots top len
-        → Manned p (serve v (suc w) s) (reseated c w x (stolen (c .tally))) × Dequed (serve v (suc w) s .deques) slots top len
+    pub given-worker : Given (s .deques) v (dequeOf s v) x slots top len → workerOf (serve v (suc w) s) w ≡ x
     unfolding serve given
-    steal-served j e = go (dequeOf s v)
+    given-worker = go (dequeOf s v)
+      where
+        go : (d : List ℕ) → Given (s .deques) v d x slots top len → workerOf (given v w d s) w ≡ x
+        go [] (i, q) = getD-set-same (s .workers) w Idle Idle (omega arith) ∙ sym i
+        go (y ∷ d) (i, q) = getD-set-same (s .workers) w (Holding (topOf y d)) Idle (omega arith) ∙ sym i
+
+    pub steal-served : (t : Tally) → t ≡ stolen (c .tally) → (j : ℕ) → x ≡ Holding j → Given (s .deques) v (dequeOf s v) x slots top len
+        → Manned p (serve v (suc w) s) (record { weight = c .weight; tally = t }) (set seats w (codeOf x)) × Dequed (serve v (suc w) s .deques) slots top len
+    unfolding serve given
+    steal-served t f j e = go (dequeOf s v)
       where
         go : (d : List ℕ) → Given (s .deques) v d x slots top len
-            → Manned p (given v w d s) (reseated c w x (stolen (c .tally))) × Dequed (given v w d s .deques) slots top len
+            → Manned p (given v w d s) (record { weight = c .weight; tally = t }) (set seats w (codeOf x)) × Dequed (given v w d s .deques) slots top len
         go [] (i, q) = let z : _≡_ {A = ℕ} 0 1 = cc in absurd (omega arith)
-        go (y ∷ d) (i, q) = (rw i (stolen-manned v y d), q)
+        go (y ∷ d) (i, q) = (rw (i, f, m .counts) (record { seated = reseated _; weighs = m .weighs; counts = refl }), q)
 
-    pub miss-served : (c′ : Crew) → Manned p (given v w [] s) c′ → ((j : ℕ) → x ≡ Holding j → ⊥)
-        → Given (s .deques) v (dequeOf s v) x slots top len → Manned p (serve v (suc w) s) c′ × Dequed (serve v (suc w) s .deques) slots top len
+    pub miss-served : (t : Tally) → t ≡ missed (c .tally) → ((j : ℕ) → x ≡ Holding j → ⊥) → Given (s .deques) v (dequeOf s v) x slots top len
+        → Manned p (serve v (suc w) s) (record { weight = c .weight; tally = t }) (set seats w (codeOf x)) × Dequed (serve v (suc w) s .deques) slots top len
     unfolding serve given
-    miss-served c′ m′ f = go (dequeOf s v)
+    miss-served t f g = go (dequeOf s v)
       where
-        go : (d : List ℕ) → Given (s .deques) v d x slots top len → Manned p (given v w d s) c′ × Dequed (given v w d s .deques) slots top len
-        go [] (i, q) = (m′, q)
-        go (y ∷ d) (i, q) = absurd (f (topOf y d) i)
+        go : (d : List ℕ) → Given (s .deques) v d x slots top len
+            → Manned p (given v w d s) (record { weight = c .weight; tally = t }) (set seats w (codeOf x)) × Dequed (given v w d s .deques) slots top len
+        go [] (i, q) = (rw (i, f, m .counts) (record { seated = reseated _; weighs = m .weighs; counts = refl }), q)
+        go (y ∷ d) (i, q) = absurd (g (topOf y d) i)
+
+-- the worker that has asked, and the one that is served, as their seats then have them
+pub laid-fits : {p : Plan} {n : ℕ} {choices : List ℕ} {r : ℕ} {b : List Worker} {s : State} {c : Account} {seats : List ℕ} (w : ℕ)
+    → InRun p n choices r b (laying w) s → w < n → getD b w Idle ≡ Idle → Manned p s c seats
+    → Fitting (Waiting (getD choices ((c .tally .requests) % length choices) 0) r)
+laid-fits {p} {n} {choices} {r} {b} {s} {c} {seats} w run h e m =
+    rw (e, asker-waits p s c seats (run-sound run .workers) m w (omega (arith, run .most)) choices r) at
+    (run-seats (run-at run (laidOn (run .trace) h)) w)
+
+pub given-fits : {p : Plan} {n : ℕ} {choices : List ℕ} {r : ℕ} {b : List Worker} {s : State} {v w : ℕ} {c : Account} {seats slots top len : List ℕ}
+    → Serving p n choices r b s v (suc w) c seats slots top len → (x : Worker) (top′ len′ : List ℕ)
+    → Given (s .deques) v (dequeOf s v) x slots top′ len′ → Fitting x
+given-fits {p} {n} {choices} {r} {b} {s} {v} {w} {c} {seats} {slots} g x top′ len′ q =
+    rw (← g .picked, given-worker p s c seats (run-sound (g .run) .workers) (g .manned) w (served-below g) v x slots top′ len′ q) at
+    (run-seats (run-at (g .run) (served (g .run .trace) (g .known))) w)

@@ -10,7 +10,7 @@ use lib.ListN.{length, getD, set, replicate, length-set}
 use lib.Seq.{getD-set-same, getD-set-other}
 use borrow.Author.Tests.{eq-eqb, ne-eqb, lt-ltb, le-ltb}
 use Rattle.plan.specs.Plan.{Plan}
-use Rattle.scheduler.specs.declared.crew.Crew.{Crew}
+use Rattle.scheduler.specs.declared.account.Account.{Account}
 use Rattle.runs.specs.declared.worker.Worker.{Worker}
 use Rattle.runs.specs.declared.worker.Worker.the-variants.{Idle, Holding, Waiting}
 use Rattle.runs.specs.State.{State, dequeOf}
@@ -142,8 +142,8 @@ serves-kept {n = n} {s = s} run (suc k) h v l =
     serve-kept n k v (serves n k s) (omega (arith, run .most)) (λ e. omega arith) ∙ serves-kept run k (omega arith) v (omega arith)
 
 -- the worker that is served is one of the sixteen
-pub served-below : {p : Plan} {n : ℕ} {choices : List ℕ} {r : ℕ} {b : List Worker} {s : State} {v w : ℕ} {c : Crew} {slots top len : List ℕ}
-    → Serving p n choices r b s v (suc w) c slots top len → w < 16
+pub served-below : {p : Plan} {n : ℕ} {choices : List ℕ} {r : ℕ} {b : List Worker} {s : State} {v w : ℕ} {c : Account} {seats slots top len : List ℕ}
+    → Serving p n choices r b s v (suc w) c seats slots top len → w < 16
 served-below {n = n} {s = s} {v = v} {w = w} g =
     omega (arith, g .run .most, oldest-waits v n (s .workers) w (sym (g .picked)) .0)
 

@@ -112,8 +112,8 @@ module _ (bytes : List ℕ) (n : ℕ) (choices schedule : List ℕ) where
             omega (arith, run-fits (g .plan) (g .kept) n some most choices, g .holds .actions) in
             (rw (ran, resulted, lt-leb _ _ l), λ t q. absurd (let z : _≡_ {A = ℕ} 0 1 = cc in omega arith))
 
-        run-given : RunGiven (g .plan) n choices (f .frame) (f .first) (f .spawn) (f .join) (f .parent) (f .entering)
-        run-given =
+        run-given : length (f .entering) ≡ 2048 → RunGiven (g .plan) n choices (f .frame) (f .first) (f .spawn) (f .join) (f .parent) (f .entering)
+        run-given wide =
             let h = g .holds in
             record {
               planned =
@@ -126,13 +126,14 @@ module _ (bytes : List ℕ) (n : ℕ) (choices schedule : List ℕ) where
                     parents = h .spawned .parents;
                   };
               entered = h .entered;
+              long = wide;
               some = some;
               most = most;
               fit = of-true (choicesFit n choices) fit;
             }
 
         -- the header is written, and then the rows into what follows it
-        module _ (long : 4 + 2 * f .actions ≤ length schedule) (headed : List ℕ) (e : headed ≡ headerBytes n (f .actions) ++ drop 4 schedule) where
+        module _ (wide : length (f .entering) ≡ 2048) (long : 4 + 2 * f .actions ≤ length schedule) (headed : List ℕ) (e : headed ≡ headerBytes n (f .actions) ++ drop 4 schedule) where
           abbrev rest : ℕ
           rest = length headed - 4
 
@@ -148,7 +149,7 @@ module _ (bytes : List ℕ) (n : ℕ) (choices schedule : List ℕ) where
           -- what the runner is asked for
           pub run-asked : (p : Plan) × RunGiven p n choices (f .frame) (f .first) (f .spawn) (f .join) (f .parent) (f .entering)
               × (2 * work p ≤ length (take rest (drop 4 headed)))
-          run-asked = (g .plan, run-given, room)
+          run-asked = (g .plan, run-given wide, room)
 
           -- and what it then answers
           pub run-answers : (t : Tally) (rows : List ℕ)
@@ -158,7 +159,7 @@ module _ (bytes : List ℕ) (n : ℕ) (choices schedule : List ℕ) where
               → Answers bytes n choices schedule (Done t) (take 4 headed ++ (rows ++ drop rest (drop 4 headed)))
           unfolding runInto resulted
           run-answers t rows told =
-              let (q, printed, kept) = told (g .plan) run-given room in
+              let (q, printed, kept) = told (g .plan) (run-given wide) room in
               let out = scheduleBytes n (s .rows) in
               let fit : length out ≤ length schedule = omega (arith, run-fits (g .plan) (g .kept) n some most choices, g .holds .actions) in
               let x : take 4 headed ++ (rows ++ drop rest (drop 4 headed)) ≡ out ++ drop (length out) schedule =

@@ -1,21 +1,22 @@
 -- What a state of a run gives at a glance: its sixteen workers, its small counts, and a choice for each request.
 -- Assumes nothing.
 use Prim.Native.Nat.{ℕ, _≤_, _<_}
-use mathlib.Core.Path.{_≡_}
+use mathlib.Core.Path.{_≡_, refl}
 use mathlib.Core.List.{List}
 use native.Mathlib.Omega.{arith}
 use lib.ListN.{length, getD}
 use Rattle.plan.specs.Plan.{Plan}
+use Rattle.plan.proofs.Laws.Valid.{jobs-range}
 use Rattle.runs.specs.declared.worker.Worker.{Worker}
-use Rattle.runs.specs.declared.worker.Worker.the-variants.{Idle}
-use Rattle.runs.specs.State.{State}
+use Rattle.runs.specs.declared.worker.Worker.the-variants.{Idle, Holding, Waiting}
+use Rattle.runs.specs.State.{State, workerOf}
 use Rattle.runs.specs.Turn.{turns}
 use Rattle.runs.specs.Steal.{lays, serves}
 use Rattle.runs.specs.Trace.{Stage, turning, laying, serving, Trace}
-use Rattle.scheduler.specs.Machine.{InRun}
-use Rattle.scheduler.specs.Requests.{Victims}
+use Rattle.scheduler.specs.Machine.{InRun, Fitting}
+use Rattle.scheduler.specs.Requests.{Fits}
 use Rattle.runs.proofs.Laws.Lined.{Sound}
-use Rattle.runs.proofs.Laws.Sound.{trace-sound}
+use Rattle.runs.proofs.Laws.Sound.{trace-sound, held-job}
 use Rattle.runs.proofs.Laws.Waiting.{idle-unheld}
 use Rattle.runs.proofs.Laws.Victims.{victim-below, laid-choices}
 use Rattle.runs.proofs.Laws.Whole.{counts-small, turns-trace, lays-trace, serves-trace}
@@ -33,9 +34,17 @@ module _ {p : Plan} {n : ℕ} {choices : List ℕ} {r : ℕ} {b : List Worker} {
   run-choices w h e =
       laid-choices p (run .accepted) n (run .some) (run .most) choices (run .fit) (run .trace) w h (rw e idle-unheld)
 
-  pub run-victims : Victims (s .workers)
-  run-victims w v l e =
-      omega (arith, run .most, victim-below p (run .accepted) n (run .some) (run .most) choices (run .fit) (run .trace) w v l e .0)
+  -- the numbers of the workers tell them apart
+  pub run-seats : Fits (s .workers)
+  run-seats w = go (workerOf s w) refl
+    where
+      go : (x : Worker) → workerOf s w ≡ x → Fitting x
+      go Idle e = omega arith
+      go (Holding j) e =
+          omega (arith, held-job p (run .accepted) n (run .some) (run .most) s run-sound w j e .0, jobs-range p (run .accepted) .1)
+      go (Waiting v l) e =
+          let q = victim-below p (run .accepted) n (run .some) (run .most) choices (run .fit) (run .trace) w v l e in
+          (omega (arith, run .most, q), omega (arith, run-counts .0, q))
 
 -- the same run at another stage of the same round
 pub run-at : {p : Plan} {n : ℕ} {choices : List ℕ} {r r′ : ℕ} {b b′ : List Worker} {g g′ : Stage} {s s′ : State} → InRun p n choices r b g s

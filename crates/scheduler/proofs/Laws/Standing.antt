@@ -11,7 +11,7 @@ use borrow.Author.Tests.{le-leb, lt-leb}
 use Rattle.plan.specs.Plan.{Plan, size, work}
 use Rattle.plan.proofs.Laws.Placed.{start-suc, first-at}
 use Rattle.plan.proofs.Laws.Valid.{jobs-range}
-use Rattle.scheduler.specs.declared.crew.Crew.{Crew}
+use Rattle.scheduler.specs.declared.account.Account.{Account}
 use Rattle.runs.specs.declared.tally.Tally.{Tally}
 use Rattle.runs.specs.State.{State, nextOf, start}
 use Rattle.runs.specs.Run.{ended, round, run}
@@ -25,26 +25,26 @@ use Rattle.scheduler.proofs.Laws.Underway.{
   underway-begun,
   underway-round,
 }
-use Rattle.scheduler.proofs.Laws.Starting.{firstCrew, first-machine}
+use Rattle.scheduler.proofs.Laws.Starting.{firstAccount, firstSeats, first-machine}
 
-pub record Standing (p : Plan) (n : ℕ) (choices : List ℕ) (c : Crew) (before rows next missing slots top len : List ℕ) : Type 0 where
+pub record Standing (p : Plan) (n : ℕ) (choices : List ℕ) (c : Account) (before seats rows next missing slots top len : List ℕ) : Type 0 where
   pub state : State
   pub underway : Underway p n choices state
-  pub machine : Machine p state c rows next missing slots top len
+  pub machine : Machine p state c seats rows next missing slots top len
   pub kept : Kept p before rows
 
 module _ (p : Plan) (n : ℕ) (choices frame first spawn join parent entering : List ℕ) (g : RunGiven p n choices frame first spawn join parent entering) where
-  pub first-stands : (weight : ℕ) (rows : List ℕ) → weight ≡ getD frame 0 0 → length entering ≡ 2048 → 2 * work p ≤ length rows
-      → Standing p n choices (firstCrew weight) rows rows (replicate 256 0) entering (replicate 4096 0) (replicate 16 0) (replicate 16 0)
-  first-stands weight rows e long room =
+  pub first-stands : (weight : ℕ) (rows : List ℕ) → weight ≡ getD frame 0 0 → 2 * work p ≤ length rows
+      → Standing p n choices (firstAccount weight) rows firstSeats rows (replicate 256 0) entering (replicate 4096 0) (replicate 16 0) (replicate 16 0)
+  first-stands weight rows e room =
       record {
         state = start p;
         underway = underway-start p n choices;
-        machine = first-machine p n choices frame first spawn join parent entering g weight rows e long room;
+        machine = first-machine p n choices frame first spawn join parent entering g weight rows e room;
         kept = (refl, refl);
       }
 
-  module _ (c : Crew) (before rows next missing slots top len : List ℕ) (z : Standing p n choices c before rows next missing slots top len) where
+  module _ (c : Account) (before seats rows next missing slots top len : List ℕ) (z : Standing p n choices c before seats rows next missing slots top len) where
     abbrev s : State
     s = z .state
 
@@ -78,21 +78,21 @@ module _ (p : Plan) (n : ℕ) (choices frame first spawn join parent entering : 
 
       -- what a round is given
       pub round-given : (p : Plan) × (r : ℕ) × (s : State) × InRun p n choices r (s .workers) (turning 0) s
-          × Planned p frame first spawn join parent × Machine p s c rows next missing slots top len × (ended p s ≡ false)
+          × Planned p frame first spawn join parent × Machine p s c seats rows next missing slots top len × (ended p s ≡ false)
       round-given = let (r, i) = in-run in (p, r, s, i, g .planned, z .machine, h)
 
       rounded : Rounded p n choices s
       rounded = underway-round p (g .planned .accepted) n (g .some) (g .most) choices s (z .underway) h
 
-      module _ (c′ : Crew) (rows′ next′ missing′ slots′ top′ len′ : List ℕ)
+      module _ (c′ : Account) (seats′ rows′ next′ missing′ slots′ top′ len′ : List ℕ)
           (m : (p : Plan) (r : ℕ) (s : State) → InRun p n choices r (s .workers) (turning 0) s → Planned p frame first spawn join parent
-          → Machine p s c rows next missing slots top len → ended p s ≡ false
-          → Machine p (round p n choices s) c′ rows′ next′ missing′ slots′ top′ len′ × Kept p rows rows′) where
+          → Machine p s c seats rows next missing slots top len → ended p s ≡ false
+          → Machine p (round p n choices s) c′ seats′ rows′ next′ missing′ slots′ top′ len′ × Kept p rows rows′) where
         -- and leaves
-        left : Machine p (round p n choices s) c′ rows′ next′ missing′ slots′ top′ len′ × Kept p rows rows′
+        left : Machine p (round p n choices s) c′ seats′ rows′ next′ missing′ slots′ top′ len′ × Kept p rows rows′
         left = let (r, i) = in-run in m p r s i (g .planned) (z .machine) h
 
-        pub round-stands : Standing p n choices c′ before rows′ next′ missing′ slots′ top′ len′
+        pub round-stands : Standing p n choices c′ before seats′ rows′ next′ missing′ slots′ top′ len′
         round-stands =
             record {
               state = round p n choices s;

@@ -9,8 +9,7 @@ use Rattle.plan.specs.Plan.{Plan, job, size, work, placed, noPlaced, entering a
 use Rattle.plan.proofs.Laws.Lists.{array-at}
 use Rattle.plan.proofs.Laws.Placed.{placed-length, placed-at, place-below, frame-at}
 use Rattle.plan.proofs.Laws.Valid.{jobs-range}
-use Rattle.scheduler.specs.declared.crew.Crew.{Crew}
-use Rattle.runs.specs.declared.worker.Seat.{Seat}
+use Rattle.scheduler.specs.declared.account.Account.{Account}
 use Rattle.runs.specs.declared.worker.Worker.{Worker}
 use Rattle.runs.specs.declared.worker.Worker.the-variants.{Idle, Holding}
 use Rattle.runs.specs.State.{State, nextOf, place, start}
@@ -20,7 +19,7 @@ use Rattle.scheduler.specs.Machine.{
   Progressed,
   Dequed,
   Printed,
-  noSeat,
+  codeOf,
   Seated,
   Manned,
   Machine,
@@ -30,23 +29,25 @@ use Rattle.runs.proofs.Laws.Done.{none-done}
 use Rattle.runs.proofs.Laws.History.{start-weight}
 use Rattle.scheduler.proofs.Laws.Missing.{missing-start}
 
--- the crew of a run's start, where job 0's frame weighs so much
-abbrev pub firstCrew : ℕ → Crew
-firstCrew weight =
+-- the account and the seats of a run's start, where job 0's frame weighs so much
+abbrev pub firstAccount : ℕ → Account
+firstAccount weight =
     record {
-      seats = record { is = Holding 0 } ∷ replicate 15 noSeat;
       weight = weight;
       tally = record { rounds = 0; actions = 0; idle = 0; requests = 0; steals = 0; misses = 0; peak = weight };
     }
 
-first-seats : (p : Plan) → Seated (start p .workers) (record { is = Holding 0 } ∷ replicate 15 noSeat)
+abbrev pub firstSeats : List ℕ
+firstSeats = 1 ∷ replicate 15 0
+
+first-seats : (p : Plan) → Seated (start p .workers) firstSeats
 unfolding start
 first-seats p = (refl, at)
   where
-    at : (w : ℕ) → w < 16 → getD {A = Seat} (record { is = Holding 0 } ∷ replicate 15 noSeat) w noSeat .is ≡ getD (Holding 0 ∷ replicate 15 Idle) w Idle
+    at : (w : ℕ) → w < 16 → getD firstSeats w 0 ≡ codeOf (getD (Holding 0 ∷ replicate 15 Idle) w Idle)
     at zero h = refl
     at (suc w) h =
-        ap (λ (s : Seat). s .is) (getD-replicate 15 w noSeat noSeat (omega arith)) ∙ sym (getD-replicate 15 w Idle Idle (omega arith))
+        getD-replicate 15 w 0 0 (omega arith) ∙ sym (ap codeOf (getD-replicate 15 w Idle Idle (omega arith)))
 
 first-deques : (p : Plan) → Dequed (start p .deques) (replicate 4096 0) (replicate 16 0) (replicate 16 0)
 unfolding start
@@ -69,25 +70,25 @@ module _ (p : Plan) (n : ℕ) (choices frame first spawn join parent entering : 
       array-at (λ a. enteringOf p (a .job) (a .position)) entering (placed p) noPlaced (work p) (g .entered) (placed-length p) (place p j i) (place-below p j i h k)
       ∙ (ap (λ a. enteringOf p (a .job) (a .position)) (placed-at p j i h k) ∙ sym (missing-start p j i))
 
-  first-progress : length entering ≡ 2048 → Progressed p (start p .next) (replicate 256 0) entering
+  first-progress : Progressed p (start p .next) (replicate 256 0) entering
   unfolding start
-  first-progress long =
+  first-progress =
       record {
-        long = (refl, long);
+        long = (refl, g .long);
         nexts = λ j h. getD-replicate 256 j 0 0 (omega (arith, jobs-range p (g .planned .accepted))) ∙ sym (getD-replicate (length p) j 0 0 h);
         misses = first-missing;
       }
 
-  first-manned : (weight : ℕ) → weight ≡ getD frame 0 0 → Manned p (start p) (firstCrew weight)
+  first-manned : (weight : ℕ) → weight ≡ getD frame 0 0 → Manned p (start p) (firstAccount weight) firstSeats
   unfolding start
   first-manned weight e =
       let ok = g .planned .accepted in
       let f : weight ≡ job p 0 .frame = e ∙ frame-at p frame (g .planned .frames) 0 (jobs-range p ok .0) in
-      record { seats = first-seats p; weighs = f ∙ sym (start-weight p ok); counts = rw f refl }
+      record { seated = first-seats p; weighs = f ∙ sym (start-weight p ok); counts = rw f refl }
 
-  pub first-machine : (weight : ℕ) (rows : List ℕ) → weight ≡ getD frame 0 0 → length entering ≡ 2048 → 2 * work p ≤ length rows
-      → Machine p (start p) (firstCrew weight) rows (replicate 256 0) entering (replicate 4096 0) (replicate 16 0) (replicate 16 0)
-  first-machine weight rows e long room =
+  pub first-machine : (weight : ℕ) (rows : List ℕ) → weight ≡ getD frame 0 0 → 2 * work p ≤ length rows
+      → Machine p (start p) (firstAccount weight) firstSeats rows (replicate 256 0) entering (replicate 4096 0) (replicate 16 0) (replicate 16 0)
+  first-machine weight rows e room =
       record {
         manned = first-manned weight e;
         printed =
@@ -96,6 +97,6 @@ module _ (p : Plan) (n : ℕ) (choices frame first spawn join parent entering : 
               high = λ j i h k. absurd (omega (arith, none-done p j));
               down = λ j i h k. absurd (omega (arith, none-done p j));
             };
-        progressed = first-progress long;
+        progressed = first-progress;
         dequed = first-deques p;
       }

@@ -2,11 +2,10 @@
 --   Ahead p r w j s == what is known where worker w, which holds job j, is about to act in round r
 --   written         == the bytes after the row of the action at place k is written
 -- Assumes nothing.
-use Prim.Native.Nat.{ℕ, _+_, _*_, _/_, _%_, _≤_, _<_, max}
+use Prim.Native.Nat.{ℕ, suc, _+_, _*_, _/_, _%_, _≤_, _<_, max}
 use mathlib.Core.Path.{_≡_, refl, ap, sym, _∙_}
 use mathlib.Core.Logic.{_≢_, ⊎-elim, by-cases}
 use mathlib.Core.List.{List}
-use native.Mathlib.Numerals.{add-one}
 use native.Mathlib.Omega.{arith}
 use native.Mathlib.Nat.{le-refl}
 use native.Mathlib.Decide.{ℕ-discrete}
@@ -15,17 +14,20 @@ use lib.Seq.{getD-set-same, getD-set-other, drop-set-lt}
 use Rattle.plan.specs.Plan.{Plan, size, work}
 use Rattle.plan.proofs.Laws.Valid.{jobs-range}
 use Rattle.plan.proofs.Laws.Placed.{place-below, first-at}
-use Rattle.scheduler.specs.declared.crew.Crew.{Crew}
+use Rattle.scheduler.specs.declared.account.Account.{Account}
 use Rattle.scheduler.specs.declared.turn.Turned.{Turned}
+use Rattle.runs.specs.declared.tally.Tally.{Tally}
 use Rattle.runs.specs.declared.worker.Worker.{Worker}
 use Rattle.runs.specs.declared.worker.Worker.the-variants.{Idle, Holding}
 use Rattle.runs.specs.State.{State, nextOf, workerOf, place}
-use Rattle.runs.specs.Turn.{turn, idled, turns}
-use Rattle.runs.specs.Trace.{turning}
-use Rattle.scheduler.specs.Machine.{InRun, Planned, Machine, Manned, Printed, Seated, noSeat, Kept, Acting, Acted}
+use Rattle.runs.specs.Turn.{turn, idled, turnOf, turns}
+use Rattle.runs.specs.Trace.{turning, Trace, turned}
+use Rattle.scheduler.specs.Machine.{InRun, codeOf, Fitting, Planned, Machine, Manned, Printed, Kept, Acting, Acted}
 use Rattle.runs.proofs.Laws.Sound.{trace-sound, trace-began, next-bound}
 use Rattle.runs.proofs.Laws.Rows.{place-apart, Acts, acted, turn-acts}
 use Rattle.runs.proofs.Laws.Whole.{counts-small, turns-trace}
+use Rattle.scheduler.proofs.Laws.Codes.{seated-set}
+use Rattle.scheduler.proofs.Laws.Running.{run-seats, run-at}
 
 -- the bytes of a row, and those of others
 abbrev pub written : List ℕ → ℕ → ℕ → ℕ → List ℕ
@@ -85,17 +87,6 @@ acts-printed p r w j s s′ rows a bound within printed = record {
     apart h i l m e =
         let q = place-apart p h i j (nextOf s j) l (omega (arith, bound h l)) (a .known) (a .left) e in omega (arith, ap (nextOf s) (q .0), q .1)
 
--- the seats after a store
-seated-set : (ws ws′ : List Worker) (c : Crew) (w : ℕ) (x : Worker) → w < 16 → x ≡ getD ws′ w Idle
-    → ((v : ℕ) → v ≢ w → getD ws′ v Idle ≡ getD ws v Idle) → Seated ws (c .seats) → Seated ws′ (set (c .seats) w (record { is = x }))
-seated-set ws ws′ c w x h e others seated = (length-set (c .seats) w (record { is = x }) ∙ seated .0, at)
-  where
-    at : (v : ℕ) → v < 16 → getD (set (c .seats) w (record { is = x })) v noSeat .is ≡ getD ws′ v Idle
-    at v l =
-        by-cases (ℕ-discrete v w)
-        (λ q. rw q (ap (λ t. t .is) (getD-set-same (c .seats) w (record { is = x }) noSeat (omega (arith, seated .0))) ∙ e))
-        (λ f. ap (λ t. t .is) (getD-set-other (c .seats) w v (record { is = x }) noSeat f) ∙ (seated .1 v l ∙ sym (others v f)))
-
 pub record Ahead (p : Plan) (r w j : ℕ) (s : State) : Type 0 where
   pub known : j < length p
   pub small : j < 256
@@ -111,11 +102,8 @@ module _ (p : Plan) (n : ℕ) (choices : List ℕ) (r w : ℕ) (b : List Worker)
       let q = counts-small p (run .accepted) n (run .some) (run .most) choices (run .trace) in (q .0, q .2, q .3)
 
   -- what stands in the seat of a worker whose turn comes stood there as the round began
-  pub turning-seat : {c : Crew} {x : Worker} → w < n → Manned p s c → getD (c .seats) w noSeat .is ≡ x
-      → (workerOf s w ≡ x) × (getD b w Idle ≡ x)
-  turning-seat below manned e =
-      let q = sym (manned .seats .1 w (omega (arith, run .most))) ∙ e in
-      (q, sym (trace-began p (run .accepted) n (run .some) (run .most) choices (run .trace) w (le-refl w)) ∙ q)
+  pub turning-seat : {x : Worker} → w < n → workerOf s w ≡ x → getD b w Idle ≡ x
+  turning-seat below e = sym (trace-began p (run .accepted) n (run .some) (run .most) choices (run .trace) w (le-refl w)) ∙ e
 
   module _ (j : ℕ) (holding : workerOf s w ≡ Holding j) where
     pub turning-ahead : Ahead p r w j s
@@ -133,10 +121,17 @@ module _ (p : Plan) (n : ℕ) (choices : List ℕ) (r w : ℕ) (b : List Worker)
           acts = acts;
         }
 
+    -- what the worker is after its turn
+    pub turning-fits : w < n → (x : Worker) → x ≡ workerOf (turn p r w j s) w → Fitting x
+    unfolding turnOf
+    turning-fits below x e =
+        let t : Trace p n choices r b (turning (suc w)) (turn p r w j s) = rw (turning-seat below holding) at (turned (run .trace) below) in
+        rw e (run-seats (run-at run t) w)
+
     -- the worker is about to act: its job's next action stands where the arrays say
-    pub turning-acting : {c : Crew} {rows frame first spawn join parent next missing slots top len : List ℕ} (x y : ℕ)
+    pub turning-acting : {c : Account} {seats rows frame first spawn join parent next missing slots top len : List ℕ} (x y : ℕ)
         → x ≡ getD first j 0 → y ≡ getD next j 0 → w < n → Planned p frame first spawn join parent
-        → Machine p s c rows next missing slots top len
+        → Machine p s c seats rows next missing slots top len
         → Acting p n choices r b s (x + y) j w (c .weight) frame first spawn join parent next missing slots top len
     turning-acting {first = first} x y e f below planned machine =
         let known = turning-ahead .known in
@@ -152,32 +147,28 @@ module _ (p : Plan) (n : ℕ) (choices : List ℕ) (r w : ℕ) (b : List Worker)
         }
 
     -- the arrays after the turn
-    pub turning-machine : (k : ℕ) → k ≡ place p j (nextOf s j) → (c : Crew) (rows next missing slots top len : List ℕ) (after : Turned)
-        (peak : ℕ) → peak ≡ max (c .tally .peak) (after .weight) → w < n → Manned p s c → Printed p s rows
+    pub turning-machine : (k : ℕ) → k ≡ place p j (nextOf s j) → (c : Account) (seats rows next missing slots top len : List ℕ) (after : Turned)
+        (t : Tally) (x : ℕ) → t ≡ record {
+          rounds = r;
+          actions = suc (c .tally .actions);
+          idle = c .tally .idle;
+          requests = c .tally .requests;
+          steals = c .tally .steals;
+          misses = c .tally .misses;
+          peak = max (c .tally .peak) (after .weight);
+        } → x ≡ codeOf (after .worker) → w < n → Manned p s c seats → Printed p s rows
         → Acted p (turn p r w j s) w after next missing slots top len
-        → Machine p (turn p r w j s) (record {
-          seats = set (c .seats) w (record { is = after .worker });
-          weight = after .weight;
-          tally = record {
-            rounds = r;
-            actions = c .tally .actions + 1;
-            idle = c .tally .idle;
-            requests = c .tally .requests;
-            steals = c .tally .steals;
-            misses = c .tally .misses;
-            peak = peak;
-          };
-        }) (written rows k r w) next missing slots top len
+        → Machine p (turn p r w j s) (record { weight = after .weight; tally = t }) (set seats w x) (written rows k r w) next missing slots top len
         × Kept p rows (written rows k r w)
     unfolding turn
-    turning-machine k here c rows next missing slots top len after peak most below manned printed acted =
+    turning-machine k here c seats rows next missing slots top len after t x counted coded below manned printed acted =
         let ahead = turning-ahead in (
           record {
             manned = record {
-              seats = seated-set (s .workers) (turn p r w j s .workers) c w (after .worker) (omega (arith, run .most)) (acted .worker)
-                  (λ v f. getD-set-other (s .workers) w v _ Idle f) (manned .seats);
+              seated = rw coded (seated-set (s .workers) (turn p r w j s .workers) seats w (after .worker) (omega (arith, run .most)) (acted .worker)
+                  (λ v f. getD-set-other (s .workers) w v _ Idle f) (manned .seated));
               weighs = acted .weighed;
-              counts = rw (add-one, most, acted .weighed, manned .counts) refl;
+              counts = rw (counted, acted .weighed, manned .counts) refl;
             };
             printed = rw here (acts-printed p r w j s (turn p r w j s) rows (ahead .acts) (ahead .bound) (ahead .within) printed);
             progressed = acted .progressed;
@@ -187,8 +178,8 @@ module _ (p : Plan) (n : ℕ) (choices : List ℕ) (r w : ℕ) (b : List Worker)
         )
 
   -- the turn of a worker that holds nothing
-  pub idling-machine : {c c′ : Crew} {rows next missing slots top len : List ℕ} → Manned p (idled r s) c′
-      → Machine p s c rows next missing slots top len → Machine p (idled r s) c′ rows next missing slots top len
+  pub idling-machine : {c c′ : Account} {seats rows next missing slots top len : List ℕ} → Manned p (idled r s) c′ seats
+      → Machine p s c seats rows next missing slots top len → Machine p (idled r s) c′ seats rows next missing slots top len
   unfolding idled
   idling-machine manned machine = record {
     manned = manned;

@@ -7,13 +7,6 @@ use Rattle.scheduler.proofs.Laws.Halves.{round-now, round-ends, round-l
 use Rattle.scheduler.proofs.round.round.Statement.{statement}
 use Rattle.scheduler.proofs.round.round.Tie as tie
 
--- back to the turns, and from there to the start
-abbrev at-turns : tie.After-wide16 → tie.After-turns
-at-turns c = c .before .before .before .before .before .before
-
-abbrev at-start : tie.After-turns → tie.Start
-at-start c = c .before .before .before .before .before .before .before .before .before .before .before
-
 cast-r : tie.Need-cast-r
 cast-r c = search needs
 
@@ -22,7 +15,7 @@ add-r c = search needs
 
 turns-requires : tie.Need-turns-requires
 turns-requires c κs =
-    let (p, r, s, run, planned, machine, on) = c .before .before .before .before .before .before .before .before .before .before .pre in
+    let (p, r, s, run, planned, machine, on) = c .before .before .before .before .before .before .before .before .before .before .before .pre in
     (p, _, s .workers, s, round-now run (machine .manned), planned, machine)
 
 element-copy-out-wide8 : tie.Need-element-copy-out-wide8
@@ -43,33 +36,31 @@ same-length c = search needs
 returns : tie.Need-returns
 returns c =
     λ p r s run planned machine on.
-    let (half, kept) = at-turns (c .before) .turns .ensures p _ (s .workers) s (round-now run (machine .manned)) planned machine in
+    let (half, kept) = c .before .before .before .before .before .before .before .turns .ensures p _ (s .workers) s (round-now run (machine .manned)) planned machine in
     let there = sym (c .before .before .before .wide8 .ensures .0) ∙ (c .if1 .taken ∙ c .before .wide16 .ensures .0) in
     (round-ends run (machine .manned) planned half there, kept)
 
 -- job 0 has an action left
 not-there : (c : tie.Else1)
-    → getD (at-turns (c .before) .turns .last .1 .1 .1 .1 .1 .1 .1 .1 .1 .0) 0 0 ≢ getD (at-start (at-turns (c .before)) .args .first .now) 1 0
+    → getD (c .before .before .before .before .before .before .before .turns .last .1 .1 .1 .1 .1 .1 .1 .1 .1 .1 .0) 0 0 ≢ getD (c .before .before .before .before .before .before .before .before .before .before .before .before .before .before .before .before .before .before .before .args .first .now) 1 0
 not-there c q = c .if1 .left (c .before .before .before .wide8 .ensures .0 ∙ (q ∙ sym (c .before .wide16 .ensures .0)))
 
 second-half-requires : tie.Need-second-half-requires
 second-half-requires c κs =
-    let e = c .before .before .before in
-    let (p, r, s, run, planned, machine, on) = at-start (at-turns (e .before)) .pre in
-    let (half, kept) = at-turns (e .before) .turns .ensures p _ (s .workers) s (round-now run (machine .manned)) planned machine in
-    (p, s .workers, _, round-lays run (machine .manned) planned half (not-there e), half .manned, machine .manned .seats, half .dequed)
+    let (p, r, s, run, planned, machine, on) = c .before .before .before .before .before .before .before .before .before .before .before .before .before .before .before .before .before .before .before .before .before .before .before .before .pre in
+    let (half, kept) = c .before .before .before .before .before .before .before .before .before .before .before .before .turns .ensures p _ (s .workers) s (round-now run (machine .manned)) planned machine in
+    (p, s .workers, _, round-lays run (machine .manned) planned half (not-there (c .before .before .before .before .before)), half .manned, machine .manned .seated, half .dequed)
 
 same-length-2 : tie.Need-same-length-2
 same-length-2 c = search needs
 
 returns-2 : tie.Need-returns-2
 returns-2 c =
-    let e = c .before .before .before .before in
     λ p r s run planned machine on.
-    let (half, kept) = at-turns (e .before) .turns .ensures p _ (s .workers) s (round-now run (machine .manned)) planned machine in
-    let on = round-lays run (machine .manned) planned half (not-there e) in
-    let (crew, deques) = c .second-half .ensures p (s .workers) _ on (half .manned) (machine .manned .seats) (half .dequed) in
-    (round-serves run (machine .manned) planned half (not-there e) crew deques, kept)
+    let (half, kept) = c .before .before .before .before .before .before .before .before .before .before .before .before .before .turns .ensures p _ (s .workers) s (round-now run (machine .manned)) planned machine in
+    let on = round-lays run (machine .manned) planned half (not-there (c .before .before .before .before .before .before)) in
+    let (account, deques) = c .second-half .ensures p (s .workers) _ on (half .manned) (machine .manned .seated) (half .dequed) in
+    (round-serves run (machine .manned) planned half (not-there (c .before .before .before .before .before .before)) account deques, kept)
 
 pub round-spec : {M : Type 1} → statement M
 round-spec =

@@ -3,7 +3,7 @@
 use mathlib.Core.Path.{ap}
 use native.Mathlib.Omega.{arith}
 use borrow.Author.Needs.{needs}
-use Rattle.scheduler.proofs.Laws.Turning.{Ahead, turning-ahead, turning-acting, turning-machine}
+use Rattle.scheduler.proofs.Laws.Turning.{Ahead, turning-ahead, turning-acting, turning-fits, turning-machine}
 use Rattle.scheduler.proofs.round.take_turn.Statement.{statement}
 use Rattle.scheduler.proofs.round.take_turn.Tie as tie
 
@@ -42,31 +42,34 @@ act-requires c κs =
     let (p, n, choices, b, s, run, planned, machine, below, holding) = o .pre in
     (p, n, choices, o .args .round, b, s, turning-acting p n choices (o .args .round) (o .args .w) b s run (o .args .j) holding _ _ (c .before .before .before .before .before .before .before .before .before .before .before .wide16 .ensures .0) (c .before .before .before .before .before .before .before .before .before .wide8 .ensures .0) below planned machine)
 
+code-of-requires : tie.Need-code-of-requires
+code-of-requires c κs =
+    let o = c .before .before .before .before .before .before .before .before .before .before .before .before .before .before .before in
+    let (p, n, choices, b, s, run, planned, machine, below, holding) = o .pre in
+    let acting = turning-acting p n choices (o .args .round) (o .args .w) b s run (o .args .j) holding _ _ (c .before .before .before .before .before .before .before .before .before .before .before .before .wide16 .ensures .0) (c .before .before .before .before .before .before .before .before .before .before .wide8 .ensures .0) below planned machine in
+    turning-fits p n choices (o .args .round) (o .args .w) b s run (o .args .j) holding below _ (c .act .ensures p n choices (o .args .round) b s acting .worker)
+
 mul-seats : tie.Need-mul-seats
-mul-seats c = search needs
+mul-seats c = omega (arith, c .before .before .before .before .before .before .before .before .before .before .before .before .before .before .before .before .pre .5 .most, c .before .before .before .before .before .before .before .before .before .before .before .before .before .before .before .before .pre .8)
 
-array-set-from-seats : tie.Need-array-set-from-seats
-array-set-from-seats c = search needs
+element-write-seats : tie.Need-element-write-seats
+element-write-seats c = omega (arith, c .before .before .before .before .before .before .before .before .before .before .before .before .before .before .before .before .pre .5 .most, c .before .before .before .before .before .before .before .before .before .before .before .before .before .before .before .before .pre .8)
 
-cast-t43 : tie.Need-cast-t43
-cast-t43 c = omega (arith, ahead (c .before .before .before .before .before .before .before .before .before .before .before .before .before .before .before .before .before) .early)
-
-add-t44 : tie.Need-add-t44
-add-t44 c = let o = c .before .before .before .before .before .before .before .before .before .before .before .before .before .before .before .before .before .before in omega (arith, ahead o .few, ap (λ t. t .actions) (o .pre .7 .manned .counts))
-
-larger-requires : tie.Need-larger-requires
-larger-requires c κs = search needs
+acted-requires : tie.Need-acted-requires
+acted-requires c κs =
+    let a = ahead (c .before .before .before .before .before .before .before .before .before .before .before .before .before .before .before .before) in
+    (omega (arith, a .early), omega (arith, a .few, ap (λ t. t .actions) (c .before .before .before .before .before .before .before .before .before .before .before .before .before .before .before .before .pre .7 .manned .counts)))
 
 same-length : tie.Need-same-length
 same-length c = search needs
 
 returns : tie.Need-returns
 returns c p n choices b s run planned machine below holding =
-    let o = c .before .before .before .before .before .before .before .before .before .before .before .before .before .before .before .before .before .before .before in
-    let act = c .before .before .before .before .act in
-    let acting = turning-acting p n choices (o .args .round) (o .args .w) b s run (o .args .j) holding _ _ (c .before .before .before .before .before .before .before .before .before .before .before .before .before .before .before .before .wide16 .ensures .0) (c .before .before .before .before .before .before .before .before .before .before .before .before .before .before .wide8 .ensures .0) below planned machine in
-    rw (c .before .before .before .before .before .before .before .before .before .before .before .before .write-row .ensures)
-    (turning-machine p n choices (o .args .round) (o .args .w) b s run (o .args .j) holding _ (acting .here) (o .args .crew) _ _ _ _ _ _ (act .result) _ (c .larger .ensures) below (machine .manned) (machine .printed) (act .ensures p n choices (o .args .round) b s acting))
+    let o = c .before .before .before .before .before .before .before .before .before .before .before .before .before .before .before .before .before in
+    let act = c .before .before .act in
+    let acting = turning-acting p n choices (o .args .round) (o .args .w) b s run (o .args .j) holding _ _ (c .before .before .before .before .before .before .before .before .before .before .before .before .before .before .wide16 .ensures .0) (c .before .before .before .before .before .before .before .before .before .before .before .before .wide8 .ensures .0) below planned machine in
+    rw (c .before .before .before .before .before .before .before .before .before .before .write-row .ensures)
+    (turning-machine p n choices (o .args .round) (o .args .w) b s run (o .args .j) holding _ (acting .here) (o .args .account) _ _ _ _ _ _ _ (act .result) _ _ (c .acted .ensures) (c .before .code-of .ensures) below (machine .manned) (machine .printed) (act .ensures p n choices (o .args .round) b s acting))
 
 pub take-turn-spec : {M : Type 1} → statement M
 take-turn-spec =
@@ -80,10 +83,9 @@ take-turn-spec =
     add-k
     write-row-requires
     act-requires
+    code-of-requires
     mul-seats
-    array-set-from-seats
-    cast-t43
-    add-t44
-    larger-requires
+    element-write-seats
+    acted-requires
     same-length
     returns)

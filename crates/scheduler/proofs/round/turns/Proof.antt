@@ -16,14 +16,14 @@ use Rattle.scheduler.proofs.round.turns.Statement.{statement}
 use Rattle.scheduler.proofs.round.turns.Tie as tie
 
 abbrev Inv-loop : tie.InvT-loop
-Inv-loop n round rows₀ frame first spawn join parent next₀ missing₀ slots₀ top₀ len₀ c₀ w₀ rows next missing slots top len c w =
+Inv-loop n round seats₀ rows₀ frame first spawn join parent next₀ missing₀ slots₀ top₀ len₀ a₀ w₀ seats rows next missing slots top len a w =
     (w ≤ n)
     × ((p : Plan) (choices : List ℕ) (b : List Worker) (s : State) → InRun p n choices round b (turning 0) s
-    → Planned p frame first spawn join parent → Machine p s c₀ rows₀ next₀ missing₀ slots₀ top₀ len₀
-    → Machine p (turns p round w b s) c rows next missing slots top len × Kept p rows₀ rows)
+    → Planned p frame first spawn join parent → Machine p s a₀ seats₀ rows₀ next₀ missing₀ slots₀ top₀ len₀
+    → Machine p (turns p round w b s) a seats rows next missing slots top len × Kept p rows₀ rows)
 
 abbrev μ-loop : tie.MeasureT-loop
-μ-loop n round rows₀ frame first spawn join parent next₀ missing₀ slots₀ top₀ len₀ c₀ w₀ rows next missing slots top len c w = n - w
+μ-loop n round seats₀ rows₀ frame first spawn join parent next₀ missing₀ slots₀ top₀ len₀ a₀ w₀ seats rows next missing slots top len a w = n - w
 
 loop-holds : tie.Need-loop-holds Inv-loop μ-loop
 unfolding turns
@@ -31,10 +31,10 @@ loop-holds c = (omega arith, λ p choices b s run planned machine. (machine, (re
 
 turn-of-requires : tie.Need-turn-of-requires Inv-loop μ-loop
 turn-of-requires c κs =
-    let o = c .before .before .before .before .before .before .before .before .before in
-    let l = c .before .before .before .before .before .before .before .loop in
+    let o = c .before .before .before .before .before .before .before .before .before .before in
+    let l = c .before .before .before .before .before .before .before .before .loop in
     let (p, choices, b, s, run, planned, machine) = o .pre in
-    (p, o .args .n, choices, b, turns p (o .args .round) (l .w) b s, turns-run p (o .args .n) choices (o .args .round) b s run (l .w) (l .inv .0), planned, l .inv .1 p choices b s run planned machine .0, c .before .before .before .before .before .before .loop-test .taken)
+    (p, o .args .n, choices, b, turns p (o .args .round) (l .w) b s, turns-run p (o .args .n) choices (o .args .round) b s run (l .w) (l .inv .0), planned, l .inv .1 p choices b s run planned machine .0, c .before .before .before .before .before .before .before .loop-test .taken)
 
 add-w : tie.Need-add-w Inv-loop μ-loop
 add-w c = omega arith
@@ -47,12 +47,12 @@ unfolding turns
 loop-again c = (
   omega arith,
   λ p choices b s run planned machine.
-      let o = c .before .before .before .before .before .before .before .before .before .before .before .before in
-      let l = c .before .before .before .before .before .before .before .before .before .before .loop in
+      let o = c .before .before .before .before .before .before .before .before .before .before .before .before .before in
+      let l = c .before .before .before .before .before .before .before .before .before .before .before .loop in
       let (stands, kept) = l .inv .1 p choices b s run planned machine in
       let (stands′, kept′) =
       c .before .before .turn-of .ensures p (o .args .n) choices b (turns p (o .args .round) (l .w) b s)
-      (turns-run p (o .args .n) choices (o .args .round) b s run (l .w) (l .inv .0)) planned stands (c .before .before .before .before .before .before .before .before .before .loop-test .taken) in
+      (turns-run p (o .args .n) choices (o .args .round) b s run (l .w) (l .inv .0)) planned stands (c .before .before .before .before .before .before .before .before .before .before .loop-test .taken) in
       (rw add-one stands′, (kept′ .0 ∙ kept .0, kept′ .1 ∙ kept .1)),
 )
 

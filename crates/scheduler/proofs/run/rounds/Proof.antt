@@ -11,17 +11,17 @@ use Rattle.scheduler.proofs.run.rounds.Statement.{statement}
 use Rattle.scheduler.proofs.run.rounds.Tie as tie
 
 abbrev Inv-loop : tie.InvT-loop
-Inv-loop n choices rows₀ frame first spawn join parent next₀ missing₀ slots₀ top₀ len₀ weight c₀ rows next missing slots top len c =
+Inv-loop n choices rows₀ frame first spawn join parent missing₀ next₀ slots₀ top₀ len₀ seats₀ weight a₀ rows missing next slots top len seats a =
     ((p : Plan) × RunGiven p n choices frame first spawn join parent missing₀ × (2 * work p ≤ length rows₀))
     × ((p : Plan) → RunGiven p n choices frame first spawn join parent missing₀ → 2 * work p ≤ length rows₀
-    → Standing p n choices c rows₀ rows next missing slots top len)
+    → Standing p n choices a rows₀ seats rows next missing slots top len)
 
 abbrev μ-loop : tie.MeasureT-loop
-μ-loop n choices rows₀ frame first spawn join parent next₀ missing₀ slots₀ top₀ len₀ weight c₀ rows next missing slots top len c =
-    2048 - c .tally .rounds
+μ-loop n choices rows₀ frame first spawn join parent missing₀ next₀ slots₀ top₀ len₀ seats₀ weight a₀ rows missing next slots top len seats a =
+    2048 - a .tally .rounds
 
-array-set-from-seats : tie.Need-array-set-from-seats Inv-loop μ-loop
-array-set-from-seats c = search needs
+array-write-seats : tie.Need-array-write-seats Inv-loop μ-loop
+array-write-seats c = search needs
 
 element-copy-out-units : tie.Need-element-copy-out-units Inv-loop μ-loop
 element-copy-out-units c = search needs
@@ -32,7 +32,7 @@ units-requires c κs = tt
 loop-holds : tie.Need-loop-holds Inv-loop μ-loop
 loop-holds c = (
   c .before .before .before .before .pre,
-  λ p g room. first-stands p _ _ _ _ _ _ _ _ g _ _ (c .units .ensures .0) (search needs) room,
+  λ p g room. first-stands p _ _ _ _ _ _ _ _ g _ _ (c .units .ensures .0) room,
 )
 
 array-read-wide8 : tie.Need-array-read-wide8 Inv-loop μ-loop
@@ -48,31 +48,25 @@ wide16-requires : tie.Need-wide16-requires Inv-loop μ-loop
 wide16-requires c κs = tt
 
 -- the loop's test, of what the arrays hold
-test : (c : tie.Then1 Inv-loop μ-loop) → let l = c .before .before .before .before in
-    getD (l .loop .next) 0 0 < getD (l .before .before .before .before .before .args .first .now) 1 0
+test : (c : tie.Then1 Inv-loop μ-loop) → getD (c .before .before .before .before .loop .next) 0 0 < getD (c .before .before .before .before .before .before .before .before .before .args .first .now) 1 0
 test c = omega (arith, c .if1 .taken, c .before .wide16 .ensures, c .before .before .before .wide8 .ensures)
 
 round-requires : tie.Need-round-requires Inv-loop μ-loop
 round-requires c κs =
-    let t = c .before .before .before .before .before .before in
-    let i = t .before .before .before .before .loop .inv in
+    let i = c .before .before .before .before .before .before .before .before .before .before .before .loop .inv in
     let (p, g, room) = i .0 in
-    round-given p _ _ _ _ _ _ _ _ g _ _ _ _ _ _ _ _ (i .1 p g room) (test t)
+    round-given p _ _ _ _ _ _ _ _ g _ _ _ _ _ _ _ _ _ (i .1 p g room) (test (c .before .before .before .before .before .before .before))
 
 loop-less : tie.Need-loop-less Inv-loop μ-loop
 loop-less c =
-    let r = c .before .before in
-    let t = r .before .before .before .before .before .before .before in
-    let i = t .before .before .before .before .loop .inv in
+    let i = c .before .before .before .before .before .before .before .before .before .before .before .before .before .before .loop .inv in
     let (p, g, room) = i .0 in
-    round-less p _ _ _ _ _ _ _ _ g _ _ _ _ _ _ _ _ (i .1 p g room) (test t) _ _ _ _ _ _ _ (r .round .ensures)
+    round-less p _ _ _ _ _ _ _ _ g _ _ _ _ _ _ _ _ _ (i .1 p g room) (test (c .before .before .before .before .before .before .before .before .before .before)) _ _ _ _ _ _ _ _ (c .before .before .round .ensures)
 
 loop-again : tie.Need-loop-again Inv-loop μ-loop
 loop-again c =
-    let r = c .before .before in
-    let t = r .before .before .before .before .before .before .before in
-    let i = t .before .before .before .before .loop .inv in
-    (i .0, λ p g room. round-stands p _ _ _ _ _ _ _ _ g _ _ _ _ _ _ _ _ (i .1 p g room) (test t) _ _ _ _ _ _ _ (r .round .ensures))
+    let i = c .before .before .before .before .before .before .before .before .before .before .before .before .before .before .loop .inv in
+    (i .0, λ p g room. round-stands p _ _ _ _ _ _ _ _ g _ _ _ _ _ _ _ _ _ (i .1 p g room) (test (c .before .before .before .before .before .before .before .before .before .before)) _ _ _ _ _ _ _ _ (c .before .before .round .ensures))
 
 same-length : tie.Need-same-length Inv-loop μ-loop
 same-length c =
@@ -82,9 +76,8 @@ same-length c =
 
 returns : tie.Need-returns Inv-loop μ-loop
 returns c = λ p g room.
-    let w = c .before .before in
-    ends p _ _ _ _ _ _ _ _ g _ _ _ _ _ _ _ _ (w .before .before .before .loop .inv .1 p g room)
-    (omega (arith, c .before .if1 .left, w .wide16 .ensures, w .before .before .wide8 .ensures))
+    ends p _ _ _ _ _ _ _ _ g _ _ _ _ _ _ _ _ _ (c .before .before .before .before .before .loop .inv .1 p g room)
+    (omega (arith, c .before .if1 .left, c .before .before .wide16 .ensures, c .before .before .before .before .wide8 .ensures))
 
 pub rounds-spec : {M : Type 1} → statement M
 rounds-spec =
@@ -92,7 +85,7 @@ rounds-spec =
     (tie.spec
     Inv-loop
     μ-loop
-    array-set-from-seats
+    array-write-seats
     element-copy-out-units
     units-requires
     loop-holds

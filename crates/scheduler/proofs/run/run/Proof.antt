@@ -17,6 +17,7 @@ use Rattle.scheduler.proofs.Laws.RunAnswers.{
   run-answers,
 }
 use borrow.Author.Needs.{needs}
+use lib.ListN.{length}
 use Rattle.scheduler.proofs.run.run.Statement.{statement}
 use Rattle.scheduler.proofs.run.run.Tie as tie
 
@@ -35,6 +36,9 @@ given : (c : tie.After-enum-told)
 given c =
     let r = c .before .before .before .read-plan in
     told-given _ (r .result .verdict) (r .result .plan) (r .ensures) (c .enum-told .given .1)
+
+wide : (c : tie.After-read-plan) → length (c .read-plan .result .plan .entering) ≡ 2048
+wide c = search needs
 
 returns : tie.Need-returns
 returns c = refuses-workers _ _ _ _ _ (given (c .before)) (λ some most. omega arith)
@@ -81,12 +85,9 @@ part-rounds-end c = search needs
 
 rounds-requires : tie.Need-rounds-requires
 rounds-requires c κs =
-    let h = c .before .before .before .before .before .before .before .before .before .before in
-    let o = h .before .before in
-    let f = o .before in
-    let e = f .before .before .before .before in
-    let a = e .before .before .before .before .before .before .before .args in
-    run-asked _ (a .workers) (a .choices .now) (a .schedule .now) _ (given e) (omega arith) (omega arith) (fit f) (o .if4 .left) _ (h .write-header .ensures)
+    let a = c .before .before .before .before .before .before .before .before .before .before .before .before .before .before .before .before .before .before .before .before .before .before .before .before .before .args in
+    run-asked _ (a .workers) (a .choices .now) (a .schedule .now) _ (given (c .before .before .before .before .before .before .before .before .before .before .before .before .before .before .before .before .before .before)) (omega arith) (omega arith) (fit (c .before .before .before .before .before .before .before .before .before .before .before .before .before .before)) (wide (c .before .before .before .before .before .before .before .before .before .before .before .before .before .before .before .before .before .before .before .before .before))
+    (c .before .before .before .before .before .before .before .before .before .before .before .before .before .if4 .left) _ (c .before .before .before .before .before .before .before .before .before .before .before .write-header .ensures)
 
 returns-5 : tie.Need-returns-5
 returns-5 c =
@@ -98,14 +99,9 @@ same-length c = search needs
 
 returns-6 : tie.Need-returns-6
 returns-6 c =
-    let d = c .before .before in
-    let h = d .before .before .before .before .before .before .before .before .before .before .before in
-    let o = h .before .before in
-    let f = o .before in
-    let e = f .before .before .before .before in
-    let a = e .before .before .before .before .before .before .before .args in
-    run-answers _ (a .workers) (a .choices .now) (a .schedule .now) _ (given e) (omega arith) (omega arith) (fit f) (o .if4 .left) _ (h .write-header .ensures)
-    _ _ (d .rounds .ensures)
+    let a = c .before .before .before .before .before .before .before .before .before .before .before .before .before .before .before .before .before .before .before .before .before .before .before .before .before .before .before .before .args in
+    run-answers _ (a .workers) (a .choices .now) (a .schedule .now) _ (given (c .before .before .before .before .before .before .before .before .before .before .before .before .before .before .before .before .before .before .before .before .before)) (omega arith) (omega arith) (fit (c .before .before .before .before .before .before .before .before .before .before .before .before .before .before .before .before .before)) (wide (c .before .before .before .before .before .before .before .before .before .before .before .before .before .before .before .before .before .before .before .before .before .before .before .before))
+    (c .before .before .before .before .before .before .before .before .before .before .before .before .before .before .before .before .if4 .left) _ (c .before .before .before .before .before .before .before .before .before .before .before .before .before .before .write-header .ensures) _ _ (c .before .before .rounds .ensures)
 
 pub run-spec : {M : Type 1} → statement M
 run-spec =

@@ -6,7 +6,7 @@ use native.Mathlib.Omega.{arith}
 use Rattle.runs.specs.declared.worker.Worker.{Worker}
 use Rattle.runs.specs.declared.worker.Worker.the-variants.{Idle, Holding, Waiting}
 use Rattle.scheduler.proofs.Laws.Running.{run-sound, run-counts}
-use Rattle.scheduler.proofs.Laws.Manning.{steal-served, miss-served}
+use Rattle.scheduler.proofs.Laws.Manning.{steal-served, miss-served, given-fits}
 use Rattle.scheduler.proofs.Laws.Picks.{served-below}
 use borrow.Author.Needs.{needs}
 use Rattle.scheduler.proofs.steal.give.Statement.{statement}
@@ -18,74 +18,81 @@ idle-unheld x e j f = let z : _≡_ {A = ℕ} 0 1 = cc in omega arith
 waiting-unheld : (x : Worker) (v l : ℕ) → x ≡ Waiting v l → (j : ℕ) → x ≡ Holding j → ⊥
 waiting-unheld x v l e j f = let z : _≡_ {A = ℕ} 0 1 = cc in omega arith
 
-missable : (c : tie.Start) → (c .args .w < 16) × (c .args .crew .tally .misses < 4294967295)
+missable : (c : tie.Start) → c .args .account .tally .misses < 4294967295
 missable c =
     let (p, n, choices, r, b, s, g) = c .pre in
-    (served-below g, omega (arith, run-counts (g .run), ap (λ t. t .misses) (g .manned .counts)))
+    omega (arith, run-counts (g .run), ap (λ t. t .misses) (g .manned .counts))
 
 take-top-requires : tie.Need-take-top-requires
 take-top-requires c κs =
     let (p, n, choices, r, b, s, g) = c .before .before .pre in
     (s .deques, g .dequed, omega (arith, g .known, g .run .most))
 
-mul-seats : tie.Need-mul-seats
-mul-seats c = omega (arith, served-below (c .before .before .before .before .before .pre .6))
+code-of-requires : tie.Need-code-of-requires
+code-of-requires c κs =
+    let (p, n, choices, r, b, s, g) = c .before .before .before .pre in
+    given-fits g _ _ _ (c .take-top .ensures (s .deques) (g .dequed))
 
-array-set-from-seats : tie.Need-array-set-from-seats
-array-set-from-seats c = served-below (c .before .before .before .before .before .pre .6)
+mul-seats : tie.Need-mul-seats
+mul-seats c = omega (arith, served-below (c .before .before .before .before .pre .6))
+
+element-write-seats : tie.Need-element-write-seats
+element-write-seats c = served-below (c .before .before .before .before .pre .6)
 
 enum-told : tie.Need-enum-told
 enum-told c = search needs
 
-add-t18 : tie.Need-add-t18
-add-t18 c =
-    let (p, n, choices, r, b, s, g) = c .before .before .before .before .before .before .before .before .pre in
+stole-requires : tie.Need-stole-requires
+stole-requires c κs =
+    let (p, n, choices, r, b, s, g) = c .before .before .before .before .before .before .pre in
     omega (arith, run-counts (g .run), ap (λ t. t .steals) (g .manned .counts))
 
 enum-told-2 : tie.Need-enum-told-2
 enum-told-2 c = search needs
 
 missed-requires : tie.Need-missed-requires
-missed-requires c κs = missable (c .before .before .before .before .before .before .before)
+missed-requires c κs = missable (c .before .before .before .before .before .before)
 
 enum-told-3 : tie.Need-enum-told-3
 enum-told-3 c = search needs
 
 missed-requires-2 : tie.Need-missed-requires-2
-missed-requires-2 c κs = missable (c .before .before .before .before .before .before .before)
+missed-requires-2 c κs = missable (c .before .before .before .before .before .before)
 
 returns : tie.Need-returns
 returns c =
-    let a = c .before .before .before .before .before .before .before .before .args in
+    let a = c .before .before .before .before .before .before .before .args in
     λ p n choices r b s g.
-    steal-served p s (a .crew) (run-sound (g .run) .workers) (g .manned) (a .w) (served-below g) (a .v) _ _ _ _ _ (c .before .enum-told .given .1)
-    (c .before .before .before .before .before .take-top .ensures (s .deques) (g .dequed))
+    rw (c .before .before .before .code-of .ensures)
+    (steal-served p s (a .account) _ (run-sound (g .run) .workers) (g .manned) (a .w) (served-below g) (a .v) _ _ _ _ _ (c .stole .ensures) _ (c .before .enum-told .given .1)
+    (c .before .before .before .before .take-top .ensures (s .deques) (g .dequed)))
 
 returns-2 : tie.Need-returns-2
 returns-2 c =
-    let a = c .before .before .before .before .before .before .before .before .args in
+    let a = c .before .before .before .before .before .before .before .args in
     λ p n choices r b s g.
-    miss-served p s (a .crew) (run-sound (g .run) .workers) (g .manned) (a .w) (served-below g) (a .v) _ _ _ _ _
-    (c .missed .ensures p s (a .v) (run-sound (g .run) .workers) (g .manned)) (idle-unheld _ (c .before .enum-told2 .given .1))
-    (c .before .before .before .before .before .take-top .ensures (s .deques) (g .dequed))
+    rw (c .before .before .before .code-of .ensures)
+    (miss-served p s (a .account) _ (run-sound (g .run) .workers) (g .manned) (a .w) (served-below g) (a .v) _ _ _ _ _ (c .missed .ensures) (idle-unheld _ (c .before .enum-told2 .given .1))
+    (c .before .before .before .before .take-top .ensures (s .deques) (g .dequed)))
 
 returns-3 : tie.Need-returns-3
 returns-3 c =
-    let a = c .before .before .before .before .before .before .before .before .args in
+    let a = c .before .before .before .before .before .before .before .args in
     λ p n choices r b s g.
-    miss-served p s (a .crew) (run-sound (g .run) .workers) (g .manned) (a .w) (served-below g) (a .v) _ _ _ _ _
-    (c .missed2 .ensures p s (a .v) (run-sound (g .run) .workers) (g .manned)) (waiting-unheld _ _ _ (c .before .enum-told3 .given .1))
-    (c .before .before .before .before .before .take-top .ensures (s .deques) (g .dequed))
+    rw (c .before .before .before .code-of .ensures)
+    (miss-served p s (a .account) _ (run-sound (g .run) .workers) (g .manned) (a .w) (served-below g) (a .v) _ _ _ _ _ (c .missed2 .ensures) (waiting-unheld _ _ _ (c .before .enum-told3 .given .1))
+    (c .before .before .before .before .take-top .ensures (s .deques) (g .dequed)))
 
 pub give-spec : {M : Type 1} → statement M
 give-spec =
     tie.close
     (tie.spec
     take-top-requires
+    code-of-requires
     mul-seats
-    array-set-from-seats
+    element-write-seats
     enum-told
-    add-t18
+    stole-requires
     enum-told-2
     missed-requires
     enum-told-3

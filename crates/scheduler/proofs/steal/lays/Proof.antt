@@ -1,5 +1,5 @@
--- `steal::lays` meets its contract. The loop's invariant: the crew stands for the state in which the workers below w have laid.
--- Assumes nothing.
+-- `steal::lays` meets its contract. The loop's invariant: the account and the seats stand for the state in which the workers below w
+-- have laid. Assumes nothing.
 use Prim.Native.Nat.{_-_, _≤_}
 use mathlib.Core.Path.{_≡_}
 use mathlib.Core.List.{List}
@@ -16,13 +16,13 @@ use Rattle.scheduler.proofs.steal.lays.Statement.{statement}
 use Rattle.scheduler.proofs.steal.lays.Tie as tie
 
 abbrev Inv-loop : tie.InvT-loop
-Inv-loop began choices n round c₀ w₀ c w =
+Inv-loop began choices n round seats₀ a₀ w₀ seats a w =
     (w ≤ n)
-    × ((p : Plan) (b : List Worker) (s : State) → InRun p n choices round b (laying 0) s → Manned p s c₀ → Seated b began
-    → Manned p (lays choices round w b s) c)
+    × ((p : Plan) (b : List Worker) (s : State) → InRun p n choices round b (laying 0) s → Manned p s a₀ seats₀ → Seated b began
+    → Manned p (lays choices round w b s) a seats)
 
 abbrev μ-loop : tie.MeasureT-loop
-μ-loop began choices n round c₀ w₀ c w = n - w
+μ-loop began choices n round seats₀ a₀ w₀ seats a w = n - w
 
 loop-holds : tie.Need-loop-holds Inv-loop μ-loop
 unfolding lays
@@ -30,9 +30,9 @@ loop-holds c = (omega arith, λ p b s run manned seated. manned)
 
 lay-requires : tie.Need-lay-requires Inv-loop μ-loop
 lay-requires c κs =
-    let (p, b, s, run, manned, seated) = c .before .before .before .pre in
-    let l = c .before .loop in
-    (p, _, b, _, run-lays run (l .w) (l .inv .0), l .inv .1 p b s run manned seated, seated, c .loop-test .taken)
+    let (p, b, s, run, manned, seated) = c .before .before .before .before .pre in
+    let l = c .before .before .loop in
+    (p, _, b, _, run-lays run (l .w) (l .inv .0), l .inv .1 p b s run manned seated, seated, c .before .loop-test .taken)
 
 add-w : tie.Need-add-w Inv-loop μ-loop
 add-w c = omega arith
@@ -43,11 +43,11 @@ loop-less c = omega arith
 loop-again : tie.Need-loop-again Inv-loop μ-loop
 unfolding lays
 loop-again c =
-    let l = c .before .before .loop in (
+    let l = c .before .before .before .loop in (
       omega arith,
       λ p b s run manned seated.
           rw add-one
-          (c .lay .ensures p _ b _ (run-lays run (l .w) (l .inv .0)) (l .inv .1 p b s run manned seated) seated (c .before .loop-test .taken)),
+          (c .lay .ensures p _ b _ (run-lays run (l .w) (l .inv .0)) (l .inv .1 p b s run manned seated) seated (c .before .before .loop-test .taken)),
     )
 
 returns : tie.Need-returns Inv-loop μ-loop

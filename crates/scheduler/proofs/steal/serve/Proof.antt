@@ -18,12 +18,12 @@ sub-give c = omega arith
 
 give-requires : tie.Need-give-requires
 give-requires c κs =
-    let (p, n, choices, r, b, s, g) = c .before .before .before .pre in
-    (p, n, choices, r, b, s, rw (someone (c .before .before)) g)
+    let (p, n, choices, r, b, s, g) = c .before .before .before .before .pre in
+    (p, n, choices, r, b, s, rw (someone (c .before .before .before)) g)
 
 returns-2 : tie.Need-returns-2
 returns-2 c =
-    let e = someone (c .before .before .before) in
+    let e = someone (c .before .before .before .before) in
     λ p n choices r b s g. rw e at (c .give .ensures p n choices r b s (rw e g))
 
 pub serve-spec : {M : Type 1} → statement M

@@ -1,5 +1,5 @@
--- `steal::serves` meets its contract. The loop's invariant: the crew and the deques stand for the state in which the victims below v
--- have served. Assumes nothing.
+-- `steal::serves` meets its contract. The loop's invariant: the account, the seats and the deques stand for the state in which the
+-- victims below v have served. Assumes nothing.
 use Prim.Native.Nat.{ℕ, _-_, _≤_}
 use mathlib.Core.Path.{_≡_, ap, sym, _∙_}
 use mathlib.Core.List.{List}
@@ -20,13 +20,13 @@ use Rattle.scheduler.proofs.steal.serves.Statement.{statement}
 use Rattle.scheduler.proofs.steal.serves.Tie as tie
 
 abbrev Inv-loop : tie.InvT-loop
-Inv-loop n who slots top₀ len₀ c₀ v₀ top len c v =
+Inv-loop n who seats₀ slots top₀ len₀ a₀ v₀ seats top len a v =
     (v ≤ n)
-    × ((p : Plan) (choices : List ℕ) (r : ℕ) (b : List Worker) (s : State) → InRun p n choices r b (serving 0) s → Manned p s c₀
-    → Dequed (s .deques) slots top₀ len₀ → Oldest n (s .workers) who → Manned p (serves n v s) c × Dequed (serves n v s .deques) slots top len)
+    × ((p : Plan) (choices : List ℕ) (r : ℕ) (b : List Worker) (s : State) → InRun p n choices r b (serving 0) s → Manned p s a₀ seats₀
+    → Dequed (s .deques) slots top₀ len₀ → Oldest n (s .workers) who → Manned p (serves n v s) a seats × Dequed (serves n v s .deques) slots top len)
 
 abbrev μ-loop : tie.MeasureT-loop
-μ-loop n who slots top₀ len₀ c₀ v₀ top len c v = n - v
+μ-loop n who seats₀ slots top₀ len₀ a₀ v₀ seats top len a v = n - v
 
 loop-holds : tie.Need-loop-holds Inv-loop μ-loop
 unfolding serves
@@ -40,13 +40,11 @@ wide8-requires c κs = search needs
 
 -- victim v is about to serve
 serves-next : (c : tie.After-wide8 Inv-loop μ-loop) (p : Plan) (choices : List ℕ) (r : ℕ) (b : List Worker) (s : State)
-    → InRun p (c .before .before .before .before .args .n) choices r b (serving 0) s → Manned p s (c .before .before .before .before .args .crew)
-    → Dequed (s .deques) (c .before .before .before .before .args .slots .now) (c .before .before .before .before .args .top .now)
-    (c .before .before .before .before .args .len .now)
+    → InRun p (c .before .before .before .before .args .n) choices r b (serving 0) s → Manned p s (c .before .before .before .before .args .account) (c .before .before .before .before .args .seats .now)
+    → Dequed (s .deques) (c .before .before .before .before .args .slots .now) (c .before .before .before .before .args .top .now) (c .before .before .before .before .args .len .now)
     → Oldest (c .before .before .before .before .args .n) (s .workers) (c .before .before .before .before .args .who .now)
-    → Serving p (c .before .before .before .before .args .n) choices r b
-    (serves (c .before .before .before .before .args .n) (c .before .before .before .loop .v) s) (c .before .before .before .loop .v)
-    (c .wide8 .result) (c .before .before .before .loop .c) (c .before .before .before .before .args .slots .now)
+    → Serving p (c .before .before .before .before .args .n) choices r b (serves (c .before .before .before .before .args .n) (c .before .before .before .loop .v) s) (c .before .before .before .loop .v)
+    (c .wide8 .result) (c .before .before .before .loop .a) (c .before .before .before .loop .seats) (c .before .before .before .before .args .slots .now)
     (c .before .before .before .loop .top) (c .before .before .before .loop .len)
 serves-next c p choices r b s run manned dequed picks =
     let l = c .before .before .before .loop in
@@ -63,8 +61,8 @@ serves-next c p choices r b s run manned dequed picks =
 
 serve-requires : tie.Need-serve-requires Inv-loop μ-loop
 serve-requires c κs =
-    let (p, choices, r, b, s, run, manned, dequed, picks) = c .before .before .before .before .before .before .pre in
-    (p, _, choices, r, b, _, serves-next (c .before .before) p choices r b s run manned dequed picks)
+    let (p, choices, r, b, s, run, manned, dequed, picks) = c .before .before .before .before .before .before .before .pre in
+    (p, _, choices, r, b, _, serves-next (c .before .before .before) p choices r b s run manned dequed picks)
 
 add-v : tie.Need-add-v Inv-loop μ-loop
 add-v c = omega arith
@@ -77,7 +75,7 @@ unfolding serves
 loop-again c = (
   omega arith,
   λ p choices r b s run manned dequed picks.
-      let g = serves-next (c .before .before .before) p choices r b s run manned dequed picks in
+      let g = serves-next (c .before .before .before .before) p choices r b s run manned dequed picks in
       rw (add-one, ← g .picked) (c .serve .ensures p _ choices r b _ g),
 )
 

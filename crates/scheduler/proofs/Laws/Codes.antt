@@ -1,0 +1,42 @@
+-- Workers as numbers: a number tells which worker it is of, and a store of a number seats that worker.
+-- Assumes nothing.
+use Prim.Native.Nat.{ℕ, suc, _+_, _-_, _*_, _/_, _%_, _≤_, _<_}
+use mathlib.Core.Path.{_≡_, refl, sym, ap, ap₂, _∙_}
+use mathlib.Core.Logic.{_≢_, by-cases}
+use mathlib.Core.List.{List}
+use native.Mathlib.Omega.{arith}
+use native.Mathlib.Decide.{ℕ-discrete}
+use lib.ListN.{length, getD, set, length-set}
+use lib.Seq.{getD-set-same, getD-set-other}
+use Rattle.runs.specs.declared.worker.Worker.{Worker}
+use Rattle.runs.specs.declared.worker.Worker.the-variants.{Idle, Holding, Waiting}
+use Rattle.scheduler.specs.Machine.{codeOf, Fitting, Seated}
+
+pub code-idle : (code : ℕ) (x : Worker) → code ≡ 0 → code ≡ codeOf x → x ≡ Idle
+code-idle code Idle z e = refl
+code-idle code (Holding j) z e = absurd (omega arith)
+code-idle code (Waiting v l) z e = absurd (omega arith)
+
+pub code-held : (code : ℕ) (x : Worker) → code ≢ 0 → code < 512 → Fitting x → code ≡ codeOf x → Holding ((code - 1) % 256) ≡ x
+code-held code Idle z h f e = absurd (z e)
+code-held code (Holding j) z h f e = ap Holding (let q : (code - 1) % 256 ≡ j = omega arith in q)
+code-held code (Waiting v l) z h f e = absurd (omega arith)
+
+pub code-waits : (code : ℕ) (x : Worker) → 512 ≤ code → Fitting x → code ≡ codeOf x → Waiting (code % 16) (code / 16 - 32) ≡ x
+code-waits code Idle h f e = absurd (omega arith)
+code-waits code (Holding j) h f e = absurd (omega arith)
+code-waits code (Waiting v l) h f e =
+    let q : code % 16 ≡ v = omega arith in
+    let i : code / 16 - 32 ≡ l = omega arith in
+    ap₂ Waiting q i
+
+-- the seats after a store
+pub seated-set : (ws ws′ : List Worker) (seats : List ℕ) (w : ℕ) (x : Worker) → w < 16 → x ≡ getD ws′ w Idle
+    → ((v : ℕ) → v ≢ w → getD ws′ v Idle ≡ getD ws v Idle) → Seated ws seats → Seated ws′ (set seats w (codeOf x))
+seated-set ws ws′ seats w x h e others seated = (length-set seats w (codeOf x) ∙ seated .0, at)
+  where
+    at : (v : ℕ) → v < 16 → getD (set seats w (codeOf x)) v 0 ≡ codeOf (getD ws′ v Idle)
+    at v l =
+        by-cases (ℕ-discrete v w)
+        (λ q. rw q (getD-set-same seats w (codeOf x) 0 (omega (arith, seated .0)) ∙ ap codeOf e))
+        (λ f. getD-set-other seats w v (codeOf x) 0 f ∙ (seated .1 v l ∙ ap codeOf (sym (others v f))))

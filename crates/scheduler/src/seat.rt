@@ -1,0 +1,38 @@
+// A worker as one number, so that the sixteen workers stand in one lent array.
+ghost use mathlib.Core.Path.{_≡_};
+ghost use Prim.Native.Nat.{_<_};
+ghost use Rattle.runs.specs.declared.worker.Worker.{Worker};
+ghost use Rattle.scheduler.specs.Machine.{codeOf, Fitting};
+use runs::worker::Worker;
+
+pub fn worker_at(code: u16) -> Worker
+    ensures { λ r. ⌜ ((x : Worker) → Fitting x → code ≡ codeOf x → r ≡ x) ⌝ }
+{
+    if code == 0 {
+        return Worker::Idle;
+    }
+    if code < 512 {
+        return Worker::Holding(((code - 1) % 256) as u8);
+    }
+    Worker::Waiting {
+        victim: (code % 16) as u8,
+        laid: code / 16 - 32,
+    }
+}
+
+pub fn code_of(worker: Worker) -> u16
+    requires { ⌜ Fitting worker ⌝ }
+    ensures { λ r. ⌜ r ≡ codeOf worker ⌝ }
+{
+    match worker {
+        Worker::Idle => 0,
+        Worker::Holding(j) => units(j) + 1,
+        Worker::Waiting { victim, laid } => (laid + 32) * 16 + units(victim),
+    }
+}
+
+fn units(x: u8) -> u16
+    ensures { λ r. ⌜ (r ≡ x) × (r < 256) ⌝ }
+{
+    x as u16
+}
