@@ -72,8 +72,8 @@ pub record Printed (p : Plan) (s : State) (bytes : List ℕ) : Type 0 where
 
 -- a worker as a number, and the workers whose numbers tell them apart
 abbrev pub codeOf : Worker → ℕ
-codeOf Idle = 0
-codeOf (Holding j) = suc j
+codeOf Idle = 256
+codeOf (Holding j) = j
 codeOf (Waiting v l) = (l + 32) * 16 + v
 
 abbrev pub Fitting : Worker → Type 0

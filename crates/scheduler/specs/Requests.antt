@@ -1,9 +1,10 @@
 -- What the second half of a round goes through. Private functions alone cite this file.
 --   Fits             == the numbers of the workers tell them apart
+--   Pointed          == k is the place of the next request's choice
 --   Noted k ws ..    == the arrays hold, for each victim, the pick among the workers below k
 --   Serving          == victim v is about to serve: `who` is the worker that its oldest request is of, plus 1, or 0
 -- Assumes nothing.
-use Prim.Native.Nat.{ℕ, _<_}
+use Prim.Native.Nat.{ℕ, _<_, _%_}
 use mathlib.Core.Path.{_≡_}
 use mathlib.Core.List.{List}
 use lib.ListN.{length, getD}
@@ -18,6 +19,9 @@ use Rattle.scheduler.specs.Machine.{InRun, Fitting, Manned, Dequed}
 
 abbrev pub Fits : List Worker → Type 0
 Fits ws = (w : ℕ) → Fitting (getD ws w Idle)
+
+abbrev pub Pointed : List ℕ → State → ℕ → Type 0
+Pointed choices s k = k ≡ s .tally .requests % length choices
 
 pub record Noted (k : ℕ) (ws : List Worker) (who laid : List ℕ) : Type 0 where
   pub long : (length who ≡ 16) × (length laid ≡ 16)

@@ -12,16 +12,15 @@ ghost use Rattle.runs.specs.Turn.{turn as turnAt, turnOf, turns as turnsOf, idl
 ghost use Rattle.runs.specs.Run.{round as roundOf, ended};
 ghost use Rattle.runs.specs.Trace.{turning};
 ghost use Rattle.scheduler.specs.Machine.{InRun, Planned, Machine, Kept, Manned};
+ghost use Rattle.scheduler.specs.Requests.{Pointed};
 use crate::account::Account;
 use crate::count::acted;
 use crate::count::idled;
 use crate::seat::code_of;
-use crate::seat::worker_at;
 use crate::steal::second_half;
 use crate::turn::act;
 use plan::flat::wide8;
 use plan::flat::wide16;
-use runs::worker::Worker;
 
 // Writes the row of the action at place k: 12 bits of round and 4 of worker. It never sees the schedule's header.
 fn write_row(rows: &mut [u8], k: usize, round: usize, w: usize)
@@ -112,14 +111,13 @@ fn turn_of(
     requires { ⌜ ((p : Plan) × (n : ℕ) × (choices : List ℕ) × (b : List Worker) × (s : State) × InRun p n choices round b (turning w) s × Planned p (now frame) (now first) (now spawn) (now join) (now parent) × Machine p s account (now seats) (now rows) (now next) (now missing) (now slots) (now top) (now len) × (w < n)) ⌝ }
     ensures { λ a. ⌜ ((p : Plan) (n : ℕ) (choices : List ℕ) (b : List Worker) (s : State) → InRun p n choices round b (turning w) s → Planned p (now (frame .entry)) (now (first .entry)) (now (spawn .entry)) (now (join .entry)) (now (parent .entry)) → Machine p s account (now (seats .entry)) (now (rows .entry)) (now (next .entry)) (now (missing .entry)) (now (slots .entry)) (now (top .entry)) (now (len .entry)) → (w < n) → Machine p (turnOf p round w (getD b w Idle) s) a (now (seats .exit)) (now (rows .exit)) (now (next .exit)) (now (missing .exit)) (now (slots .exit)) (now (top .exit)) (now (len .exit)) × Kept p (now (rows .entry)) (now (rows .exit))) ⌝ }
 {
-    let is = worker_at(seats[w]);
-    match is {
-        Worker::Idle => rest(account, round),
-        Worker::Holding(j) => take_turn(
+    let code = wide16(seats[w]);
+    if code < 256 {
+        return take_turn(
             account,
             round,
             w,
-            wide8(j),
+            code,
             seats,
             rows,
             frame,
@@ -132,9 +130,9 @@ fn turn_of(
             slots,
             top,
             len,
-        ),
-        Worker::Waiting { victim: _, laid: _ } => rest(account, round),
+        );
     }
+    rest(account, round)
 }
 
 // First half: the turns of the workers, in rising number.
@@ -187,6 +185,7 @@ pub fn round(
     account: Account,
     n: usize,
     choices: &[u8],
+    cursor: &mut usize,
     seats: &mut [u16; 16],
     rows: &mut [u8],
     frame: &[u16; 256],
@@ -200,8 +199,8 @@ pub fn round(
     top: &mut [u16; 16],
     len: &mut [u16; 16],
 ) -> Account
-    requires { ⌜ ((p : Plan) × (r : ℕ) × (s : State) × InRun p n (now choices) r (s .workers) (turning 0) s × Planned p (now frame) (now first) (now spawn) (now join) (now parent) × Machine p s account (now seats) (now rows) (now next) (now missing) (now slots) (now top) (now len) × (ended p s ≡ false)) ⌝ }
-    ensures { λ a. ⌜ ((p : Plan) (r : ℕ) (s : State) → InRun p n (now (choices .entry)) r (s .workers) (turning 0) s → Planned p (now (frame .entry)) (now (first .entry)) (now (spawn .entry)) (now (join .entry)) (now (parent .entry)) → Machine p s account (now (seats .entry)) (now (rows .entry)) (now (next .entry)) (now (missing .entry)) (now (slots .entry)) (now (top .entry)) (now (len .entry)) → ended p s ≡ false → Machine p (roundOf p n (now (choices .entry)) s) a (now (seats .exit)) (now (rows .exit)) (now (next .exit)) (now (missing .exit)) (now (slots .exit)) (now (top .exit)) (now (len .exit)) × Kept p (now (rows .entry)) (now (rows .exit))) ⌝ }
+    requires { ⌜ ((p : Plan) × (r : ℕ) × (s : State) × InRun p n (now choices) r (s .workers) (turning 0) s × Planned p (now frame) (now first) (now spawn) (now join) (now parent) × Machine p s account (now seats) (now rows) (now next) (now missing) (now slots) (now top) (now len) × Pointed (now choices) s (now cursor) × (ended p s ≡ false)) ⌝ }
+    ensures { λ a. ⌜ ((p : Plan) (r : ℕ) (s : State) → InRun p n (now (choices .entry)) r (s .workers) (turning 0) s → Planned p (now (frame .entry)) (now (first .entry)) (now (spawn .entry)) (now (join .entry)) (now (parent .entry)) → Machine p s account (now (seats .entry)) (now (rows .entry)) (now (next .entry)) (now (missing .entry)) (now (slots .entry)) (now (top .entry)) (now (len .entry)) → Pointed (now (choices .entry)) s (now (cursor .entry)) → ended p s ≡ false → Machine p (roundOf p n (now (choices .entry)) s) a (now (seats .exit)) (now (rows .exit)) (now (next .exit)) (now (missing .exit)) (now (slots .exit)) (now (top .exit)) (now (len .exit)) × Kept p (now (rows .entry)) (now (rows .exit)) × Pointed (now (choices .entry)) (roundOf p n (now (choices .entry)) s) (now (cursor .exit))) ⌝ }
 {
     let r = account.tally.rounds as usize + 1;
     let began = *seats;
@@ -225,5 +224,5 @@ pub fn round(
     if wide8(next[0]) == wide16(first[1]) {
         return t;
     }
-    second_half(t, &began, choices, n, r, seats, slots, top, len)
+    second_half(t, &began, choices, n, r, cursor, seats, slots, top, len)
 }

@@ -47,8 +47,9 @@ fn rounds<'a>(
     let mut slots = [0u8; 4096];
     let mut top = [0u16; 16];
     let mut len = [0u16; 16];
-    let mut seats = [0u16; 16];
-    seats[0] = 1;
+    let mut seats = [256u16; 16];
+    seats[0] = 0;
+    let mut cursor = 0usize;
     let weight = units(frame[0]);
     let mut a = Account {
         weight,
@@ -67,6 +68,7 @@ fn rounds<'a>(
             a,
             n,
             choices,
+            &mut cursor,
             &mut seats,
             rows,
             frame,

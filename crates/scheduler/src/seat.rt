@@ -8,11 +8,11 @@ use runs::worker::Worker;
 pub fn worker_at(code: u16) -> Worker
     ensures { λ r. ⌜ ((x : Worker) → Fitting x → code ≡ codeOf x → r ≡ x) ⌝ }
 {
-    if code == 0 {
-        return Worker::Idle;
+    if code < 256 {
+        return Worker::Holding(code as u8);
     }
     if code < 512 {
-        return Worker::Holding(((code - 1) % 256) as u8);
+        return Worker::Idle;
     }
     Worker::Waiting {
         victim: (code % 16) as u8,
@@ -25,8 +25,8 @@ pub fn code_of(worker: Worker) -> u16
     ensures { λ r. ⌜ r ≡ codeOf worker ⌝ }
 {
     match worker {
-        Worker::Idle => 0,
-        Worker::Holding(j) => units(j) + 1,
+        Worker::Idle => 256,
+        Worker::Holding(j) => units(j),
         Worker::Waiting { victim, laid } => (laid + 32) * 16 + units(victim),
     }
 }

@@ -1,7 +1,7 @@
 // Requests and services, the second half of a round (document 01, "Worker and round").
 ghost use mathlib.Core.Path.{_≡_};
 ghost use mathlib.Core.List.{List};
-ghost use Prim.Native.Nat.{ℕ, suc, _≤_, _<_};
+ghost use Prim.Native.Nat.{ℕ, suc, _%_, _≤_, _<_};
 ghost use lib.ListN.{getD};
 ghost use Rattle.plan.specs.Plan.{Plan};
 ghost use Rattle.runs.specs.declared.worker.Worker.{Worker};
@@ -10,7 +10,7 @@ ghost use Rattle.runs.specs.State.{State};
 ghost use Rattle.runs.specs.Steal.{lay as layOf, lays as laysOf, serve as serveOf, serves as servesOf};
 ghost use Rattle.runs.specs.Trace.{laying, serving};
 ghost use Rattle.scheduler.specs.Machine.{InRun, Manned, Dequed, Seated, Oldest};
-ghost use Rattle.scheduler.specs.Requests.{Fits, Noted, Serving};
+ghost use Rattle.scheduler.specs.Requests.{Fits, Pointed, Noted, Serving};
 use crate::account::Account;
 use crate::deque::take_top;
 use crate::seat::code_of;
@@ -35,6 +35,17 @@ fn asked(t: Tally) -> Tally
     }
 }
 
+// The place after `at` among `count` places, and after the last one the first.
+fn onward(at: usize, count: usize) -> usize
+    requires { ⌜ (at < count) × (count ≤ 4096) ⌝ }
+    ensures { λ r. ⌜ ((k : ℕ) → at ≡ k % count → r ≡ suc k % count) ⌝ }
+{
+    if at + 1 == count {
+        return 0;
+    }
+    at + 1
+}
+
 // Worker w lays a request if it was idle as the round began.
 fn lay(
     account: Account,
@@ -42,24 +53,26 @@ fn lay(
     choices: &[u8],
     round: usize,
     w: usize,
+    cursor: &mut usize,
     seats: &mut [u16; 16],
 ) -> Account
-    requires { ⌜ ((p : Plan) × (n : ℕ) × (b : List Worker) × (s : State) × InRun p n (now choices) round b (laying w) s × Manned p s account (now seats) × Seated b (now began) × (w < n)) ⌝ }
-    ensures { λ a. ⌜ ((p : Plan) (n : ℕ) (b : List Worker) (s : State) → InRun p n (now (choices .entry)) round b (laying w) s → Manned p s account (now (seats .entry)) → Seated b (now (began .entry)) → w < n → Manned p (layOf (now (choices .entry)) round w (getD b w Idle) s) a (now (seats .exit))) ⌝ }
+    requires { ⌜ ((p : Plan) × (n : ℕ) × (b : List Worker) × (s : State) × InRun p n (now choices) round b (laying w) s × Manned p s account (now seats) × Seated b (now began) × Pointed (now choices) s (now cursor) × (w < n)) ⌝ }
+    ensures { λ a. ⌜ ((p : Plan) (n : ℕ) (b : List Worker) (s : State) → InRun p n (now (choices .entry)) round b (laying w) s → Manned p s account (now (seats .entry)) → Seated b (now (began .entry)) → Pointed (now (choices .entry)) s (now (cursor .entry)) → w < n → Manned p (layOf (now (choices .entry)) round w (getD b w Idle) s) a (now (seats .exit)) × Pointed (now (choices .entry)) (layOf (now (choices .entry)) round w (getD b w Idle) s) (now (cursor .exit))) ⌝ }
 {
-    if began[w] != 0 {
+    if began[w] != 256 {
         return account;
     }
-    let t = account.tally;
-    let victim = choices[t.requests as usize % choices.len()];
+    let at = *cursor;
+    let victim = choices[at];
     let worker = Worker::Waiting {
         victim,
         laid: round as u16,
     };
     seats[w] = code_of(worker);
+    *cursor = onward(at, choices.len());
     Account {
         weight: account.weight,
-        tally: asked(t),
+        tally: asked(account.tally),
     }
 }
 
@@ -69,15 +82,16 @@ fn lays(
     choices: &[u8],
     n: usize,
     round: usize,
+    cursor: &mut usize,
     seats: &mut [u16; 16],
 ) -> Account
-    requires { ⌜ ((p : Plan) × (b : List Worker) × (s : State) × InRun p n (now choices) round b (laying 0) s × Manned p s account (now seats) × Seated b (now began)) ⌝ }
-    ensures { λ a. ⌜ ((p : Plan) (b : List Worker) (s : State) → InRun p n (now (choices .entry)) round b (laying 0) s → Manned p s account (now (seats .entry)) → Seated b (now (began .entry)) → Manned p (laysOf (now (choices .entry)) round n b s) a (now (seats .exit))) ⌝ }
+    requires { ⌜ ((p : Plan) × (b : List Worker) × (s : State) × InRun p n (now choices) round b (laying 0) s × Manned p s account (now seats) × Seated b (now began) × Pointed (now choices) s (now cursor)) ⌝ }
+    ensures { λ a. ⌜ ((p : Plan) (b : List Worker) (s : State) → InRun p n (now (choices .entry)) round b (laying 0) s → Manned p s account (now (seats .entry)) → Seated b (now (began .entry)) → Pointed (now (choices .entry)) s (now (cursor .entry)) → Manned p (laysOf (now (choices .entry)) round n b s) a (now (seats .exit)) × Pointed (now (choices .entry)) (laysOf (now (choices .entry)) round n b s) (now (cursor .exit))) ⌝ }
 {
     let mut a = account;
     let mut w = 0;
     while w < n {
-        a = lay(a, began, choices, round, w, seats);
+        a = lay(a, began, choices, round, w, cursor, seats);
         w += 1;
     }
     a
@@ -227,17 +241,18 @@ pub fn second_half(
     choices: &[u8],
     n: usize,
     round: usize,
+    cursor: &mut usize,
     seats: &mut [u16; 16],
     slots: &[u8; 4096],
     top: &mut [u16; 16],
     len: &mut [u16; 16],
 ) -> Account
-    requires { ⌜ ((p : Plan) × (b : List Worker) × (s : State) × InRun p n (now choices) round b (laying 0) s × Manned p s account (now seats) × Seated b (now began) × Dequed (s .deques) (now slots) (now top) (now len)) ⌝ }
-    ensures { λ a. ⌜ ((p : Plan) (b : List Worker) (s : State) → InRun p n (now (choices .entry)) round b (laying 0) s → Manned p s account (now (seats .entry)) → Seated b (now (began .entry)) → Dequed (s .deques) (now (slots .entry)) (now (top .entry)) (now (len .entry)) → Manned p (servesOf n n (laysOf (now (choices .entry)) round n b s)) a (now (seats .exit)) × Dequed (servesOf n n (laysOf (now (choices .entry)) round n b s) .deques) (now (slots .entry)) (now (top .exit)) (now (len .exit))) ⌝ }
+    requires { ⌜ ((p : Plan) × (b : List Worker) × (s : State) × InRun p n (now choices) round b (laying 0) s × Manned p s account (now seats) × Seated b (now began) × Pointed (now choices) s (now cursor) × Dequed (s .deques) (now slots) (now top) (now len)) ⌝ }
+    ensures { λ a. ⌜ ((p : Plan) (b : List Worker) (s : State) → InRun p n (now (choices .entry)) round b (laying 0) s → Manned p s account (now (seats .entry)) → Seated b (now (began .entry)) → Pointed (now (choices .entry)) s (now (cursor .entry)) → Dequed (s .deques) (now (slots .entry)) (now (top .entry)) (now (len .entry)) → Manned p (servesOf n n (laysOf (now (choices .entry)) round n b s)) a (now (seats .exit)) × Dequed (servesOf n n (laysOf (now (choices .entry)) round n b s) .deques) (now (slots .entry)) (now (top .exit)) (now (len .exit)) × Pointed (now (choices .entry)) (servesOf n n (laysOf (now (choices .entry)) round n b s)) (now (cursor .exit))) ⌝ }
 {
     let mut who = [0u8; 16];
     let mut laid = [0u16; 16];
-    let a = lays(account, began, choices, n, round, seats);
+    let a = lays(account, began, choices, n, round, cursor, seats);
     oldest(seats, n, &mut who, &mut laid);
     serves(a, n, &who, seats, slots, top, len)
 }

@@ -1,9 +1,11 @@
--- Workers as numbers: a number tells which worker it is of, and a store of a number seats that worker.
+-- Workers as numbers: a number tells which worker it is of, and a store of a number seats that worker. And the place that comes
+-- after a place, where they go round.
 -- Assumes nothing.
 use Prim.Native.Nat.{ℕ, suc, _+_, _-_, _*_, _/_, _%_, _≤_, _<_}
 use mathlib.Core.Path.{_≡_, refl, sym, ap, ap₂, _∙_}
 use mathlib.Core.Logic.{_≢_, by-cases}
 use mathlib.Core.List.{List}
+use native.Mathlib.Nat.{mod-add-mod, mod-self, mod-eq-of-lt}
 use native.Mathlib.Omega.{arith}
 use native.Mathlib.Decide.{ℕ-discrete}
 use lib.ListN.{length, getD, set, length-set}
@@ -12,15 +14,18 @@ use Rattle.runs.specs.declared.worker.Worker.{Worker}
 use Rattle.runs.specs.declared.worker.Worker.the-variants.{Idle, Holding, Waiting}
 use Rattle.scheduler.specs.Machine.{codeOf, Fitting, Seated}
 
-pub code-idle : (code : ℕ) (x : Worker) → code ≡ 0 → code ≡ codeOf x → x ≡ Idle
-code-idle code Idle z e = refl
-code-idle code (Holding j) z e = absurd (omega arith)
-code-idle code (Waiting v l) z e = absurd (omega arith)
+pub code-held : (code : ℕ) (x : Worker) → code < 256 → code ≡ codeOf x → x ≡ Holding code
+code-held code Idle h e = absurd (omega arith)
+code-held code (Holding j) h e = ap Holding (sym e)
+code-held code (Waiting v l) h e = absurd (omega arith)
 
-pub code-held : (code : ℕ) (x : Worker) → code ≢ 0 → code < 512 → Fitting x → code ≡ codeOf x → Holding ((code - 1) % 256) ≡ x
-code-held code Idle z h f e = absurd (z e)
-code-held code (Holding j) z h f e = ap Holding (let q : (code - 1) % 256 ≡ j = omega arith in q)
-code-held code (Waiting v l) z h f e = absurd (omega arith)
+pub code-idle : (code : ℕ) (x : Worker) → 256 ≤ code → code < 512 → Fitting x → code ≡ codeOf x → x ≡ Idle
+code-idle code Idle h k f e = refl
+code-idle code (Holding j) h k f e = absurd (omega arith)
+code-idle code (Waiting v l) h k f e = absurd (omega arith)
+
+pub code-free : (code : ℕ) (x : Worker) → code ≡ 256 → Fitting x → code ≡ codeOf x → x ≡ Idle
+code-free code x h f e = code-idle code x (omega arith) (omega arith) f e
 
 pub code-waits : (code : ℕ) (x : Worker) → 512 ≤ code → Fitting x → code ≡ codeOf x → Waiting (code % 16) (code / 16 - 32) ≡ x
 code-waits code Idle h f e = absurd (omega arith)
@@ -40,3 +45,14 @@ seated-set ws ws′ seats w x h e others seated = (length-set seats w (codeOf x)
         by-cases (ℕ-discrete v w)
         (λ q. rw q (getD-set-same seats w (codeOf x) 0 (omega (arith, seated .0)) ∙ ap codeOf e))
         (λ f. getD-set-other seats w v (codeOf x) 0 f ∙ (seated .1 v l ∙ ap codeOf (sym (others v f))))
+
+-- the place of the next choice, among n
+module _ (k n : ℕ) (h : k % n < n) where
+  turned-on : suc k % n ≡ (k % n + 1) % n
+  turned-on = ap (λ x. x % n) (let e : suc k ≡ k + 1 = omega arith in e) ∙ sym (mod-add-mod k n 1)
+
+  pub place-wraps : k % n + 1 ≡ n → suc k % n ≡ 0
+  place-wraps e = turned-on ∙ (ap (λ x. x % n) e ∙ mod-self n)
+
+  pub place-steps : k % n + 1 ≢ n → suc k % n ≡ k % n + 1
+  place-steps f = turned-on ∙ mod-eq-of-lt (let l : k % n + 1 < n = omega arith in l)

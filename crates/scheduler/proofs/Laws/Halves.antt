@@ -21,9 +21,11 @@ use Rattle.runs.specs.Turn.{turns}
 use Rattle.runs.specs.Steal.{laid, lay, lays, oldest, serves}
 use Rattle.runs.specs.Run.{ended, round}
 use Rattle.runs.specs.Trace.{Stage, turning, laying, goes-on}
+use Rattle.scheduler.specs.Requests.{Pointed}
 use Rattle.scheduler.specs.Machine.{Planned, Progressed, Dequed, Manned, InRun, Machine}
 use Rattle.runs.proofs.Laws.Rounds.{rounds-known}
 use Rattle.runs.proofs.Laws.Rows.{lay-still, serve-still}
+use Rattle.runs.proofs.Laws.Tallies.{turn-requests, serve-requests}
 use Rattle.runs.proofs.Laws.Whole.{round-last, round-on}
 use Rattle.scheduler.proofs.Laws.Running.{run-sound, run-at, run-turns}
 
@@ -45,6 +47,18 @@ serves-still n (suc k) s =
     let (g, h) = serves-still n k s in
     (e ∙ g, f ∙ h)
 
+-- turns and services lay no request
+pub turns-requests : (p : Plan) (r k : ℕ) (b : List Worker) (s : State) → turns p r k b s .tally .requests ≡ s .tally .requests
+unfolding turns
+turns-requests p r zero b s = refl
+turns-requests p r (suc k) b s = turn-requests p r k (getD b k Idle) (turns p r k b s) ∙ turns-requests p r k b s
+
+pub serves-requests : (n k : ℕ) (s : State) → serves n k s .tally .requests ≡ s .tally .requests
+unfolding serves
+serves-requests n zero s = refl
+serves-requests n (suc k) s =
+    let t = serves n k s in serve-requests k (oldest k n (t .workers) .who) t ∙ serves-requests n k s
+
 -- the second half leaves the actions and the rows
 second-still : (n : ℕ) (choices : List ℕ) (r : ℕ) (b : List Worker) (s : State)
     → (serves n n (lays choices r n b s) .next ≡ s .next) × (serves n n (lays choices r n b s) .rows ≡ s .rows)
@@ -65,7 +79,7 @@ unfolding lays
 lays-deques choices r zero b s = refl
 lays-deques choices r (suc k) b s = lay-deques choices r k (getD b k Idle) (lays choices r k b s) ∙ lays-deques choices r k b s
 
--- what stands for a state stands for one with the same actions and rows, with another crew and other deques
+-- what stands for a state stands for one with the same actions and rows, with another account and other deques
 machine-rests : (p : Plan) (s t : State) (c c′ : Account) (seats seats′ rows next missing slots top len top′ len′ : List ℕ)
     → Machine p s c seats rows next missing slots top len → t .next ≡ s .next → t .rows ≡ s .rows → Manned p t c′ seats′
     → Dequed (t .deques) slots top′ len′ → Machine p t c′ seats′ rows next missing slots top′ len′
@@ -122,6 +136,11 @@ module _ {p : Plan} {n : ℕ} {choices : List ℕ} {r : ℕ} {s : State} {c : Ac
         let last = ended-there (run-turns round-now n (le-refl n)) planned (half .progressed) e in
         rw (round-last p n choices (c .tally .rounds + 1) s round-counted last) half
 
+    pub ends-pointed : {k : ℕ} → Pointed choices s k → getD next 0 0 ≡ getD first 1 0 → Pointed choices (round p n choices s) k
+    ends-pointed e q =
+        let last = ended-there (run-turns round-now n (le-refl n)) planned (half .progressed) q in
+        rw (round-last p n choices (c .tally .rounds + 1) s round-counted last, turns-requests p (c .tally .rounds + 1) n (s .workers) s) e
+
     module _ (more : getD next 0 0 ≢ getD first 1 0) where
       pub round-lays : InRun p n choices (c .tally .rounds + 1) (s .workers) (laying 0) (turns p (c .tally .rounds + 1) n (s .workers) s)
       round-lays =
@@ -138,3 +157,10 @@ module _ {p : Plan} {n : ℕ} {choices : List ℕ} {r : ℕ} {s : State} {c : Ac
           let (e, f) = second-still n choices (c .tally .rounds + 1) (s .workers) (turns p (c .tally .rounds + 1) n (s .workers) s) in
           rw (round-on p n choices (c .tally .rounds + 1) s round-counted (ended-not turned planned (half .progressed) more))
           (machine-rests p _ _ _ _ _ _ _ _ _ _ _ _ _ _ half e f crew deques)
+
+      pub serves-pointed : {k : ℕ}
+          → Pointed choices (serves n n (lays choices (c .tally .rounds + 1) n (s .workers) (turns p (c .tally .rounds + 1) n (s .workers) s))) k
+          → Pointed choices (round p n choices s) k
+      serves-pointed e =
+          let turned = run-turns round-now n (le-refl n) in
+          rw (round-on p n choices (c .tally .rounds + 1) s round-counted (ended-not turned planned (half .progressed) more)) e

@@ -16,13 +16,13 @@ use Rattle.runs.specs.State.{State, workerOf, dequeOf}
 use Rattle.runs.specs.Steal.{laid, lay, topOf, given, serve}
 use Rattle.runs.specs.Trace.{laying, laid as laidOn, served}
 use Rattle.scheduler.specs.Machine.{codeOf, Fitting, InRun, Seated, Manned, Dequed, Given}
-use Rattle.scheduler.specs.Requests.{Serving}
+use Rattle.scheduler.specs.Requests.{Pointed, Serving}
 use Rattle.scheduler.proofs.Laws.Codes.{seated-set}
 use Rattle.scheduler.proofs.Laws.Running.{run-sound, run-seats, run-at}
 use Rattle.scheduler.proofs.Laws.Picks.{served-below}
 
 -- a worker that was not idle as the round began lays no request
-pub lay-rests : (choices : List ℕ) (r w : ℕ) (x : Worker) (s : State) → codeOf x ≢ 0 → lay choices r w x s ≡ s
+pub lay-rests : (choices : List ℕ) (r w : ℕ) (x : Worker) (s : State) → codeOf x ≢ 256 → lay choices r w x s ≡ s
 unfolding lay
 lay-rests choices r w Idle s f = absurd (f refl)
 lay-rests choices r w (Holding j) s f = refl
@@ -71,17 +71,21 @@ module _ (p : Plan) (s : State) (c : Account) (seats : List ℕ) (sixteen : leng
   module _ (choices : List ℕ) (r : ℕ) where
     -- the worker that asks, as its seat then has it
     abbrev pub asker : Worker
-    asker = Waiting (getD choices ((c .tally .requests) % length choices) 0) r
+    asker = Waiting (getD choices ((s .tally .requests) % length choices) 0) r
 
     pub asker-waits : workerOf (lay choices r w Idle s) w ≡ asker
     unfolding lay laid
     asker-waits =
-        rw (m .counts) (getD-set-same (s .workers) w _ Idle (omega arith))
+        getD-set-same (s .workers) w _ Idle (omega arith)
 
     pub laid-manned : (t : Tally) → t ≡ asked (c .tally) → Manned p (lay choices r w Idle s) (record { weight = c .weight; tally = t }) (set seats w (codeOf asker))
     unfolding lay laid
     laid-manned t e =
         rw (e, m .counts) (record { seated = reseated _; weighs = m .weighs; counts = refl })
+
+    pub laid-pointed : (k : ℕ) → k ≡ suc (s .tally .requests) % length choices → Pointed choices (lay choices r w Idle s) k
+    unfolding lay laid
+    laid-pointed k e = e
 
   -- what taking the top job of the victim's deque gives decides the service
   module _ (v : ℕ) (x : Worker) (slots top len : List ℕ) where
@@ -116,7 +120,7 @@ module _ (p : Plan) (s : State) (c : Account) (seats : List ℕ) (sixteen : leng
 -- the worker that has asked, and the one that is served, as their seats then have them
 pub laid-fits : {p : Plan} {n : ℕ} {choices : List ℕ} {r : ℕ} {b : List Worker} {s : State} {c : Account} {seats : List ℕ} (w : ℕ)
     → InRun p n choices r b (laying w) s → w < n → getD b w Idle ≡ Idle → Manned p s c seats
-    → Fitting (Waiting (getD choices ((c .tally .requests) % length choices) 0) r)
+    → Fitting (Waiting (getD choices ((s .tally .requests) % length choices) 0) r)
 laid-fits {p} {n} {choices} {r} {b} {s} {c} {seats} w run h e m =
     rw (e, asker-waits p s c seats (run-sound run .workers) m w (omega (arith, run .most)) choices r) at
     (run-seats (run-at run (laidOn (run .trace) h)) w)

@@ -5,6 +5,10 @@ use mathlib.Core.Path.{_≡_, refl}
 use mathlib.Core.List.{List}
 use native.Mathlib.Omega.{arith}
 use lib.ListN.{length, getD}
+use lib.Dec.{leb, ltb, leb→le}
+use Rattle.plan.specs.Test.{all}
+use Rattle.plan.proofs.Laws.Lists.{both-left, both-right}
+use Rattle.runs.specs.Run.{choicesFit}
 use Rattle.plan.specs.Plan.{Plan}
 use Rattle.plan.proofs.Laws.Valid.{jobs-range}
 use Rattle.runs.specs.declared.worker.Worker.{Worker}
@@ -12,7 +16,20 @@ use Rattle.runs.specs.declared.worker.Worker.the-variants.{Idle, Holding, Waiti
 use Rattle.runs.specs.State.{State, workerOf}
 use Rattle.runs.specs.Turn.{turns}
 use Rattle.runs.specs.Steal.{lays, serves}
-use Rattle.runs.specs.Trace.{Stage, turning, laying, serving, Trace}
+use Rattle.runs.specs.Trace.{
+  Stage,
+  turning,
+  laying,
+  serving,
+  Trace,
+  begins,
+  turned,
+  goes-on,
+  laid,
+  all-laid,
+  served,
+  next-round,
+}
 use Rattle.scheduler.specs.Machine.{InRun, Fitting}
 use Rattle.scheduler.specs.Requests.{Fits}
 use Rattle.runs.proofs.Laws.Lined.{Sound}
@@ -34,6 +51,12 @@ module _ {p : Plan} {n : ℕ} {choices : List ℕ} {r : ℕ} {b : List Worker} {
   run-choices w h e =
       laid-choices p (run .accepted) n (run .some) (run .most) choices (run .fit) (run .trace) w h (rw e idle-unheld)
 
+  pub run-few : length choices ≤ 4096
+  unfolding choicesFit
+  run-few =
+      leb→le (length choices) 4096
+      (both-left (leb (length choices) 4096) _ (both-right (all (λ c. ltb c n) choices) _ (run .fit)))
+
   -- the numbers of the workers tell them apart
   pub run-seats : Fits (s .workers)
   run-seats w = go (workerOf s w) refl
@@ -46,10 +69,23 @@ module _ {p : Plan} {n : ℕ} {choices : List ℕ} {r : ℕ} {b : List Worker} {
           let q = victim-below p (run .accepted) n (run .some) (run .most) choices (run .fit) (run .trace) w v l e in
           (omega (arith, run .most, q), omega (arith, run-counts .0, q))
 
--- the same run at another stage of the same round
+-- the same run at another stage
 pub run-at : {p : Plan} {n : ℕ} {choices : List ℕ} {r r′ : ℕ} {b b′ : List Worker} {g g′ : Stage} {s s′ : State} → InRun p n choices r b g s
     → Trace p n choices r′ b′ g′ s′ → InRun p n choices r′ b′ g′ s′
 run-at run t = record { accepted = run .accepted; some = run .some; most = run .most; fit = run .fit; trace = t }
+
+-- the workers as the round began were those of a state too
+pub run-began : {p : Plan} {n : ℕ} {choices : List ℕ} {r : ℕ} {b : List Worker} {g : Stage} {s : State} → InRun p n choices r b g s → Fits b
+run-began {p} {n} {choices} run = go (run .trace)
+  where
+    go : {r : ℕ} {b : List Worker} {g : Stage} {s : State} → Trace p n choices r b g s → Fits b
+    go begins = run-seats (run-at run begins)
+    go (turned t h) = go t
+    go (goes-on t e) = go t
+    go (laid t h) = go t
+    go (all-laid t) = go t
+    go (served t h) = go t
+    go (next-round t) = run-seats (run-at run t)
 
 module _ {p : Plan} {n : ℕ} {choices : List ℕ} {r : ℕ} {b : List Worker} {s : State} where
   pub run-turns : InRun p n choices r b (turning 0) s → (k : ℕ) → k ≤ n → InRun p n choices r b (turning k) (turns p r k b s)

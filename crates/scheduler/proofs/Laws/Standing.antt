@@ -5,6 +5,7 @@ use Prim.Native.Nat.{ℕ, _+_, _-_, _*_, _≤_, _<_}
 use mathlib.Core.Path.{_≡_, refl, sym, ap, _∙_}
 use mathlib.Core.Bool.{true, false}
 use mathlib.Core.List.{List}
+use native.Mathlib.Nat.{zero-mod}
 use native.Mathlib.Omega.{arith}
 use lib.ListN.{length, getD, drop, replicate}
 use borrow.Author.Tests.{le-leb, lt-leb}
@@ -17,6 +18,7 @@ use Rattle.runs.specs.State.{State, nextOf, start}
 use Rattle.runs.specs.Run.{ended, round, run}
 use Rattle.runs.specs.Trace.{turning}
 use Rattle.scheduler.specs.Machine.{Planned, Printed, InRun, Machine, Kept, RunGiven}
+use Rattle.scheduler.specs.Requests.{Pointed}
 use Rattle.scheduler.proofs.Laws.Underway.{
   Underway,
   Rounded,
@@ -27,24 +29,30 @@ use Rattle.scheduler.proofs.Laws.Underway.{
 }
 use Rattle.scheduler.proofs.Laws.Starting.{firstAccount, firstSeats, first-machine}
 
-pub record Standing (p : Plan) (n : ℕ) (choices : List ℕ) (c : Account) (before seats rows next missing slots top len : List ℕ) : Type 0 where
+pub record Standing (p : Plan) (n : ℕ) (choices : List ℕ) (c : Account) (k : ℕ) (before seats rows next missing slots top len : List ℕ) : Type 0 where
   pub state : State
+  pub pointed : Pointed choices state k
   pub underway : Underway p n choices state
   pub machine : Machine p state c seats rows next missing slots top len
   pub kept : Kept p before rows
 
 module _ (p : Plan) (n : ℕ) (choices frame first spawn join parent entering : List ℕ) (g : RunGiven p n choices frame first spawn join parent entering) where
+  first-pointed : Pointed choices (start p) 0
+  unfolding start
+  first-pointed = sym (zero-mod (length choices))
+
   pub first-stands : (weight : ℕ) (rows : List ℕ) → weight ≡ getD frame 0 0 → 2 * work p ≤ length rows
-      → Standing p n choices (firstAccount weight) rows firstSeats rows (replicate 256 0) entering (replicate 4096 0) (replicate 16 0) (replicate 16 0)
+      → Standing p n choices (firstAccount weight) 0 rows firstSeats rows (replicate 256 0) entering (replicate 4096 0) (replicate 16 0) (replicate 16 0)
   first-stands weight rows e room =
       record {
         state = start p;
+        pointed = first-pointed;
         underway = underway-start p n choices;
         machine = first-machine p n choices frame first spawn join parent entering g weight rows e room;
         kept = (refl, refl);
       }
 
-  module _ (c : Account) (before seats rows next missing slots top len : List ℕ) (z : Standing p n choices c before seats rows next missing slots top len) where
+  module _ (c : Account) (k : ℕ) (before seats rows next missing slots top len : List ℕ) (z : Standing p n choices c k before seats rows next missing slots top len) where
     abbrev s : State
     s = z .state
 
@@ -78,24 +86,26 @@ module _ (p : Plan) (n : ℕ) (choices frame first spawn join parent entering : 
 
       -- what a round is given
       pub round-given : (p : Plan) × (r : ℕ) × (s : State) × InRun p n choices r (s .workers) (turning 0) s
-          × Planned p frame first spawn join parent × Machine p s c seats rows next missing slots top len × (ended p s ≡ false)
-      round-given = let (r, i) = in-run in (p, r, s, i, g .planned, z .machine, h)
+          × Planned p frame first spawn join parent × Machine p s c seats rows next missing slots top len × Pointed choices s k × (ended p s ≡ false)
+      round-given = let (r, i) = in-run in (p, r, s, i, g .planned, z .machine, z .pointed, h)
 
       rounded : Rounded p n choices s
       rounded = underway-round p (g .planned .accepted) n (g .some) (g .most) choices s (z .underway) h
 
-      module _ (c′ : Account) (seats′ rows′ next′ missing′ slots′ top′ len′ : List ℕ)
+      module _ (c′ : Account) (k′ : ℕ) (seats′ rows′ next′ missing′ slots′ top′ len′ : List ℕ)
           (m : (p : Plan) (r : ℕ) (s : State) → InRun p n choices r (s .workers) (turning 0) s → Planned p frame first spawn join parent
-          → Machine p s c seats rows next missing slots top len → ended p s ≡ false
-          → Machine p (round p n choices s) c′ seats′ rows′ next′ missing′ slots′ top′ len′ × Kept p rows rows′) where
+          → Machine p s c seats rows next missing slots top len → Pointed choices s k → ended p s ≡ false
+          → Machine p (round p n choices s) c′ seats′ rows′ next′ missing′ slots′ top′ len′ × Kept p rows rows′ × Pointed choices (round p n choices s) k′) where
         -- and leaves
         left : Machine p (round p n choices s) c′ seats′ rows′ next′ missing′ slots′ top′ len′ × Kept p rows rows′
-        left = let (r, i) = in-run in m p r s i (g .planned) (z .machine) h
+            × Pointed choices (round p n choices s) k′
+        left = let (r, i) = in-run in m p r s i (g .planned) (z .machine) (z .pointed) h
 
-        pub round-stands : Standing p n choices c′ before seats′ rows′ next′ missing′ slots′ top′ len′
+        pub round-stands : Standing p n choices c′ k′ before seats′ rows′ next′ missing′ slots′ top′ len′
         round-stands =
             record {
               state = round p n choices s;
+              pointed = left .2;
               underway = rounded .underway;
               machine = left .0;
               kept = (left .1 .0 ∙ z .kept .0, left .1 .1 ∙ z .kept .1);

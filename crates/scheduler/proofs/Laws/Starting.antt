@@ -38,7 +38,7 @@ firstAccount weight =
     }
 
 abbrev pub firstSeats : List ℕ
-firstSeats = 1 ∷ replicate 15 0
+firstSeats = 0 ∷ replicate 15 256
 
 first-seats : (p : Plan) → Seated (start p .workers) firstSeats
 unfolding start
@@ -47,7 +47,7 @@ first-seats p = (refl, at)
     at : (w : ℕ) → w < 16 → getD firstSeats w 0 ≡ codeOf (getD (Holding 0 ∷ replicate 15 Idle) w Idle)
     at zero h = refl
     at (suc w) h =
-        getD-replicate 15 w 0 0 (omega arith) ∙ sym (ap codeOf (getD-replicate 15 w Idle Idle (omega arith)))
+        getD-replicate 15 w 256 0 (omega arith) ∙ sym (ap codeOf (getD-replicate 15 w Idle Idle (omega arith)))
 
 first-deques : (p : Plan) → Dequed (start p .deques) (replicate 4096 0) (replicate 16 0) (replicate 16 0)
 unfolding start

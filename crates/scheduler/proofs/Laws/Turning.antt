@@ -18,7 +18,7 @@ use Rattle.scheduler.specs.declared.account.Account.{Account}
 use Rattle.scheduler.specs.declared.turn.Turned.{Turned}
 use Rattle.runs.specs.declared.tally.Tally.{Tally}
 use Rattle.runs.specs.declared.worker.Worker.{Worker}
-use Rattle.runs.specs.declared.worker.Worker.the-variants.{Idle, Holding}
+use Rattle.runs.specs.declared.worker.Worker.the-variants.{Idle, Holding, Waiting}
 use Rattle.runs.specs.State.{State, nextOf, workerOf, place}
 use Rattle.runs.specs.Turn.{turn, idled, turnOf, turns}
 use Rattle.runs.specs.Trace.{turning, Trace, turned}
@@ -178,6 +178,12 @@ module _ (p : Plan) (n : ℕ) (choices : List ℕ) (r w : ℕ) (b : List Worker)
         )
 
   -- the turn of a worker that holds nothing
+  pub turning-rests : (x : Worker) → Fitting x → 256 ≤ codeOf x → turnOf p r w x s ≡ idled r s
+  unfolding turnOf
+  turning-rests Idle f h = refl
+  turning-rests (Holding j) f h = absurd (omega arith)
+  turning-rests (Waiting v l) f h = refl
+
   pub idling-machine : {c c′ : Account} {seats rows next missing slots top len : List ℕ} → Manned p (idled r s) c′ seats
       → Machine p s c seats rows next missing slots top len → Machine p (idled r s) c′ seats rows next missing slots top len
   unfolding idled

@@ -3,7 +3,15 @@ use mathlib.Core.Path.{sym, _∙_}
 use mathlib.Core.Logic.{_≢_}
 use lib.ListN.{getD}
 use borrow.Author.Needs.{needs}
-use Rattle.scheduler.proofs.Laws.Halves.{round-now, round-ends, round-lays, round-serves}
+use Rattle.scheduler.proofs.Laws.Halves.{
+  round-now,
+  round-ends,
+  round-lays,
+  round-serves,
+  turns-requests,
+  ends-pointed,
+  serves-pointed,
+}
 use Rattle.scheduler.proofs.round.round.Statement.{statement}
 use Rattle.scheduler.proofs.round.round.Tie as tie
 
@@ -15,7 +23,7 @@ add-r c = search needs
 
 turns-requires : tie.Need-turns-requires
 turns-requires c κs =
-    let (p, r, s, run, planned, machine, on) = c .before .before .before .before .before .before .before .before .before .before .before .pre in
+    let (p, r, s, run, planned, machine, pointed, on) = c .before .before .before .before .before .before .before .before .before .before .before .pre in
     (p, _, s .workers, s, round-now run (machine .manned), planned, machine)
 
 element-copy-out-wide8 : tie.Need-element-copy-out-wide8
@@ -35,10 +43,10 @@ same-length c = search needs
 
 returns : tie.Need-returns
 returns c =
-    λ p r s run planned machine on.
+    λ p r s run planned machine pointed on.
     let (half, kept) = c .before .before .before .before .before .before .before .turns .ensures p _ (s .workers) s (round-now run (machine .manned)) planned machine in
     let there = sym (c .before .before .before .wide8 .ensures .0) ∙ (c .if1 .taken ∙ c .before .wide16 .ensures .0) in
-    (round-ends run (machine .manned) planned half there, kept)
+    (round-ends run (machine .manned) planned half there, kept, ends-pointed run (machine .manned) planned half pointed there)
 
 -- job 0 has an action left
 not-there : (c : tie.Else1)
@@ -47,20 +55,21 @@ not-there c q = c .if1 .left (c .before .before .before .wide8 .ensures .0 ∙ (
 
 second-half-requires : tie.Need-second-half-requires
 second-half-requires c κs =
-    let (p, r, s, run, planned, machine, on) = c .before .before .before .before .before .before .before .before .before .before .before .before .before .before .before .before .before .before .before .before .before .before .before .before .pre in
-    let (half, kept) = c .before .before .before .before .before .before .before .before .before .before .before .before .turns .ensures p _ (s .workers) s (round-now run (machine .manned)) planned machine in
-    (p, s .workers, _, round-lays run (machine .manned) planned half (not-there (c .before .before .before .before .before)), half .manned, machine .manned .seated, half .dequed)
+    let (p, r, s, run, planned, machine, pointed, on) = c .before .before .before .before .before .before .before .before .before .before .before .before .before .before .before .before .before .before .before .before .before .before .before .before .before .pre in
+    let (half, kept) = c .before .before .before .before .before .before .before .before .before .before .before .before .before .turns .ensures p _ (s .workers) s (round-now run (machine .manned)) planned machine in
+    (p, s .workers, _, round-lays run (machine .manned) planned half (not-there (c .before .before .before .before .before .before)), half .manned, machine .manned .seated, rw turns-requests pointed, half .dequed)
 
 same-length-2 : tie.Need-same-length-2
 same-length-2 c = search needs
 
 returns-2 : tie.Need-returns-2
 returns-2 c =
-    λ p r s run planned machine on.
-    let (half, kept) = c .before .before .before .before .before .before .before .before .before .before .before .before .before .turns .ensures p _ (s .workers) s (round-now run (machine .manned)) planned machine in
-    let on = round-lays run (machine .manned) planned half (not-there (c .before .before .before .before .before .before)) in
-    let (account, deques) = c .second-half .ensures p (s .workers) _ on (half .manned) (machine .manned .seated) (half .dequed) in
-    (round-serves run (machine .manned) planned half (not-there (c .before .before .before .before .before .before)) account deques, kept)
+    λ p r s run planned machine pointed on.
+    let (half, kept) = c .before .before .before .before .before .before .before .before .before .before .before .before .before .before .turns .ensures p _ (s .workers) s (round-now run (machine .manned)) planned machine in
+    let more = not-there (c .before .before .before .before .before .before .before) in
+    let on = round-lays run (machine .manned) planned half more in
+    let (account, deques, place) = c .second-half .ensures p (s .workers) _ on (half .manned) (machine .manned .seated) (rw turns-requests pointed) (half .dequed) in
+    (round-serves run (machine .manned) planned half more account deques, kept, serves-pointed run (machine .manned) planned half more place)
 
 pub round-spec : {M : Type 1} → statement M
 round-spec =

@@ -1,9 +1,8 @@
 -- `seat::code_of` meets its contract. Assumes nothing.
-use Prim.Native.Nat.{suc, _+_, _*_}
-use mathlib.Core.Path.{_≡_, sym, ap}
+use mathlib.Core.Path.{sym, ap}
 use native.Mathlib.Omega.{arith}
 use borrow.Author.Needs.{needs}
-use Rattle.scheduler.specs.Machine.{codeOf, Fitting}
+use Rattle.scheduler.specs.Machine.{codeOf}
 use Rattle.scheduler.proofs.seat.code_of.Statement.{statement}
 use Rattle.scheduler.proofs.seat.code_of.Tie as tie
 
@@ -16,14 +15,11 @@ enum-known-worker c = search needs
 units-requires : tie.Need-units-requires
 units-requires c κs = search needs
 
-add-result : tie.Need-add-result
-add-result c = omega (arith, c .units .ensures)
-
 enum-known-worker-2 : tie.Need-enum-known-worker-2
 enum-known-worker-2 c = search needs
 
-add-result-2 : tie.Need-add-result-2
-add-result-2 c = let f = rw (c .before .worker2 .given .1) at (c .before .before .before .pre) in omega (arith, f)
+add-result : tie.Need-add-result
+add-result c = let f = rw (c .before .worker2 .given .1) at (c .before .before .before .pre) in omega (arith, f)
 
 mul-result : tie.Need-mul-result
 mul-result c = let f = rw (c .before .worker2 .given .1) at (c .before .before .before .pre) in omega (arith, f)
@@ -31,14 +27,14 @@ mul-result c = let f = rw (c .before .worker2 .given .1) at (c .before .before .
 units-requires-2 : tie.Need-units-requires-2
 units-requires-2 c κs = search needs
 
-add-result-3 : tie.Need-add-result-3
-add-result-3 c = let f = rw (c .before .before .worker2 .given .1) at (c .before .before .before .before .pre) in omega (arith, f, c .units2 .ensures)
+add-result-2 : tie.Need-add-result-2
+add-result-2 c = let f = rw (c .before .before .worker2 .given .1) at (c .before .before .before .before .pre) in omega (arith, f, c .units2 .ensures)
 
 returns : tie.Need-returns
 returns c = sym (ap codeOf (c .enum-told .given .1))
 
 returns-2 : tie.Need-returns-2
-returns-2 c = rw (c .before .before .worker .given .1) (omega (arith, c .units .ensures))
+returns-2 c = rw (c .before .before .worker .given .1) (c .units .ensures .0)
 
 returns-3 : tie.Need-returns-3
 returns-3 c = rw (c .before .before .worker2 .given .1) (omega (arith, c .units2 .ensures))
@@ -50,12 +46,11 @@ code-of-spec =
     enum-told
     enum-known-worker
     units-requires
-    add-result
     enum-known-worker-2
-    add-result-2
+    add-result
     mul-result
     units-requires-2
-    add-result-3
+    add-result-2
     returns
     returns-2
     returns-3)

@@ -11,28 +11,30 @@ use Rattle.runs.specs.State.{State}
 use Rattle.runs.specs.Steal.{lays}
 use Rattle.runs.specs.Trace.{laying}
 use Rattle.scheduler.specs.Machine.{InRun, Manned, Seated}
+use Rattle.scheduler.specs.Requests.{Pointed}
 use Rattle.scheduler.proofs.Laws.Running.{run-lays}
 use Rattle.scheduler.proofs.steal.lays.Statement.{statement}
 use Rattle.scheduler.proofs.steal.lays.Tie as tie
 
 abbrev Inv-loop : tie.InvT-loop
-Inv-loop began choices n round seats₀ a₀ w₀ seats a w =
+Inv-loop began choices n round cursor₀ seats₀ a₀ w₀ cursor seats a w =
     (w ≤ n)
     × ((p : Plan) (b : List Worker) (s : State) → InRun p n choices round b (laying 0) s → Manned p s a₀ seats₀ → Seated b began
-    → Manned p (lays choices round w b s) a seats)
+    → Pointed choices s cursor₀ → Manned p (lays choices round w b s) a seats × Pointed choices (lays choices round w b s) cursor)
 
 abbrev μ-loop : tie.MeasureT-loop
-μ-loop began choices n round seats₀ a₀ w₀ seats a w = n - w
+μ-loop began choices n round cursor₀ seats₀ a₀ w₀ cursor seats a w = n - w
 
 loop-holds : tie.Need-loop-holds Inv-loop μ-loop
 unfolding lays
-loop-holds c = (omega arith, λ p b s run manned seated. manned)
+loop-holds c = (omega arith, λ p b s run manned seated pointed. (manned, pointed))
 
 lay-requires : tie.Need-lay-requires Inv-loop μ-loop
 lay-requires c κs =
-    let (p, b, s, run, manned, seated) = c .before .before .before .before .pre in
-    let l = c .before .before .loop in
-    (p, _, b, _, run-lays run (l .w) (l .inv .0), l .inv .1 p b s run manned seated, seated, c .before .loop-test .taken)
+    let (p, b, s, run, manned, seated, pointed) = c .before .before .before .before .before .pre in
+    let l = c .before .before .before .loop in
+    let (m, q) = l .inv .1 p b s run manned seated pointed in
+    (p, _, b, _, run-lays run (l .w) (l .inv .0), m, seated, q, c .before .before .loop-test .taken)
 
 add-w : tie.Need-add-w Inv-loop μ-loop
 add-w c = omega arith
@@ -43,19 +45,19 @@ loop-less c = omega arith
 loop-again : tie.Need-loop-again Inv-loop μ-loop
 unfolding lays
 loop-again c =
-    let l = c .before .before .before .loop in (
+    let l = c .before .before .before .before .loop in (
       omega arith,
-      λ p b s run manned seated.
-          rw add-one
-          (c .lay .ensures p _ b _ (run-lays run (l .w) (l .inv .0)) (l .inv .1 p b s run manned seated) seated (c .before .before .loop-test .taken)),
+      λ p b s run manned seated pointed.
+          let (m, q) = l .inv .1 p b s run manned seated pointed in
+          rw add-one (c .lay .ensures p _ b _ (run-lays run (l .w) (l .inv .0)) m seated q (c .before .before .before .loop-test .taken)),
     )
 
 returns : tie.Need-returns Inv-loop μ-loop
 returns c =
-    λ p b s run manned seated.
+    λ p b s run manned seated pointed.
     let l = c .before .loop in
     let e : l .w ≡ c .before .before .before .args .n = omega arith in
-    rw e at (l .inv .1 p b s run manned seated)
+    rw e at (l .inv .1 p b s run manned seated pointed)
 
 pub lays-spec : {M : Type 1} → statement M
 lays-spec =

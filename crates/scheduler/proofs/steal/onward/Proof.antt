@@ -1,0 +1,28 @@
+-- `steal::onward` meets its contract. Assumes nothing.
+use mathlib.Core.Path.{sym, ap, _∙_}
+use native.Mathlib.Omega.{arith}
+use Rattle.scheduler.proofs.Laws.Codes.{place-wraps, place-steps}
+use Rattle.scheduler.proofs.steal.onward.Statement.{statement}
+use Rattle.scheduler.proofs.steal.onward.Tie as tie
+
+add-if1 : tie.Need-add-if1
+add-if1 c = omega (arith, c .pre)
+
+returns : tie.Need-returns
+returns c = λ k e. sym (place-wraps k (c .before .args .count) (rw (← e) (c .before .pre .0)) (rw (← e) (c .if1 .taken)))
+
+add-result : tie.Need-add-result
+add-result c = omega (arith, c .before .pre)
+
+returns-2 : tie.Need-returns-2
+returns-2 c =
+    λ k e. rw e (sym (place-steps k (c .before .args .count) (rw (← e) (c .before .pre .0)) (rw (← e) (c .if1 .left))))
+
+pub onward-spec : {M : Type 1} → statement M
+onward-spec =
+    tie.close
+    (tie.spec
+    add-if1
+    returns
+    add-result
+    returns-2)
