@@ -6,6 +6,7 @@ pub mod Sending
 pub mod Settling
 pub mod Turning
 pub mod Running
+pub mod TallyCell
 pub mod Codes
 pub mod Picks
 pub mod Manning

@@ -5,3 +5,4 @@ pub mod Machine
 pub mod TurnParts
 pub mod Requests
 pub mod Header
+pub mod Count
