@@ -28,7 +28,7 @@ use Rattle.runs.specs.declared.worker.Worker.{Worker}
 use Rattle.runs.specs.declared.worker.Worker.the-variants.{Idle, Holding, Waiting}
 use Rattle.runs.specs.State.{Row, noRow, State, nextOf, workerOf, place}
 use Rattle.runs.specs.Turn.{weight}
-use Rattle.runs.specs.Steal.{dropTop, topOf, oldest}
+use Rattle.runs.specs.Steal.{dropTop, topOf}
 use Rattle.runs.specs.Run.{choicesFit}
 use Rattle.runs.specs.Trace.{Stage, turning, Trace}
 
@@ -124,10 +124,6 @@ pub record Machine (p : Plan) (s : State) (c : Account) (seats rows next missing
 -- the bytes behind the rows are as they were
 abbrev pub Kept : Plan → List ℕ → List ℕ → Type 0
 Kept p rows rows′ = (length rows′ ≡ length rows) × (drop (2 * work p) rows′ ≡ drop (2 * work p) rows)
-
--- the oldest request at each victim
-abbrev pub Oldest : ℕ → List Worker → List ℕ → Type 0
-Oldest n ws who = (length who ≡ 16) × ((v : ℕ) → v < 16 → getD who v 0 ≡ oldest v n ws .who)
 
 -- what a whole run is given
 pub record RunGiven (p : Plan) (n : ℕ) (choices frame first spawn join parent entering : List ℕ) : Type 0 where

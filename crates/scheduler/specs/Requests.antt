@@ -1,17 +1,19 @@
 -- What the second half of a round goes through. Private functions alone cite this file.
 --   Fits             == the numbers of the workers tell them apart
 --   Pointed          == k is the place of the next request's choice
---   Noted k ws ..    == the arrays hold, for each victim, the pick among the workers below k
+--   Queue, Queued    == the line of the requests at a victim, and the sixteen lines, in the order in which they are served: by the
+--                       round they were laid in, then by the worker. The line of victim v begins behind place 16 + v.
 --   Serving          == victim v is about to serve: `who` is the worker that its oldest request is of, plus 1, or 0
 -- Assumes nothing.
-use Prim.Native.Nat.{ℕ, _<_, _%_}
+use Prim.Native.Nat.{ℕ, suc, _+_, _*_, _≤_, _<_, _%_}
 use mathlib.Core.Path.{_≡_}
-use mathlib.Core.List.{List}
+use mathlib.Core.List.{List, [], _∷_}
+use mathlib.Core.Logic.{_⊎_}
 use lib.ListN.{length, getD}
 use Rattle.plan.specs.Plan.{Plan}
 use Rattle.scheduler.specs.declared.account.Account.{Account}
 use Rattle.runs.specs.declared.worker.Worker.{Worker}
-use Rattle.runs.specs.declared.worker.Worker.the-variants.{Idle}
+use Rattle.runs.specs.declared.worker.Worker.the-variants.{Idle, Waiting}
 use Rattle.runs.specs.State.{State}
 use Rattle.runs.specs.Steal.{oldest}
 use Rattle.runs.specs.Trace.{serving}
@@ -23,9 +25,35 @@ Fits ws = (w : ℕ) → Fitting (getD ws w Idle)
 abbrev pub Pointed : List ℕ → State → ℕ → Type 0
 Pointed choices s k = k ≡ s .tally .requests % length choices
 
-pub record Noted (k : ℕ) (ws : List Worker) (who laid : List ℕ) : Type 0 where
-  pub long : (length who ≡ 16) × (length laid ≡ 16)
-  pub picks : (v : ℕ) → v < 16 → record { who = getD who v 0; laid = getD laid v 0 } ≡ oldest v k ws
+-- a worker that does not wait
+abbrev pub Calm : Worker → Type 0
+Calm x = (v l : ℕ) → x ≡ Waiting v l → ⊥
+
+-- w stands in a line
+abbrev pub Stands : ℕ → List ℕ → Type 0
+Stands w [] = ⊥
+Stands w (u ∷ q) = (w ≡ u) ⊎ Stands w q
+
+-- the links from a place on go through the workers of a line, and z is the last place; a link is a worker plus 1, or 0
+abbrev pub Linked : List ℕ → ℕ → List ℕ → ℕ → Type 0
+Linked after place [] z = (getD after place 0 ≡ 0) × (z ≡ place)
+Linked after place (w ∷ q) z = (getD after place 0 ≡ suc w) × Linked after w q z
+
+-- the workers of a line wait on v, and their requests have rising ranks from lo on and below hi
+abbrev pub Ranked : ℕ → List Worker → ℕ → ℕ → List ℕ → Type 0
+Ranked v ws lo hi [] = lo ≤ hi
+Ranked v ws lo hi (w ∷ q) =
+    (l : ℕ) × (w < 16) × (getD ws w Idle ≡ Waiting v l) × (lo ≤ l * 16 + w) × Ranked v ws (suc (l * 16 + w)) hi q
+
+pub record Queue (v : ℕ) (ws : List Worker) (hi : ℕ) (after : List ℕ) (z : ℕ) : Type 0 where
+  pub line : List ℕ
+  pub linked : Linked after (16 + v) line z
+  pub ranked : Ranked v ws 0 hi line
+  pub whole : (w l : ℕ) → getD ws w Idle ≡ Waiting v l → Stands w line
+
+pub record Queued (hi : ℕ) (ws : List Worker) (after last : List ℕ) : Type 0 where
+  pub long : (length after ≡ 32) × (length last ≡ 16)
+  pub queues : (v : ℕ) → v < 16 → Queue v ws hi after (getD last v 0)
 
 pub record Serving (p : Plan) (n : ℕ) (choices : List ℕ) (r : ℕ) (began : List Worker) (s : State) (v who : ℕ) (c : Account)
     (seats slots top len : List ℕ) : Type 0 where

@@ -2,7 +2,7 @@
 ghost use mathlib.Core.Path.{_≡_};
 ghost use mathlib.Core.Bool.{false};
 ghost use mathlib.Core.List.{List};
-ghost use Prim.Native.Nat.{ℕ, _+_, _*_, _/_, _%_, _≤_, _<_};
+ghost use Prim.Native.Nat.{ℕ, suc, _+_, _*_, _/_, _%_, _≤_, _<_};
 ghost use lib.ListN.{length, getD, set};
 ghost use Rattle.plan.specs.Plan.{Plan};
 ghost use Rattle.runs.specs.declared.worker.Worker.{Worker};
@@ -12,7 +12,7 @@ ghost use Rattle.runs.specs.Turn.{turn as turnAt, turnOf, turns as turnsOf, idl
 ghost use Rattle.runs.specs.Run.{round as roundOf, ended};
 ghost use Rattle.runs.specs.Trace.{turning};
 ghost use Rattle.scheduler.specs.Machine.{InRun, Planned, Machine, Kept, Manned};
-ghost use Rattle.scheduler.specs.Requests.{Pointed};
+ghost use Rattle.scheduler.specs.Requests.{Pointed, Queued};
 use crate::account::Account;
 use crate::count::acted;
 use crate::count::idled;
@@ -187,6 +187,8 @@ pub fn round(
     choices: &[u8],
     cursor: &mut usize,
     seats: &mut [u16; 16],
+    after: &mut [u8; 32],
+    last: &mut [u8; 16],
     rows: &mut [u8],
     frame: &[u16; 256],
     first: &[u16; 257],
@@ -199,8 +201,8 @@ pub fn round(
     top: &mut [u16; 16],
     len: &mut [u16; 16],
 ) -> Account
-    requires { ⌜ ((p : Plan) × (r : ℕ) × (s : State) × InRun p n (now choices) r (s .workers) (turning 0) s × Planned p (now frame) (now first) (now spawn) (now join) (now parent) × Machine p s account (now seats) (now rows) (now next) (now missing) (now slots) (now top) (now len) × Pointed (now choices) s (now cursor) × (ended p s ≡ false)) ⌝ }
-    ensures { λ a. ⌜ ((p : Plan) (r : ℕ) (s : State) → InRun p n (now (choices .entry)) r (s .workers) (turning 0) s → Planned p (now (frame .entry)) (now (first .entry)) (now (spawn .entry)) (now (join .entry)) (now (parent .entry)) → Machine p s account (now (seats .entry)) (now (rows .entry)) (now (next .entry)) (now (missing .entry)) (now (slots .entry)) (now (top .entry)) (now (len .entry)) → Pointed (now (choices .entry)) s (now (cursor .entry)) → ended p s ≡ false → Machine p (roundOf p n (now (choices .entry)) s) a (now (seats .exit)) (now (rows .exit)) (now (next .exit)) (now (missing .exit)) (now (slots .exit)) (now (top .exit)) (now (len .exit)) × Kept p (now (rows .entry)) (now (rows .exit)) × Pointed (now (choices .entry)) (roundOf p n (now (choices .entry)) s) (now (cursor .exit))) ⌝ }
+    requires { ⌜ ((p : Plan) × (r : ℕ) × (s : State) × InRun p n (now choices) r (s .workers) (turning 0) s × Planned p (now frame) (now first) (now spawn) (now join) (now parent) × Machine p s account (now seats) (now rows) (now next) (now missing) (now slots) (now top) (now len) × Pointed (now choices) s (now cursor) × Queued (r * 16) (s .workers) (now after) (now last) × (ended p s ≡ false)) ⌝ }
+    ensures { λ a. ⌜ ((p : Plan) (r : ℕ) (s : State) → InRun p n (now (choices .entry)) r (s .workers) (turning 0) s → Planned p (now (frame .entry)) (now (first .entry)) (now (spawn .entry)) (now (join .entry)) (now (parent .entry)) → Machine p s account (now (seats .entry)) (now (rows .entry)) (now (next .entry)) (now (missing .entry)) (now (slots .entry)) (now (top .entry)) (now (len .entry)) → Pointed (now (choices .entry)) s (now (cursor .entry)) → Queued (r * 16) (s .workers) (now (after .entry)) (now (last .entry)) → ended p s ≡ false → Machine p (roundOf p n (now (choices .entry)) s) a (now (seats .exit)) (now (rows .exit)) (now (next .exit)) (now (missing .exit)) (now (slots .exit)) (now (top .exit)) (now (len .exit)) × Kept p (now (rows .entry)) (now (rows .exit)) × Pointed (now (choices .entry)) (roundOf p n (now (choices .entry)) s) (now (cursor .exit)) × Queued (suc r * 16) (roundOf p n (now (choices .entry)) s .workers) (now (after .exit)) (now (last .exit))) ⌝ }
 {
     let r = account.tally.rounds as usize + 1;
     let began = *seats;
@@ -224,5 +226,7 @@ pub fn round(
     if wide8(next[0]) == wide16(first[1]) {
         return t;
     }
-    second_half(t, &began, choices, n, r, cursor, seats, slots, top, len)
+    second_half(
+        t, &began, choices, n, r, cursor, seats, after, last, slots, top, len,
+    )
 }

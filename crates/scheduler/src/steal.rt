@@ -1,20 +1,19 @@
 // Requests and services, the second half of a round (document 01, "Worker and round").
 ghost use mathlib.Core.Path.{_≡_};
 ghost use mathlib.Core.List.{List};
-ghost use Prim.Native.Nat.{ℕ, suc, _%_, _≤_, _<_};
-ghost use lib.ListN.{getD};
+ghost use Prim.Native.Nat.{ℕ, suc, _+_, _*_, _%_, _≤_, _<_};
+ghost use lib.ListN.{length, getD, set};
 ghost use Rattle.plan.specs.Plan.{Plan};
 ghost use Rattle.runs.specs.declared.worker.Worker.{Worker};
-ghost use Rattle.runs.specs.declared.worker.Worker.the-variants.{Idle};
+ghost use Rattle.runs.specs.declared.worker.Worker.the-variants.{Idle, Waiting};
 ghost use Rattle.runs.specs.State.{State};
-ghost use Rattle.runs.specs.Steal.{lay as layOf, lays as laysOf, serve as serveOf, serves as servesOf};
+ghost use Rattle.runs.specs.Steal.{lay as layOf, lays as laysOf, oldest, serve as serveOf, serves as servesOf};
 ghost use Rattle.runs.specs.Trace.{laying, serving};
-ghost use Rattle.scheduler.specs.Machine.{InRun, Manned, Dequed, Seated, Oldest};
-ghost use Rattle.scheduler.specs.Requests.{Fits, Pointed, Noted, Serving};
+ghost use Rattle.scheduler.specs.Machine.{InRun, Manned, Dequed, Seated};
+ghost use Rattle.scheduler.specs.Requests.{Calm, Pointed, Queued, Serving};
 use crate::account::Account;
 use crate::deque::take_top;
 use crate::seat::code_of;
-use crate::seat::worker_at;
 use plan::flat::wide8;
 use runs::tally::Tally;
 use runs::worker::Worker;
@@ -46,6 +45,29 @@ fn onward(at: usize, count: usize) -> usize
     at + 1
 }
 
+// Worker w's request goes behind the others at victim v.
+fn line_up(v: usize, w: usize, after: &mut [u8; 32], last: &mut [u8; 16])
+    requires { ⌜ ((hi : ℕ) × (ws : List Worker) × Queued hi ws (now after) (now last) × (v < 16) × (w < 16)) ⌝ }
+    ensures { λ r. ⌜ ((hi : ℕ) (ws : List Worker) (l : ℕ) → Queued hi ws (now (after .entry)) (now (last .entry)) → length ws ≡ 16 → Calm (getD ws w Idle) → hi ≤ l * 16 + w → Queued (suc (l * 16 + w)) (set ws w (Waiting v l)) (now (after .exit)) (now (last .exit))) ⌝ }
+{
+    let end = wide8(last[v]);
+    after[w] = 0;
+    after[end] = (w + 1) as u8;
+    last[v] = w as u8;
+}
+
+// Worker w, the first at victim v, leaves its line.
+fn step_up(v: usize, w: usize, after: &mut [u8; 32], last: &mut [u8; 16])
+    requires { ⌜ (v < 16) × (w < 16) × (length (now after) ≡ 32) × (length (now last) ≡ 16) ⌝ }
+    ensures { λ r. ⌜ ((hi : ℕ) (ws : List Worker) (l : ℕ) (x : Worker) → Queued hi ws (now (after .entry)) (now (last .entry)) → length ws ≡ 16 → getD ws w Idle ≡ Waiting v l → getD (now (after .entry)) (16 + v) 0 ≡ suc w → Calm x → Queued hi (set ws w x) (now (after .exit)) (now (last .exit))) ⌝ }
+{
+    let behind = after[w];
+    after[16 + v] = behind;
+    if behind == 0 {
+        last[v] = (16 + v) as u8;
+    }
+}
+
 // Worker w lays a request if it was idle as the round began.
 fn lay(
     account: Account,
@@ -55,9 +77,11 @@ fn lay(
     w: usize,
     cursor: &mut usize,
     seats: &mut [u16; 16],
+    after: &mut [u8; 32],
+    last: &mut [u8; 16],
 ) -> Account
-    requires { ⌜ ((p : Plan) × (n : ℕ) × (b : List Worker) × (s : State) × InRun p n (now choices) round b (laying w) s × Manned p s account (now seats) × Seated b (now began) × Pointed (now choices) s (now cursor) × (w < n)) ⌝ }
-    ensures { λ a. ⌜ ((p : Plan) (n : ℕ) (b : List Worker) (s : State) → InRun p n (now (choices .entry)) round b (laying w) s → Manned p s account (now (seats .entry)) → Seated b (now (began .entry)) → Pointed (now (choices .entry)) s (now (cursor .entry)) → w < n → Manned p (layOf (now (choices .entry)) round w (getD b w Idle) s) a (now (seats .exit)) × Pointed (now (choices .entry)) (layOf (now (choices .entry)) round w (getD b w Idle) s) (now (cursor .exit))) ⌝ }
+    requires { ⌜ ((p : Plan) × (n : ℕ) × (b : List Worker) × (s : State) × InRun p n (now choices) round b (laying w) s × Manned p s account (now seats) × Seated b (now began) × Pointed (now choices) s (now cursor) × Queued (round * 16 + w) (s .workers) (now after) (now last) × (w < n)) ⌝ }
+    ensures { λ a. ⌜ ((p : Plan) (n : ℕ) (b : List Worker) (s : State) → InRun p n (now (choices .entry)) round b (laying w) s → Manned p s account (now (seats .entry)) → Seated b (now (began .entry)) → Pointed (now (choices .entry)) s (now (cursor .entry)) → Queued (round * 16 + w) (s .workers) (now (after .entry)) (now (last .entry)) → w < n → Manned p (layOf (now (choices .entry)) round w (getD b w Idle) s) a (now (seats .exit)) × Pointed (now (choices .entry)) (layOf (now (choices .entry)) round w (getD b w Idle) s) (now (cursor .exit)) × Queued (suc (round * 16 + w)) (layOf (now (choices .entry)) round w (getD b w Idle) s .workers) (now (after .exit)) (now (last .exit))) ⌝ }
 {
     if began[w] != 256 {
         return account;
@@ -69,6 +93,7 @@ fn lay(
         laid: round as u16,
     };
     seats[w] = code_of(worker);
+    line_up(wide8(victim), w, after, last);
     *cursor = onward(at, choices.len());
     Account {
         weight: account.weight,
@@ -84,53 +109,19 @@ fn lays(
     round: usize,
     cursor: &mut usize,
     seats: &mut [u16; 16],
+    after: &mut [u8; 32],
+    last: &mut [u8; 16],
 ) -> Account
-    requires { ⌜ ((p : Plan) × (b : List Worker) × (s : State) × InRun p n (now choices) round b (laying 0) s × Manned p s account (now seats) × Seated b (now began) × Pointed (now choices) s (now cursor)) ⌝ }
-    ensures { λ a. ⌜ ((p : Plan) (b : List Worker) (s : State) → InRun p n (now (choices .entry)) round b (laying 0) s → Manned p s account (now (seats .entry)) → Seated b (now (began .entry)) → Pointed (now (choices .entry)) s (now (cursor .entry)) → Manned p (laysOf (now (choices .entry)) round n b s) a (now (seats .exit)) × Pointed (now (choices .entry)) (laysOf (now (choices .entry)) round n b s) (now (cursor .exit))) ⌝ }
+    requires { ⌜ ((p : Plan) × (b : List Worker) × (s : State) × InRun p n (now choices) round b (laying 0) s × Manned p s account (now seats) × Seated b (now began) × Pointed (now choices) s (now cursor) × Queued (round * 16) (s .workers) (now after) (now last)) ⌝ }
+    ensures { λ a. ⌜ ((p : Plan) (b : List Worker) (s : State) → InRun p n (now (choices .entry)) round b (laying 0) s → Manned p s account (now (seats .entry)) → Seated b (now (began .entry)) → Pointed (now (choices .entry)) s (now (cursor .entry)) → Queued (round * 16) (s .workers) (now (after .entry)) (now (last .entry)) → Manned p (laysOf (now (choices .entry)) round n b s) a (now (seats .exit)) × Pointed (now (choices .entry)) (laysOf (now (choices .entry)) round n b s) (now (cursor .exit)) × Queued (round * 16 + n) (laysOf (now (choices .entry)) round n b s .workers) (now (after .exit)) (now (last .exit))) ⌝ }
 {
     let mut a = account;
     let mut w = 0;
     while w < n {
-        a = lay(a, began, choices, round, w, cursor, seats);
+        a = lay(a, began, choices, round, w, cursor, seats, after, last);
         w += 1;
     }
     a
-}
-
-// Notes worker w's request where it is the oldest at its victim so far: `who` has the worker plus 1, or 0.
-fn note(seats: &[u16; 16], w: usize, who: &mut [u8; 16], laid: &mut [u16; 16])
-    requires { ⌜ ((ws : List Worker) × Seated ws (now seats) × Fits ws × (w < 16) × Noted w ws (now who) (now laid)) ⌝ }
-    ensures { λ r. ⌜ ((ws : List Worker) → Seated ws (now (seats .entry)) → Fits ws → Noted w ws (now (who .entry)) (now (laid .entry)) → Noted (suc w) ws (now (who .exit)) (now (laid .exit))) ⌝ }
-{
-    let is = worker_at(seats[w]);
-    match is {
-        Worker::Idle => {}
-        Worker::Holding(_) => {}
-        Worker::Waiting { victim, laid: l } => {
-            let v = wide8(victim);
-            if who[v] == 0 {
-                who[v] = (w + 1) as u8;
-                laid[v] = l;
-                return;
-            }
-            if l < laid[v] {
-                who[v] = (w + 1) as u8;
-                laid[v] = l;
-            }
-        }
-    }
-}
-
-// The oldest request at each victim, in one pass.
-fn oldest(seats: &[u16; 16], n: usize, who: &mut [u8; 16], laid: &mut [u16; 16])
-    requires { ⌜ ((ws : List Worker) × Seated ws (now seats) × Fits ws × (n ≤ 16) × Noted 0 ws (now who) (now laid)) ⌝ }
-    ensures { λ r. ⌜ ((ws : List Worker) → Seated ws (now (seats .entry)) → Fits ws → Noted 0 ws (now (who .entry)) (now (laid .entry)) → Noted n ws (now (who .exit)) (now (laid .exit))) ⌝ }
-{
-    let mut w = 0;
-    while w < n {
-        note(seats, w, who, laid);
-        w += 1;
-    }
 }
 
 // The counts after a steal, and after a miss.
@@ -198,37 +189,41 @@ fn give(
 fn serve(
     account: Account,
     v: usize,
-    who: usize,
     seats: &mut [u16; 16],
+    after: &mut [u8; 32],
+    last: &mut [u8; 16],
     slots: &[u8; 4096],
     top: &mut [u16; 16],
     len: &mut [u16; 16],
 ) -> Account
-    requires { ⌜ ((p : Plan) × (n : ℕ) × (choices : List ℕ) × (r : ℕ) × (b : List Worker) × (s : State) × Serving p n choices r b s v who account (now seats) (now slots) (now top) (now len)) ⌝ }
-    ensures { λ a. ⌜ ((p : Plan) (n : ℕ) (choices : List ℕ) (r : ℕ) (b : List Worker) (s : State) → Serving p n choices r b s v who account (now (seats .entry)) (now (slots .entry)) (now (top .entry)) (now (len .entry)) → Manned p (serveOf v who s) a (now (seats .exit)) × Dequed (serveOf v who s .deques) (now (slots .entry)) (now (top .exit)) (now (len .exit))) ⌝ }
+    requires { ⌜ ((p : Plan) × (n : ℕ) × (choices : List ℕ) × (r : ℕ) × (b : List Worker) × (hi : ℕ) × (s : State) × InRun p n choices r b (serving v) s × (v < n) × Manned p s account (now seats) × Queued hi (s .workers) (now after) (now last) × Dequed (s .deques) (now slots) (now top) (now len)) ⌝ }
+    ensures { λ a. ⌜ ((p : Plan) (n : ℕ) (choices : List ℕ) (r : ℕ) (b : List Worker) (hi : ℕ) (s : State) → InRun p n choices r b (serving v) s → (v < n) → Manned p s account (now (seats .entry)) → Queued hi (s .workers) (now (after .entry)) (now (last .entry)) → Dequed (s .deques) (now (slots .entry)) (now (top .entry)) (now (len .entry)) → Manned p (serveOf v (oldest v n (s .workers) .who) s) a (now (seats .exit)) × Queued hi (serveOf v (oldest v n (s .workers) .who) s .workers) (now (after .exit)) (now (last .exit)) × Dequed (serveOf v (oldest v n (s .workers) .who) s .deques) (now (slots .entry)) (now (top .exit)) (now (len .exit))) ⌝ }
 {
+    let who = wide8(after[16 + v]);
     if who == 0 {
         return account;
     }
+    step_up(v, who - 1, after, last);
     give(account, who - 1, v, seats, slots, top, len)
 }
 
 fn serves(
     account: Account,
     n: usize,
-    who: &[u8; 16],
     seats: &mut [u16; 16],
+    after: &mut [u8; 32],
+    last: &mut [u8; 16],
     slots: &[u8; 4096],
     top: &mut [u16; 16],
     len: &mut [u16; 16],
 ) -> Account
-    requires { ⌜ ((p : Plan) × (choices : List ℕ) × (r : ℕ) × (b : List Worker) × (s : State) × InRun p n choices r b (serving 0) s × Manned p s account (now seats) × Dequed (s .deques) (now slots) (now top) (now len) × Oldest n (s .workers) (now who)) ⌝ }
-    ensures { λ a. ⌜ ((p : Plan) (choices : List ℕ) (r : ℕ) (b : List Worker) (s : State) → InRun p n choices r b (serving 0) s → Manned p s account (now (seats .entry)) → Dequed (s .deques) (now (slots .entry)) (now (top .entry)) (now (len .entry)) → Oldest n (s .workers) (now (who .entry)) → Manned p (servesOf n n s) a (now (seats .exit)) × Dequed (servesOf n n s .deques) (now (slots .entry)) (now (top .exit)) (now (len .exit))) ⌝ }
+    requires { ⌜ ((p : Plan) × (choices : List ℕ) × (r : ℕ) × (b : List Worker) × (hi : ℕ) × (s : State) × InRun p n choices r b (serving 0) s × Manned p s account (now seats) × Queued hi (s .workers) (now after) (now last) × Dequed (s .deques) (now slots) (now top) (now len)) ⌝ }
+    ensures { λ a. ⌜ ((p : Plan) (choices : List ℕ) (r : ℕ) (b : List Worker) (hi : ℕ) (s : State) → InRun p n choices r b (serving 0) s → Manned p s account (now (seats .entry)) → Queued hi (s .workers) (now (after .entry)) (now (last .entry)) → Dequed (s .deques) (now (slots .entry)) (now (top .entry)) (now (len .entry)) → Manned p (servesOf n n s) a (now (seats .exit)) × Queued hi (servesOf n n s .workers) (now (after .exit)) (now (last .exit)) × Dequed (servesOf n n s .deques) (now (slots .entry)) (now (top .exit)) (now (len .exit))) ⌝ }
 {
     let mut a = account;
     let mut v = 0;
     while v < n {
-        a = serve(a, v, wide8(who[v]), seats, slots, top, len);
+        a = serve(a, v, seats, after, last, slots, top, len);
         v += 1;
     }
     a
@@ -243,16 +238,17 @@ pub fn second_half(
     round: usize,
     cursor: &mut usize,
     seats: &mut [u16; 16],
+    after: &mut [u8; 32],
+    last: &mut [u8; 16],
     slots: &[u8; 4096],
     top: &mut [u16; 16],
     len: &mut [u16; 16],
 ) -> Account
-    requires { ⌜ ((p : Plan) × (b : List Worker) × (s : State) × InRun p n (now choices) round b (laying 0) s × Manned p s account (now seats) × Seated b (now began) × Pointed (now choices) s (now cursor) × Dequed (s .deques) (now slots) (now top) (now len)) ⌝ }
-    ensures { λ a. ⌜ ((p : Plan) (b : List Worker) (s : State) → InRun p n (now (choices .entry)) round b (laying 0) s → Manned p s account (now (seats .entry)) → Seated b (now (began .entry)) → Pointed (now (choices .entry)) s (now (cursor .entry)) → Dequed (s .deques) (now (slots .entry)) (now (top .entry)) (now (len .entry)) → Manned p (servesOf n n (laysOf (now (choices .entry)) round n b s)) a (now (seats .exit)) × Dequed (servesOf n n (laysOf (now (choices .entry)) round n b s) .deques) (now (slots .entry)) (now (top .exit)) (now (len .exit)) × Pointed (now (choices .entry)) (servesOf n n (laysOf (now (choices .entry)) round n b s)) (now (cursor .exit))) ⌝ }
+    requires { ⌜ ((p : Plan) × (b : List Worker) × (s : State) × InRun p n (now choices) round b (laying 0) s × Manned p s account (now seats) × Seated b (now began) × Pointed (now choices) s (now cursor) × Queued (round * 16) (s .workers) (now after) (now last) × Dequed (s .deques) (now slots) (now top) (now len)) ⌝ }
+    ensures { λ a. ⌜ ((p : Plan) (b : List Worker) (s : State) → InRun p n (now (choices .entry)) round b (laying 0) s → Manned p s account (now (seats .entry)) → Seated b (now (began .entry)) → Pointed (now (choices .entry)) s (now (cursor .entry)) → Queued (round * 16) (s .workers) (now (after .entry)) (now (last .entry)) → Dequed (s .deques) (now (slots .entry)) (now (top .entry)) (now (len .entry)) → Manned p (servesOf n n (laysOf (now (choices .entry)) round n b s)) a (now (seats .exit)) × Dequed (servesOf n n (laysOf (now (choices .entry)) round n b s) .deques) (now (slots .entry)) (now (top .exit)) (now (len .exit)) × Pointed (now (choices .entry)) (servesOf n n (laysOf (now (choices .entry)) round n b s)) (now (cursor .exit)) × Queued (round * 16 + 16) (servesOf n n (laysOf (now (choices .entry)) round n b s) .workers) (now (after .exit)) (now (last .exit))) ⌝ }
 {
-    let mut who = [0u8; 16];
-    let mut laid = [0u16; 16];
-    let a = lays(account, began, choices, n, round, cursor, seats);
-    oldest(seats, n, &mut who, &mut laid);
-    serves(a, n, &who, seats, slots, top, len)
+    let a = lays(
+        account, began, choices, n, round, cursor, seats, after, last,
+    );
+    serves(a, n, seats, after, last, slots, top, len)
 }

@@ -21,13 +21,14 @@ use Rattle.runs.specs.Turn.{turns}
 use Rattle.runs.specs.Steal.{laid, lay, lays, oldest, serves}
 use Rattle.runs.specs.Run.{ended, round}
 use Rattle.runs.specs.Trace.{Stage, turning, laying, goes-on}
-use Rattle.scheduler.specs.Requests.{Pointed}
+use Rattle.scheduler.specs.Requests.{Pointed, Queued}
 use Rattle.scheduler.specs.Machine.{Planned, Progressed, Dequed, Manned, InRun, Machine}
 use Rattle.runs.proofs.Laws.Rounds.{rounds-known}
 use Rattle.runs.proofs.Laws.Rows.{lay-still, serve-still}
 use Rattle.runs.proofs.Laws.Tallies.{turn-requests, serve-requests}
 use Rattle.runs.proofs.Laws.Whole.{round-last, round-on}
 use Rattle.scheduler.proofs.Laws.Running.{run-sound, run-at, run-turns}
+use Rattle.scheduler.proofs.Laws.Picks.{turns-queued}
 
 lays-still : (choices : List ℕ) (r k : ℕ) (b : List Worker) (s : State)
     → (lays choices r k b s .next ≡ s .next) × (lays choices r k b s .rows ≡ s .rows)
@@ -120,12 +121,12 @@ module _ {p : Plan} {n : ℕ} {choices : List ℕ} {r : ℕ} {s : State} {c : Ac
   round-counted : suc (s .tally .rounds) ≡ c .tally .rounds + 1
   round-counted = omega (arith, ap (λ t. t .rounds) (manned .counts))
 
+  pub round-known : c .tally .rounds + 1 ≡ r
+  round-known = omega (arith, round-counted, rounds-known p (run .accepted) n (run .some) (run .most) choices (run .trace))
+
   -- the round that begins is the one after those that the tally counts
   pub round-now : InRun p n choices (c .tally .rounds + 1) (s .workers) (turning 0) s
-  round-now =
-      let known : c .tally .rounds + 1 ≡ r =
-      omega (arith, round-counted, rounds-known p (run .accepted) n (run .some) (run .most) choices (run .trace)) in
-      rw known run
+  round-now = rw round-known run
 
   -- the round after the turns of its first half
   module _ {frame first spawn join parent seats′ rows next missing slots top len : List ℕ} {c′ : Account}
@@ -140,6 +141,13 @@ module _ {p : Plan} {n : ℕ} {choices : List ℕ} {r : ℕ} {s : State} {c : Ac
     ends-pointed e q =
         let last = ended-there (run-turns round-now n (le-refl n)) planned (half .progressed) q in
         rw (round-last p n choices (c .tally .rounds + 1) s round-counted last, turns-requests p (c .tally .rounds + 1) n (s .workers) s) e
+
+    pub ends-queued : {hi : ℕ} {after last : List ℕ} → Queued hi (s .workers) after last → getD next 0 0 ≡ getD first 1 0
+        → Queued hi (round p n choices s .workers) after last
+    ends-queued e q =
+        let turned = run-turns round-now n (le-refl n) in
+        let last = ended-there turned planned (half .progressed) q in
+        rw (round-last p n choices (c .tally .rounds + 1) s round-counted last) (turns-queued round-now n (le-refl n) e)
 
     module _ (more : getD next 0 0 ≢ getD first 1 0) where
       pub round-lays : InRun p n choices (c .tally .rounds + 1) (s .workers) (laying 0) (turns p (c .tally .rounds + 1) n (s .workers) s)
@@ -162,5 +170,13 @@ module _ {p : Plan} {n : ℕ} {choices : List ℕ} {r : ℕ} {s : State} {c : Ac
           → Pointed choices (serves n n (lays choices (c .tally .rounds + 1) n (s .workers) (turns p (c .tally .rounds + 1) n (s .workers) s))) k
           → Pointed choices (round p n choices s) k
       serves-pointed e =
+          let turned = run-turns round-now n (le-refl n) in
+          rw (round-on p n choices (c .tally .rounds + 1) s round-counted (ended-not turned planned (half .progressed) more)) e
+
+      pub serves-queued : {hi : ℕ} {after last : List ℕ}
+          → Queued hi (serves n n (lays choices (c .tally .rounds + 1) n (s .workers) (turns p (c .tally .rounds + 1) n (s .workers) s)) .workers)
+          after last
+          → Queued hi (round p n choices s .workers) after last
+      serves-queued e =
           let turned = run-turns round-now n (le-refl n) in
           rw (round-on p n choices (c .tally .rounds + 1) s round-counted (ended-not turned planned (half .progressed) more)) e

@@ -2,15 +2,31 @@
 use mathlib.Core.Path.{sym, _∙_}
 use mathlib.Core.Logic.{_≢_}
 use lib.ListN.{getD}
+use Prim.Native.Nat.{ℕ, _+_, _*_}
+use mathlib.Core.List.{List}
+use native.Mathlib.Nat.{le-refl}
+use native.Mathlib.Omega.{arith}
 use borrow.Author.Needs.{needs}
+use Rattle.plan.specs.Plan.{Plan}
+use Rattle.scheduler.specs.declared.account.Account.{Account}
+use Rattle.runs.specs.State.{State}
+use Rattle.runs.specs.Trace.{turning}
+use Rattle.runs.specs.Turn.{turns}
+use Rattle.scheduler.specs.Machine.{InRun, Manned}
+use Rattle.scheduler.specs.Requests.{Queued}
+use Rattle.scheduler.proofs.Laws.Queues.{queued-later}
+use Rattle.scheduler.proofs.Laws.Picks.{turns-queued}
 use Rattle.scheduler.proofs.Laws.Halves.{
   round-now,
   round-ends,
   round-lays,
   round-serves,
   turns-requests,
+  round-known,
   ends-pointed,
+  ends-queued,
   serves-pointed,
+  serves-queued,
 }
 use Rattle.scheduler.proofs.round.round.Statement.{statement}
 use Rattle.scheduler.proofs.round.round.Tie as tie
@@ -23,7 +39,7 @@ add-r c = search needs
 
 turns-requires : tie.Need-turns-requires
 turns-requires c κs =
-    let (p, r, s, run, planned, machine, pointed, on) = c .before .before .before .before .before .before .before .before .before .before .before .pre in
+    let (p, r, s, run, planned, machine, pointed, queued, on) = c .before .before .before .before .before .before .before .before .before .before .before .pre in
     (p, _, s .workers, s, round-now run (machine .manned), planned, machine)
 
 element-copy-out-wide8 : tie.Need-element-copy-out-wide8
@@ -43,10 +59,18 @@ same-length c = search needs
 
 returns : tie.Need-returns
 returns c =
-    λ p r s run planned machine pointed on.
+    λ p r s run planned machine pointed queued on.
     let (half, kept) = c .before .before .before .before .before .before .before .turns .ensures p _ (s .workers) s (round-now run (machine .manned)) planned machine in
     let there = sym (c .before .before .before .wide8 .ensures .0) ∙ (c .if1 .taken ∙ c .before .wide16 .ensures .0) in
-    (round-ends run (machine .manned) planned half there, kept, ends-pointed run (machine .manned) planned half pointed there)
+    (round-ends run (machine .manned) planned half there, kept, ends-pointed run (machine .manned) planned half pointed there,
+    queued-later (ends-queued run (machine .manned) planned half queued there) _ (omega arith))
+
+-- the lines after the turns
+lined : {p : Plan} {n : ℕ} {choices : List ℕ} {r : ℕ} {s : State} {c : Account} {seats after last : List ℕ}
+    → (run : InRun p n choices r (s .workers) (turning 0) s) → Manned p s c seats → Queued (r * 16) (s .workers) after last
+    → Queued ((c .tally .rounds + 1) * 16) (turns p (c .tally .rounds + 1) n (s .workers) s .workers) after last
+lined {n = n} run manned queued =
+    queued-later (turns-queued (round-now run manned) n (le-refl n) queued) _ (omega (arith, round-known run manned))
 
 -- job 0 has an action left
 not-there : (c : tie.Else1)
@@ -55,21 +79,22 @@ not-there c q = c .if1 .left (c .before .before .before .wide8 .ensures .0 ∙ (
 
 second-half-requires : tie.Need-second-half-requires
 second-half-requires c κs =
-    let (p, r, s, run, planned, machine, pointed, on) = c .before .before .before .before .before .before .before .before .before .before .before .before .before .before .before .before .before .before .before .before .before .before .before .before .before .pre in
-    let (half, kept) = c .before .before .before .before .before .before .before .before .before .before .before .before .before .turns .ensures p _ (s .workers) s (round-now run (machine .manned)) planned machine in
-    (p, s .workers, _, round-lays run (machine .manned) planned half (not-there (c .before .before .before .before .before .before)), half .manned, machine .manned .seated, rw turns-requests pointed, half .dequed)
+    let (p, r, s, run, planned, machine, pointed, queued, on) = c .before .before .before .before .before .before .before .before .before .before .before .before .before .before .before .before .before .before .before .before .before .before .before .before .before .before .before .pre in
+    let (half, kept) = c .before .before .before .before .before .before .before .before .before .before .before .before .before .before .before .turns .ensures p _ (s .workers) s (round-now run (machine .manned)) planned machine in
+    (p, s .workers, _, round-lays run (machine .manned) planned half (not-there (c .before .before .before .before .before .before .before .before)), half .manned, machine .manned .seated, rw turns-requests pointed, lined run (machine .manned) queued, half .dequed)
 
 same-length-2 : tie.Need-same-length-2
 same-length-2 c = search needs
 
 returns-2 : tie.Need-returns-2
 returns-2 c =
-    λ p r s run planned machine pointed on.
-    let (half, kept) = c .before .before .before .before .before .before .before .before .before .before .before .before .before .before .turns .ensures p _ (s .workers) s (round-now run (machine .manned)) planned machine in
-    let more = not-there (c .before .before .before .before .before .before .before) in
+    λ p r s run planned machine pointed queued on.
+    let (half, kept) = c .before .before .before .before .before .before .before .before .before .before .before .before .before .before .before .before .turns .ensures p _ (s .workers) s (round-now run (machine .manned)) planned machine in
+    let more = not-there (c .before .before .before .before .before .before .before .before .before) in
     let on = round-lays run (machine .manned) planned half more in
-    let (account, deques, place) = c .second-half .ensures p (s .workers) _ on (half .manned) (machine .manned .seated) (rw turns-requests pointed) (half .dequed) in
-    (round-serves run (machine .manned) planned half more account deques, kept, serves-pointed run (machine .manned) planned half more place)
+    let (account, deques, place, lines) = c .second-half .ensures p (s .workers) _ on (half .manned) (machine .manned .seated) (rw turns-requests pointed) (lined run (machine .manned) queued) (half .dequed) in
+    (round-serves run (machine .manned) planned half more account deques, kept, serves-pointed run (machine .manned) planned half more place,
+    queued-later (serves-queued run (machine .manned) planned half more lines) _ (omega (arith, round-known run (machine .manned))))
 
 pub round-spec : {M : Type 1} → statement M
 round-spec =

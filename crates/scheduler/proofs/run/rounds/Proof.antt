@@ -11,13 +11,13 @@ use Rattle.scheduler.proofs.run.rounds.Statement.{statement}
 use Rattle.scheduler.proofs.run.rounds.Tie as tie
 
 abbrev Inv-loop : tie.InvT-loop
-Inv-loop n choices rows₀ frame first spawn join parent missing₀ next₀ slots₀ top₀ len₀ seats₀ cursor₀ weight a₀ rows missing next slots top len seats cursor a =
+Inv-loop n choices rows₀ frame first spawn join parent missing₀ next₀ slots₀ top₀ len₀ seats₀ cursor₀ after₀ last₀ weight a₀ rows missing next slots top len seats cursor after last a =
     ((p : Plan) × RunGiven p n choices frame first spawn join parent missing₀ × (2 * work p ≤ length rows₀))
     × ((p : Plan) → RunGiven p n choices frame first spawn join parent missing₀ → 2 * work p ≤ length rows₀
-    → Standing p n choices a cursor rows₀ seats rows next missing slots top len)
+    → Standing p n choices a cursor rows₀ seats after last rows next missing slots top len)
 
 abbrev μ-loop : tie.MeasureT-loop
-μ-loop n choices rows₀ frame first spawn join parent missing₀ next₀ slots₀ top₀ len₀ seats₀ cursor₀ weight a₀ rows missing next slots top len seats cursor a =
+μ-loop n choices rows₀ frame first spawn join parent missing₀ next₀ slots₀ top₀ len₀ seats₀ cursor₀ after₀ last₀ weight a₀ rows missing next slots top len seats cursor after last a =
     2048 - a .tally .rounds
 
 array-write-seats : tie.Need-array-write-seats Inv-loop μ-loop
@@ -53,20 +53,20 @@ test c = omega (arith, c .if1 .taken, c .before .wide16 .ensures, c .before .bef
 
 round-requires : tie.Need-round-requires Inv-loop μ-loop
 round-requires c κs =
-    let i = c .before .before .before .before .before .before .before .before .before .before .before .before .loop .inv in
+    let i = c .before .before .before .before .before .before .before .before .before .before .before .before .before .before .loop .inv in
     let (p, g, room) = i .0 in
-    round-given p _ _ _ _ _ _ _ _ g _ _ _ _ _ _ _ _ _ _ (i .1 p g room) (test (c .before .before .before .before .before .before .before .before))
+    round-given p _ _ _ _ _ _ _ _ g _ _ _ _ _ _ _ _ _ _ _ _ (i .1 p g room) (test (c .before .before .before .before .before .before .before .before .before .before))
 
 loop-less : tie.Need-loop-less Inv-loop μ-loop
 loop-less c =
-    let i = c .before .before .before .before .before .before .before .before .before .before .before .before .before .before .before .loop .inv in
+    let i = c .before .before .before .before .before .before .before .before .before .before .before .before .before .before .before .before .before .loop .inv in
     let (p, g, room) = i .0 in
-    round-less p _ _ _ _ _ _ _ _ g _ _ _ _ _ _ _ _ _ _ (i .1 p g room) (test (c .before .before .before .before .before .before .before .before .before .before .before)) _ _ _ _ _ _ _ _ _ (c .before .before .round .ensures)
+    round-less p _ _ _ _ _ _ _ _ g _ _ _ _ _ _ _ _ _ _ _ _ (i .1 p g room) (test (c .before .before .before .before .before .before .before .before .before .before .before .before .before)) _ _ _ _ _ _ _ _ _ _ _ (c .before .before .round .ensures)
 
 loop-again : tie.Need-loop-again Inv-loop μ-loop
 loop-again c =
-    let i = c .before .before .before .before .before .before .before .before .before .before .before .before .before .before .before .loop .inv in
-    (i .0, λ p g room. round-stands p _ _ _ _ _ _ _ _ g _ _ _ _ _ _ _ _ _ _ (i .1 p g room) (test (c .before .before .before .before .before .before .before .before .before .before .before)) _ _ _ _ _ _ _ _ _ (c .before .before .round .ensures))
+    let i = c .before .before .before .before .before .before .before .before .before .before .before .before .before .before .before .before .before .loop .inv in
+    (i .0, λ p g room. round-stands p _ _ _ _ _ _ _ _ g _ _ _ _ _ _ _ _ _ _ _ _ (i .1 p g room) (test (c .before .before .before .before .before .before .before .before .before .before .before .before .before)) _ _ _ _ _ _ _ _ _ _ _ (c .before .before .round .ensures))
 
 same-length : tie.Need-same-length Inv-loop μ-loop
 same-length c =
@@ -76,7 +76,7 @@ same-length c =
 
 returns : tie.Need-returns Inv-loop μ-loop
 returns c = λ p g room.
-    ends p _ _ _ _ _ _ _ _ g _ _ _ _ _ _ _ _ _ _ (c .before .before .before .before .before .loop .inv .1 p g room)
+    ends p _ _ _ _ _ _ _ _ g _ _ _ _ _ _ _ _ _ _ _ _ (c .before .before .before .before .before .loop .inv .1 p g room)
     (omega (arith, c .before .if1 .left, c .before .before .wide16 .ensures, c .before .before .before .before .wide8 .ensures))
 
 pub rounds-spec : {M : Type 1} → statement M

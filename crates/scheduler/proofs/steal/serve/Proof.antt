@@ -1,36 +1,107 @@
--- `steal::serve` meets its contract. Assumes nothing.
-use Prim.Native.Nat.{suc, _-_}
-use mathlib.Core.Path.{_≡_}
+-- `steal::serve` meets its contract: the first of the victim's line is served, if there is one. Assumes nothing.
+use Prim.Native.Nat.{ℕ, suc, _-_, _<_}
+use mathlib.Core.Path.{_≡_, sym, _∙_}
+use mathlib.Core.List.{List}
 use native.Mathlib.Omega.{arith}
-use Rattle.runs.specs.Steal.{serve}
+use borrow.Author.Needs.{needs}
+use Rattle.plan.specs.Plan.{Plan}
+use Rattle.runs.specs.declared.worker.Worker.{Worker}
+use Rattle.runs.specs.State.{State}
+use Rattle.runs.specs.Steal.{oldest, serve}
+use Rattle.runs.specs.Trace.{serving}
+use Rattle.runs.proofs.Laws.ServeSound.{oldest-waits}
+use Rattle.scheduler.specs.Machine.{InRun}
+use Rattle.scheduler.specs.Requests.{Queued}
+use Rattle.scheduler.proofs.Laws.Running.{run-sound}
+use Rattle.scheduler.proofs.Laws.Picks.{first-oldest, serve-queued}
 use Rattle.scheduler.proofs.steal.serve.Statement.{statement}
 use Rattle.scheduler.proofs.steal.serve.Tie as tie
 
-someone : (c : tie.Else1) → suc (c .before .args .who - 1) ≡ c .before .args .who
-someone c = omega arith
+add-wide8 : tie.Need-add-wide8
+add-wide8 c = omega (arith, c .pre .7 .most, c .pre .8)
+
+element-copy-out-wide8 : tie.Need-element-copy-out-wide8
+element-copy-out-wide8 c = omega (arith, c .pre .7 .most, c .pre .8)
+
+wide8-requires : tie.Need-wide8-requires
+wide8-requires c κs = search needs
+
+-- what was read is the pick
+reads : (c : tie.After-wide8) (p : Plan) (n : ℕ) (choices : List ℕ) (r : ℕ) (b : List Worker) (hi : ℕ) (s : State)
+    → InRun p n choices r b (serving (c .before .before .args .v)) s → c .before .before .args .v < n
+    → Queued hi (s .workers) (c .before .before .args .after .now) (c .before .before .args .last .now)
+    → c .wide8 .result ≡ oldest (c .before .before .args .v) n (s .workers) .who
+reads c p n choices r b hi s run known queued = c .wide8 .ensures .0 ∙ first-oldest run known queued
 
 returns : tie.Need-returns
 unfolding serve
-returns c = λ p n choices r b s g. rw (c .if1 .taken) (g .manned, g .dequed)
+returns c =
+    λ p n choices r b hi s run known manned queued dequed.
+    rw (sym (reads (c .before) p n choices r b hi s run known queued) ∙ c .if1 .taken) (manned, queued, dequed)
+
+picks : (c : tie.Else1) (p : Plan) (n : ℕ) (choices : List ℕ) (r : ℕ) (b : List Worker) (hi : ℕ) (s : State)
+    → InRun p n choices r b (serving (c .before .before .before .args .v)) s → c .before .before .before .args .v < n
+    → Queued hi (s .workers) (c .before .before .before .args .after .now) (c .before .before .before .args .last .now)
+    → suc (c .before .wide8 .result - 1) ≡ oldest (c .before .before .before .args .v) n (s .workers) .who
+picks c p n choices r b hi s run known queued =
+    let e = reads (c .before) p n choices r b hi s run known queued in omega (arith, c .if1 .left)
+
+sub-step-up : tie.Need-sub-step-up
+sub-step-up c = omega arith
+
+step-up-requires : tie.Need-step-up-requires
+step-up-requires c κs =
+    let (p, n, choices, r, b, hi, s, run, known, manned, queued, dequed) = c .before .before .before .before .before .pre in
+    let e = picks (c .before .before) p n choices r b hi s run known queued in (
+      omega (arith, run .most),
+      omega (arith, run .most, oldest-waits (c .before .before .before .before .before .args .v) n (s .workers) _ (sym e) .0),
+      queued .long .0,
+      queued .long .1,
+    )
 
 sub-give : tie.Need-sub-give
 sub-give c = omega arith
 
 give-requires : tie.Need-give-requires
 give-requires c κs =
-    let (p, n, choices, r, b, s, g) = c .before .before .before .before .pre in
-    (p, n, choices, r, b, s, rw (someone (c .before .before .before)) g)
+    let (p, n, choices, r, b, hi, s, run, known, manned, queued, dequed) = c .before .before .before .before .before .before .before .before .before .pre in (
+      p,
+      n,
+      choices,
+      r,
+      b,
+      s,
+      record {
+        run = run;
+        known = known;
+        manned = manned;
+        dequed = dequed;
+        picked = picks (c .before .before .before .before .before .before) p n choices r b hi s run known queued;
+      },
+    )
 
 returns-2 : tie.Need-returns-2
 returns-2 c =
-    let e = someone (c .before .before .before .before) in
-    λ p n choices r b s g. rw e at (c .give .ensures p n choices r b s (rw e g))
+    λ p n choices r b hi s run known manned queued dequed.
+    let e = picks (c .before .before .before .before .before .before .before) p n choices r b hi s run known queued in
+    let (m, d) = c .give .ensures p n choices r b s (record { run = run; known = known; manned = manned; dequed = dequed; picked = e }) in
+    let (h, l, w) = oldest-waits (c .before .before .before .before .before .before .before .before .before .before .args .v) n (s .workers) _ (sym e) in
+    rw (sym e)
+    (m,
+    serve-queued (c .before .before .before .before .before .before .before .before .before .before .args .v) _ s
+    (λ x calm. c .before .before .before .before .step-up .ensures hi (s .workers) l x queued (run-sound run .workers) w (first-oldest run known queued ∙ sym e) calm),
+    d)
 
 pub serve-spec : {M : Type 1} → statement M
 serve-spec =
     tie.close
     (tie.spec
+    add-wide8
+    element-copy-out-wide8
+    wide8-requires
     returns
+    sub-step-up
+    step-up-requires
     sub-give
     give-requires
     returns-2)
