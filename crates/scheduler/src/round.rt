@@ -227,6 +227,17 @@ pub fn round(
         return t;
     }
     second_half(
-        t, &began, choices, n, r, cursor, seats, after, last, slots, top, len,
+        t,
+        &began,
+        choices,
+        n,
+        r,
+        cursor,
+        seats,
+        after,
+        last,
+        slots,
+        top,
+        len,
     )
 }

@@ -52,7 +52,22 @@ fn rounds<'a>(
     let mut cursor = 0usize;
     let mut after = [0u8; 32];
     let mut last = [
-        16u8, 17, 18, 19, 20, 21, 22, 23, 24, 25, 26, 27, 28, 29, 30, 31,
+        16u8,
+        17,
+        18,
+        19,
+        20,
+        21,
+        22,
+        23,
+        24,
+        25,
+        26,
+        27,
+        28,
+        29,
+        30,
+        31,
     ];
     let weight = units(frame[0]);
     let mut a = Account {

@@ -248,7 +248,15 @@ pub fn second_half(
     ensures { λ a. ⌜ ((p : Plan) (b : List Worker) (s : State) → InRun p n (now (choices .entry)) round b (laying 0) s → Manned p s account (now (seats .entry)) → Seated b (now (began .entry)) → Pointed (now (choices .entry)) s (now (cursor .entry)) → Queued (round * 16) (s .workers) (now (after .entry)) (now (last .entry)) → Dequed (s .deques) (now (slots .entry)) (now (top .entry)) (now (len .entry)) → Manned p (servesOf n n (laysOf (now (choices .entry)) round n b s)) a (now (seats .exit)) × Dequed (servesOf n n (laysOf (now (choices .entry)) round n b s) .deques) (now (slots .entry)) (now (top .exit)) (now (len .exit)) × Pointed (now (choices .entry)) (servesOf n n (laysOf (now (choices .entry)) round n b s)) (now (cursor .exit)) × Queued (round * 16 + 16) (servesOf n n (laysOf (now (choices .entry)) round n b s) .workers) (now (after .exit)) (now (last .exit))) ⌝ }
 {
     let a = lays(
-        account, began, choices, n, round, cursor, seats, after, last,
+        account,
+        began,
+        choices,
+        n,
+        round,
+        cursor,
+        seats,
+        after,
+        last,
     );
     serves(a, n, seats, after, last, slots, top, len)
 }

@@ -1,7 +1,7 @@
 -- The lines of requests from state to state: turns leave them, a request lengthens one, a service shortens one, and the first of a line
 -- is the request that its victim serves.
 -- Assumes nothing.
-use Prim.Native.Nat.{ℕ, zero, suc, _+_, _*_, _%_, _≤_, _<_}
+use Prim.Native.Nat.{ℕ, zero, suc, _+_, _%_, _≤_, _<_}
 use mathlib.Core.Path.{_≡_, refl, sym, ap, _∙_}
 use mathlib.Core.List.{List, [], _∷_}
 use native.Mathlib.Nat.{le-refl}
@@ -16,7 +16,7 @@ use Rattle.runs.specs.Turn.{turn, idled, turnOf, turns}
 use Rattle.runs.specs.Steal.{laid, lay, oldest, topOf, given, serve}
 use Rattle.runs.specs.Trace.{turning, laying, serving}
 use Rattle.scheduler.specs.Machine.{InRun}
-use Rattle.scheduler.specs.Requests.{Calm, Queue, Queued, Serving}
+use Rattle.scheduler.specs.Requests.{Calm, Queued, Serving}
 use Rattle.runs.proofs.Laws.ServeSound.{oldest-waits}
 use Rattle.runs.proofs.Laws.Sound.{trace-began, laying-idle}
 use Rattle.runs.proofs.Laws.Waits.{waits, start-calm, seated, seated-waits}

@@ -11,7 +11,7 @@ use native.Mathlib.Decide.{ℕ-discrete, decLt}
 use lib.ListN.{length, getD, set, length-set}
 use lib.Seq.{getD-set-same, getD-set-other}
 use Rattle.runs.specs.declared.worker.Worker.{Worker}
-use Rattle.runs.specs.declared.worker.Worker.the-variants.{Idle, Holding, Waiting}
+use Rattle.runs.specs.declared.worker.Worker.the-variants.{Idle, Waiting}
 use Rattle.runs.specs.Steal.{oldest}
 use Rattle.scheduler.specs.Requests.{Calm, Stands, Linked, Ranked, Queue, Queued}
 use Rattle.scheduler.proofs.Laws.Least.{Best, oldest-best}
@@ -180,7 +180,7 @@ module _ {v : ℕ} {ws : List Worker} {hi : ℕ} {after : List ℕ} {z : ℕ} (q
             linked′ [] (n, j) r = (getD-set-same after (16 + v) (getD after w 0) 0 (omega arith) ∙ n, none n)
             linked′ (u ∷ q) (n, s) (m, o, j, p, r) =
                 let inner = linked-set after u q z (16 + v) (getD after w 0) s (λ d. omega arith)
-                    (λ d. omega (arith, ranked-waits v ws (suc (m * 16 + u)) hi q r (16 + v) d .1)) in (
+                (λ d. omega (arith, ranked-waits v ws (suc (m * 16 + u)) hi q r (16 + v) d .1)) in (
                   getD-set-same after (16 + v) (getD after w 0) 0 (omega arith) ∙ n,
                   rw (more (λ d. omega arith)) inner,
                 )

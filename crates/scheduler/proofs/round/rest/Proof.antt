@@ -2,7 +2,6 @@
 use mathlib.Core.Path.{refl}
 use native.Mathlib.Omega.{arith}
 use Rattle.runs.specs.Turn.{idled}
-use Rattle.scheduler.specs.Machine.{Manned}
 use Rattle.scheduler.proofs.round.rest.Statement.{statement}
 use Rattle.scheduler.proofs.round.rest.Tie as tie
 

@@ -61,9 +61,12 @@ returns : tie.Need-returns
 returns c =
     λ p r s run planned machine pointed queued on.
     let (half, kept) = c .before .before .before .before .before .before .before .turns .ensures p _ (s .workers) s (round-now run (machine .manned)) planned machine in
-    let there = sym (c .before .before .before .wide8 .ensures .0) ∙ (c .if1 .taken ∙ c .before .wide16 .ensures .0) in
-    (round-ends run (machine .manned) planned half there, kept, ends-pointed run (machine .manned) planned half pointed there,
-    queued-later (ends-queued run (machine .manned) planned half queued there) _ (omega arith))
+    let there = sym (c .before .before .before .wide8 .ensures .0) ∙ (c .if1 .taken ∙ c .before .wide16 .ensures .0) in (
+      round-ends run (machine .manned) planned half there,
+      kept,
+      ends-pointed run (machine .manned) planned half pointed there,
+      queued-later (ends-queued run (machine .manned) planned half queued there) _ (omega arith),
+    )
 
 -- the lines after the turns
 lined : {p : Plan} {n : ℕ} {choices : List ℕ} {r : ℕ} {s : State} {c : Account} {seats after last : List ℕ}
@@ -92,9 +95,12 @@ returns-2 c =
     let (half, kept) = c .before .before .before .before .before .before .before .before .before .before .before .before .before .before .before .before .turns .ensures p _ (s .workers) s (round-now run (machine .manned)) planned machine in
     let more = not-there (c .before .before .before .before .before .before .before .before .before) in
     let on = round-lays run (machine .manned) planned half more in
-    let (account, deques, place, lines) = c .second-half .ensures p (s .workers) _ on (half .manned) (machine .manned .seated) (rw turns-requests pointed) (lined run (machine .manned) queued) (half .dequed) in
-    (round-serves run (machine .manned) planned half more account deques, kept, serves-pointed run (machine .manned) planned half more place,
-    queued-later (serves-queued run (machine .manned) planned half more lines) _ (omega (arith, round-known run (machine .manned))))
+    let (account, deques, place, lines) = c .second-half .ensures p (s .workers) _ on (half .manned) (machine .manned .seated) (rw turns-requests pointed) (lined run (machine .manned) queued) (half .dequed) in (
+      round-serves run (machine .manned) planned half more account deques,
+      kept,
+      serves-pointed run (machine .manned) planned half more place,
+      queued-later (serves-queued run (machine .manned) planned half more lines) _ (omega (arith, round-known run (machine .manned))),
+    )
 
 pub round-spec : {M : Type 1} → statement M
 round-spec =

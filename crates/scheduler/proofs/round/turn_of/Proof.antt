@@ -1,6 +1,6 @@
 -- `round::turn_of` meets its contract: what stands in the seat of a worker whose turn comes stood there as the round began.
 -- Assumes nothing.
-use Prim.Native.Nat.{ℕ, _≤_, _<_}
+use Prim.Native.Nat.{ℕ, _<_}
 use mathlib.Core.Path.{_≡_, refl, ap, _∙_}
 use mathlib.Core.List.{List}
 use native.Mathlib.Omega.{arith}
@@ -59,8 +59,10 @@ returns-2 : tie.Need-returns-2
 returns-2 c p n choices b s run planned machine below =
     let o = c .before .before .before .before .before in
     let q = sits (c .before .before) p n choices b s run (machine .manned .seated) below in
-    rw (turning-seat p n choices (o .args .round) (o .args .w) b s run below refl,
-    turning-rests p n choices (o .args .round) (o .args .w) b s run (workerOf s (o .args .w)) (run-seats run (o .args .w)) (omega (arith, c .before .if1 .left)))
+    rw (
+      turning-seat p n choices (o .args .round) (o .args .w) b s run below refl,
+      turning-rests p n choices (o .args .round) (o .args .w) b s run (workerOf s (o .args .w)) (run-seats run (o .args .w)) (omega (arith, c .before .if1 .left)),
+    )
     (idling-machine p n choices (o .args .round) (o .args .w) b s run (c .rest .ensures p s _ (machine .manned)) machine, (refl, refl))
 
 pub turn-of-spec : {M : Type 1} → statement M

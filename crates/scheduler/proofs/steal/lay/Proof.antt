@@ -1,6 +1,6 @@
 -- `steal::lay` meets its contract: worker w lays a request where it was idle as the round began. Then there is a choice, and the
 -- counts are small. Assumes nothing.
-use Prim.Native.Nat.{ℕ, _≤_, _<_}
+use Prim.Native.Nat.{ℕ, _<_}
 use mathlib.Core.Path.{_≡_, ap, _∙_}
 use mathlib.Core.List.{List}
 use native.Mathlib.Nat.{mod-lt, le-refl}
@@ -94,11 +94,12 @@ returns-2 c =
     let sixteen = run-sound run .workers in
     let idle = was (c .before .before .before .before .before .before .before .before .before) p n b s run seated in
     let lined = c .before .before .line-up .ensures _ (s .workers) (o .args .round) queued sixteen (laying-calm (o .args .w) run idle) (le-refl _) in
-    rw (idle, c .before .before .before .before .before .before .code-of .ensures)
-    (rw pointed (laid-manned p s (o .args .account) _ sixteen manned (o .args .w) there (o .args .choices .now) (o .args .round) _ (c .asked .ensures)),
-    laid-pointed p s (o .args .account) _ sixteen manned (o .args .w) there (o .args .choices .now) (o .args .round) _
-    (c .before .onward .ensures (s .tally .requests) pointed),
-    lay-queued (o .args .choices .now) (o .args .round) (o .args .w) _ s _ _ (rw (c .before .before .before .before .before .wide8 .ensures .0, pointed) at lined))
+    rw (idle, c .before .before .before .before .before .before .code-of .ensures) (
+      rw pointed (laid-manned p s (o .args .account) _ sixteen manned (o .args .w) there (o .args .choices .now) (o .args .round) _ (c .asked .ensures)),
+      laid-pointed p s (o .args .account) _ sixteen manned (o .args .w) there (o .args .choices .now) (o .args .round) _
+          (c .before .onward .ensures (s .tally .requests) pointed),
+      lay-queued (o .args .choices .now) (o .args .round) (o .args .w) _ s _ _ (rw (c .before .before .before .before .before .wide8 .ensures .0, pointed) at lined),
+    )
 
 pub lay-spec : {M : Type 1} → statement M
 lay-spec =

@@ -1,5 +1,5 @@
 -- `steal::onward` meets its contract. Assumes nothing.
-use mathlib.Core.Path.{sym, ap, _∙_}
+use mathlib.Core.Path.{sym}
 use native.Mathlib.Omega.{arith}
 use Rattle.scheduler.proofs.Laws.Codes.{place-wraps, place-steps}
 use Rattle.scheduler.proofs.steal.onward.Statement.{statement}
