@@ -2,11 +2,12 @@
 -- Assumes nothing.
 use native.Mathlib.Omega.{arith}
 use borrow.Author.Needs.{needs}
+use Rattle.plan.specs.declared.flat.FlatPlan.{FlatPlan}
+use Rattle.plan.proofs.Laws.Blank.{blank}
 use Rattle.checker.specs.Formed.{WellFormed}
 use Rattle.checker.proofs.Laws.Judging.{
-  told-refused,
   Given,
-  told-given,
+  found-given,
   given-few,
   judges-plan,
   judges-form,
@@ -17,59 +18,72 @@ use Rattle.checker.proofs.Laws.Judging.{
 use Rattle.checker.proofs.check.Statement.{statement}
 use Rattle.checker.proofs.check.Tie as tie
 
-read-plan-requires : tie.Need-read-plan-requires
-read-plan-requires c κs = search needs
+read-into-requires : tie.Need-read-into-requires
+read-into-requires c κs = blank
 
-enum-known-verdict : tie.Need-enum-known-verdict
-enum-known-verdict c = search needs
+enum-known-cause : tie.Need-enum-known-cause
+enum-known-cause c = search needs
 
-enum-told : tie.Need-enum-told
-enum-told c = search needs
+enum-known-jobs : tie.Need-enum-known-jobs
+enum-known-jobs c = search needs
 
--- the plan that was read
-given : (c : tie.After-enum-told)
-    → Given (c .before .before .before .before .before .before .args .plan .now) (c .before .before .before .read-plan .result .plan)
-given c =
-    let r = c .before .before .before .read-plan in
-    told-given _ (r .result .verdict) (r .result .plan) (r .ensures) (c .enum-told .given .1)
+-- the arrays that were read into, and the plan that they hold
+abbrev flat : tie.After-jobs → FlatPlan
+flat c =
+    let l = c .before .before .read-into .last .1 in
+    record {
+      jobs = c .jobs .given .0 .0;
+      actions = c .jobs .given .0 .1 .0;
+      frame = l .0;
+      first = l .1 .0;
+      job = l .1 .1 .0;
+      spawn = l .1 .1 .1 .0;
+      join = l .1 .1 .1 .1 .0;
+      parent = l .1 .1 .1 .1 .1 .0;
+      «spawn_position» = l .1 .1 .1 .1 .1 .1 .0;
+      entering = l .1 .1 .1 .1 .1 .1 .1 .0;
+    }
+
+given : (c : tie.After-jobs) → Given (c .before .before .before .before .before .before .before .before .before .before .before .before .before .args .plan .now) (flat c)
+given c = found-given _ (flat c) (rw (c .jobs .given .1) at (c .before .before .read-into .ensures))
 
 form-requires : tie.Need-form-requires
-form-requires c κs = given-few (given c)
+form-requires c κs = given-few (given (c .before))
 
 returns : tie.Need-returns
-returns c = judges-form _ _ _ (given (c .before .before)) (c .before .form .ensures .broken (c .if1 .taken))
+returns c = judges-form _ _ _ (given (c .before .before .before)) (c .before .form .ensures .broken (c .if1 .taken))
 
 -- the schedule that was read
 schedule-read : (c : tie.Else1)
-    → let b = c .before .before .before .before .before in
-    WellFormed (b .before .before .before .args .schedule .now) (b .read-plan .result .plan .actions) (c .before .form .result)
+    → let b = c .before .before .before in
+    WellFormed (b .before .before .before .before .before .before .before .before .before .before .before .before .before .args .schedule .now) (flat b .actions) (c .before .form .result)
 schedule-read c = c .before .form .ensures .kept (omega arith)
 
 rules-kept-requires : tie.Need-rules-kept-requires
 rules-kept-requires c κs =
-    let e = c .before .before .before .before .before in
-    let g = given (e .before .before) in
+    let e = c .before .before .before .before in
+    let g = given (e .before .before .before) in
     let w = schedule-read e in
     (g .plan, w .rows, rules-given _ _ _ g _ w)
 
 returns-2 : tie.Need-returns-2
 returns-2 c =
-    let r = c .before .before .before .before .read-plan in
-    judges-plan _ _ (c .before .verdict .given .0 .0) (told-refused _ (r .result .verdict) (r .result .plan) _ (r .ensures) (c .before .verdict .given .1))
+    let z = c .before in
+    judges-plan _ _ _ (rw (z .cause .given .1) at (z .before .before .read-into .ensures))
 
 returns-3 : tie.Need-returns-3
 returns-3 c =
     let k = c .before in
-    let e = k .before .before .before .before .before .before in
-    let g = given (e .before .before) in
+    let e = k .before .before .before .before .before in
+    let g = given (e .before .before .before) in
     let w = schedule-read e in
     judges-kept _ _ _ g _ w _ (k .rules-kept .ensures (g .plan) (w .rows) (rules-given _ _ _ g _ w)) (c .if2 .taken)
 
 returns-4 : tie.Need-returns-4
 returns-4 c =
     let k = c .before in
-    let e = k .before .before .before .before .before .before in
-    let g = given (e .before .before) in
+    let e = k .before .before .before .before .before in
+    let g = given (e .before .before .before) in
     let w = schedule-read e in
     judges-broken _ _ _ g _ w _ (k .rules-kept .ensures (g .plan) (w .rows) (rules-given _ _ _ g _ w)) (c .if2 .left)
 
@@ -77,9 +91,9 @@ pub check-spec : {M : Type 1} → statement M
 check-spec =
     tie.close
     (tie.spec
-    read-plan-requires
-    enum-known-verdict
-    enum-told
+    read-into-requires
+    enum-known-cause
+    enum-known-jobs
     form-requires
     returns
     rules-kept-requires
