@@ -8,6 +8,7 @@
 --   Given            == what taking the top job of a deque gives
 --   Printed          == the bytes behind the schedule's header hold the rows of the actions that are done
 --   codeOf, Fitting  == a worker as a number, and the workers that the numbers tell apart
+--   isIdle           == whether a worker is idle
 --   Seated           == the array holds the numbers of the sixteen workers
 --   Manned           == the workers, the weight of the living frames and the counts
 --   InRun            == s is the state of a run of n workers at a stage of round r
@@ -15,6 +16,7 @@
 -- Assumes nothing.
 use Prim.Native.Nat.{ℕ, zero, suc, _+_, _*_, _/_, _%_, _≤_, _<_}
 use mathlib.Core.Path.{_≡_}
+use mathlib.Core.Bool.{Bool, true, false}
 use mathlib.Core.List.{List, [], _∷_}
 use lib.ListN.{length, getD, set, drop}
 use lib.Dec.{T, leb}
@@ -80,6 +82,11 @@ abbrev pub Fitting : Worker → Type 0
 Fitting Idle = 0 < 1
 Fitting (Holding j) = j < 256
 Fitting (Waiting v l) = (v < 16) × (l ≤ 2048)
+
+abbrev pub isIdle : Worker → Bool
+isIdle Idle = true
+isIdle (Holding j) = false
+isIdle (Waiting v l) = false
 
 abbrev pub Seated : List Worker → List ℕ → Type 0
 Seated ws seats = (length seats ≡ 16) × ((w : ℕ) → w < 16 → getD seats w 0 ≡ codeOf (getD ws w Idle))

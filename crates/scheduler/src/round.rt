@@ -17,10 +17,12 @@ use crate::account::Account;
 use crate::count::acted;
 use crate::count::idled;
 use crate::seat::code_of;
+use crate::seat::worker_at;
 use crate::steal::second_half;
 use crate::turn::act;
 use plan::flat::wide8;
 use plan::flat::wide16;
+use runs::worker::Worker;
 
 // Writes the row of the action at place k: 12 bits of round and 4 of worker. It never sees the schedule's header.
 fn write_row(rows: &mut [u8], k: usize, round: usize, w: usize)
@@ -111,13 +113,13 @@ fn turn_of(
     requires { ⌜ ((p : Plan) × (n : ℕ) × (choices : List ℕ) × (b : List Worker) × (s : State) × InRun p n choices round b (turning w) s × Planned p (now frame) (now first) (now spawn) (now join) (now parent) × Machine p s account (now seats) (now rows) (now next) (now missing) (now slots) (now top) (now len) × (w < n)) ⌝ }
     ensures { λ a. ⌜ ((p : Plan) (n : ℕ) (choices : List ℕ) (b : List Worker) (s : State) → InRun p n choices round b (turning w) s → Planned p (now (frame .entry)) (now (first .entry)) (now (spawn .entry)) (now (join .entry)) (now (parent .entry)) → Machine p s account (now (seats .entry)) (now (rows .entry)) (now (next .entry)) (now (missing .entry)) (now (slots .entry)) (now (top .entry)) (now (len .entry)) → (w < n) → Machine p (turnOf p round w (getD b w Idle) s) a (now (seats .exit)) (now (rows .exit)) (now (next .exit)) (now (missing .exit)) (now (slots .exit)) (now (top .exit)) (now (len .exit)) × Kept p (now (rows .entry)) (now (rows .exit))) ⌝ }
 {
-    let code = wide16(seats[w]);
-    if code < 256 {
-        return take_turn(
+    match worker_at(seats[w]) {
+        Worker::Idle => rest(account, round),
+        Worker::Holding(j) => take_turn(
             account,
             round,
             w,
-            code,
+            wide8(j),
             seats,
             rows,
             frame,
@@ -130,9 +132,9 @@ fn turn_of(
             slots,
             top,
             len,
-        );
+        ),
+        Worker::Waiting { victim: _, laid: _ } => rest(account, round),
     }
-    rest(account, round)
 }
 
 // First half: the turns of the workers, in rising number.

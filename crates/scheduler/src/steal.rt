@@ -9,11 +9,12 @@ ghost use Rattle.runs.specs.declared.worker.Worker.the-variants.{Idle, Waiting}
 ghost use Rattle.runs.specs.State.{State};
 ghost use Rattle.runs.specs.Steal.{lay as layOf, lays as laysOf, oldest, serve as serveOf, serves as servesOf};
 ghost use Rattle.runs.specs.Trace.{laying, serving};
-ghost use Rattle.scheduler.specs.Machine.{InRun, Manned, Dequed, Seated};
+ghost use Rattle.scheduler.specs.Machine.{InRun, Manned, Dequed, codeOf, Fitting, isIdle, Seated};
 ghost use Rattle.scheduler.specs.Requests.{Calm, Pointed, Queued, Serving};
 use crate::account::Account;
 use crate::deque::take_top;
 use crate::seat::code_of;
+use crate::seat::worker_at;
 use plan::flat::wide8;
 use runs::tally::Tally;
 use runs::worker::Worker;
@@ -68,6 +69,17 @@ fn step_up(v: usize, w: usize, after: &mut [u8; 32], last: &mut [u8; 16])
     }
 }
 
+// Whether a worker is idle, by its number.
+fn idle_at(code: u16) -> bool
+    ensures { λ r. ⌜ ((x : Worker) → Fitting x → code ≡ codeOf x → r ≡ isIdle x) ⌝ }
+{
+    match worker_at(code) {
+        Worker::Idle => true,
+        Worker::Holding(_) => false,
+        Worker::Waiting { victim: _, laid: _ } => false,
+    }
+}
+
 // Worker w lays a request if it was idle as the round began.
 fn lay(
     account: Account,
@@ -83,7 +95,7 @@ fn lay(
     requires { ⌜ ((p : Plan) × (n : ℕ) × (b : List Worker) × (s : State) × InRun p n (now choices) round b (laying w) s × Manned p s account (now seats) × Seated b (now began) × Pointed (now choices) s (now cursor) × Queued (round * 16 + w) (s .workers) (now after) (now last) × (w < n)) ⌝ }
     ensures { λ a. ⌜ ((p : Plan) (n : ℕ) (b : List Worker) (s : State) → InRun p n (now (choices .entry)) round b (laying w) s → Manned p s account (now (seats .entry)) → Seated b (now (began .entry)) → Pointed (now (choices .entry)) s (now (cursor .entry)) → Queued (round * 16 + w) (s .workers) (now (after .entry)) (now (last .entry)) → w < n → Manned p (layOf (now (choices .entry)) round w (getD b w Idle) s) a (now (seats .exit)) × Pointed (now (choices .entry)) (layOf (now (choices .entry)) round w (getD b w Idle) s) (now (cursor .exit)) × Queued (suc (round * 16 + w)) (layOf (now (choices .entry)) round w (getD b w Idle) s .workers) (now (after .exit)) (now (last .exit))) ⌝ }
 {
-    if began[w] != 256 {
+    if !idle_at(began[w]) {
         return account;
     }
     let at = *cursor;

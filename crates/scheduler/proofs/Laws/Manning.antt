@@ -2,6 +2,7 @@
 -- Assumes nothing.
 use Prim.Native.Nat.{ℕ, suc, _%_, _<_}
 use mathlib.Core.Path.{_≡_, refl, sym, _∙_}
+use mathlib.Core.Bool.{false, true≢false}
 use mathlib.Core.Logic.{_≢_}
 use mathlib.Core.List.{List, [], _∷_}
 use native.Mathlib.Omega.{arith}
@@ -15,16 +16,16 @@ use Rattle.runs.specs.declared.worker.Worker.the-variants.{Idle, Holding, Waiti
 use Rattle.runs.specs.State.{State, workerOf, dequeOf}
 use Rattle.runs.specs.Steal.{laid, lay, topOf, given, serve}
 use Rattle.runs.specs.Trace.{laying, laid as laidOn, served}
-use Rattle.scheduler.specs.Machine.{codeOf, Fitting, InRun, Seated, Manned, Dequed, Given}
+use Rattle.scheduler.specs.Machine.{codeOf, Fitting, isIdle, InRun, Seated, Manned, Dequed, Given}
 use Rattle.scheduler.specs.Requests.{Pointed, Serving}
 use Rattle.scheduler.proofs.Laws.Codes.{seated-set}
 use Rattle.scheduler.proofs.Laws.Running.{run-sound, run-seats, run-at}
 use Rattle.scheduler.proofs.Laws.Picks.{served-below}
 
 -- a worker that was not idle as the round began lays no request
-pub lay-rests : (choices : List ℕ) (r w : ℕ) (x : Worker) (s : State) → codeOf x ≢ 256 → lay choices r w x s ≡ s
+pub lay-rests : (choices : List ℕ) (r w : ℕ) (x : Worker) (s : State) → isIdle x ≡ false → lay choices r w x s ≡ s
 unfolding lay
-lay-rests choices r w Idle s f = absurd (f refl)
+lay-rests choices r w Idle s f = absurd (true≢false f)
 lay-rests choices r w (Holding j) s f = refl
 lay-rests choices r w (Waiting v l) s f = refl
 
