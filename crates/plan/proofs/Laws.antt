@@ -14,6 +14,7 @@ pub mod Steps
 pub mod Written
 pub mod Accepted
 pub mod Blank
+pub mod Found
 pub mod Outcomes
 pub mod Readings
 pub mod Fits

@@ -1,27 +1,38 @@
 -- A plan as flat arrays, and what it is for the arrays to hold a plan.
+--   FlatPlan          == a plan's counts and arrays: `frame`, `first`, `parent` and `position` (that of the job's spawn) go by job,
+--                        and `first` has the end of the last job too; `job`, `spawn`, `join` and `entering` go by an action's
+--                        place in plan order; `spawn` and `join` hold a number plus 1, or 0 for none
 --   starts k p        == the place of each job's first action in plan order, counted from k, and of the end
 --   Frames, Firsts    == the array holds each job's frame, the place of its first action (and the end)
 --   Jobs, Spawns, Joins == the array holds each action's job, child number plus 1 or 0, target plus 1 or 0
 --   Spawned           == the arrays hold each job's parent and the position of its spawn
 --   Entered           == the array holds how many joins enter each action
---   Holds p f         == f holds the plan p: all of these
+--   Holds p f         == f holds the plan p: all of these, and the last array has its full length, which nothing else tells of a
+--                        lent array
 --   Blank f           == f are arrays to read into: of full length, with no spawn and no join noted; 255 stands for no spawn
 --   ReadInto s r f    == what reading the bytes s into the arrays f answers: the refusal, or that they hold the plan
 --   jobsIn, actionsIn == the counts that such an answer gives
---   Read s r          == what reading the bytes s answers: the refusal, or arrays that hold the plan
 -- Assumes nothing.
 use Prim.Native.Nat.{ℕ, zero, suc, _+_, _≤_, _<_}
 use mathlib.Core.Path.{_≡_}
 use mathlib.Core.List.{List, [], _∷_, map}
 use lib.ListN.{length, getD, take, replicate}
-use Rattle.plan.specs.declared.flat.FlatPlan.{FlatPlan}
-use Rattle.plan.specs.declared.flat.Reading.{Reading}
 use Rattle.plan.specs.declared.flat.Found.{Found}
-use Rattle.plan.specs.declared.flat.Verdict.{Verdict}
-use Rattle.plan.specs.declared.flat.Verdict.the-variants.{Refused, Accepted}
-use Rattle.plan.specs.Refusal.{Outcome, refused, accepted, numberOf}
+use Rattle.plan.specs.Refusal.{refused, accepted, numberOf}
 use Rattle.plan.specs.Plan.{Job, Plan, Placed, job, work, placed, parent, spawnAt, entering}
 use Rattle.plan.specs.Reader.{readPlan}
+
+pub record FlatPlan : Type 0 where
+  pub jobs : ℕ
+  pub actions : ℕ
+  pub frame : List ℕ
+  pub first : List ℕ
+  pub job : List ℕ
+  pub spawn : List ℕ
+  pub join : List ℕ
+  pub parent : List ℕ
+  pub position : List ℕ
+  pub entering : List ℕ
 
 abbrev pub starts : ℕ → List Job → List ℕ
 starts k [] = k ∷ []
@@ -57,8 +68,9 @@ pub record Holds (p : Plan) (f : FlatPlan) : Type 0 where
   pub owners : Jobs p (f .job)
   pub spawns : Spawns p (f .spawn)
   pub joins : Joins p (f .join)
-  pub spawned : Spawned p (f .parent) (f .«spawn_position»)
+  pub spawned : Spawned p (f .parent) (f .position)
   pub entered : Entered p (f .entering)
+  pub whole : length (f .entering) ≡ 2048
 
 pub record Blank (f : FlatPlan) : Type 0 where
   pub frames : length (f .frame) ≡ 256
@@ -68,7 +80,7 @@ pub record Blank (f : FlatPlan) : Type 0 where
   pub spawns : length (f .spawn) ≡ 2048
   pub joins : length (f .join) ≡ 2048
   pub parents : length (f .parent) ≡ 256
-  pub positions : f .«spawn_position» ≡ replicate 256 255
+  pub positions : f .position ≡ replicate 256 255
   pub entered : f .entering ≡ replicate 2048 0
 
 abbrev pub jobsIn : Found → ℕ
@@ -82,12 +94,3 @@ actionsIn (Found.Plan jobs actions) = actions
 abbrev pub ReadInto : List ℕ → Found → FlatPlan → Type 0
 ReadInto s (Found.Refused cause) f = readPlan s ≡ refused (numberOf cause)
 ReadInto s (Found.Plan jobs actions) f = (p : Plan) × (readPlan s ≡ accepted p) × Holds p f
-
-abbrev pub Told : Outcome Plan → Verdict → FlatPlan → Type 0
-Told (refused n) (Refused cause) f = n ≡ numberOf cause
-Told (refused n) Accepted f = ⊥
-Told (accepted p) (Refused cause) f = ⊥
-Told (accepted p) Accepted f = Holds p f
-
-abbrev pub Read : List ℕ → Reading → Type 0
-Read s r = Told (readPlan s) (r .verdict) (r .plan)

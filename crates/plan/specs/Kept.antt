@@ -38,6 +38,7 @@ pub record AllTold (jobs : ℕ) (positions : List ℕ) (r : Bool) : Type 0 where
 
 pub record Counted (p : Plan) (k : ℕ) (l : List ℕ) : Type 0 where
   pub long : work p ≤ length l
+  pub whole : length l ≡ 2048
   pub fits : (i : ℕ) → i < k → T (both (joinFits p (getD (placed p) i noPlaced)) (lastSends p (getD (placed p) i noPlaced)))
   pub counts : (q t : ℕ) → q < length p → t < size p q → getD l (work (take q p) + t) 0 ≡ count (enters p q t) (take k (placed p))
   pub few : (q t : ℕ) → q < length p → t < size p q → getD l (work (take q p) + t) 0 ≤ 8

@@ -4,15 +4,12 @@ ghost use Prim.Native.Nat.{_+_, _*_, _^_, _≤_, _<_};
 ghost use lib.ListN.{length, getD};
 ghost use Rattle.plan.specs.Reader.{numberAt, jobsAt, planAt, fills};
 ghost use Rattle.plan.specs.Field.{PowersOfTwo};
-ghost use Rattle.plan.specs.Flat.{Blank, jobsIn, actionsIn, ReadInto, Read};
+ghost use Rattle.plan.specs.Flat.{Blank, jobsIn, actionsIn, ReadInto};
 ghost use Rattle.plan.specs.Progress.{numberStep, RowsLong, ArraysLong, ActionRead, ActionsRead, HeaderRead, JobRead, PlanRead};
 use crate::field::Field;
 use crate::field::cut;
 use crate::field::power_table;
-use crate::flat::FlatPlan;
 use crate::flat::Found;
-use crate::flat::Reading;
-use crate::flat::Verdict;
 use crate::refusal::Refusal;
 use crate::rules::join_rules;
 use crate::rules::spawn_rules;
@@ -305,8 +302,8 @@ pub fn read_into(
     position: &mut [u8; 256],
     entering: &mut [u8; 2048],
 ) -> Found
-    requires { ⌜ Blank (record { jobs = 0; actions = 0; frame = now frame; first = now first; job = now job; spawn = now spawn; join = now join; parent = now parent; «spawn_position» = now position; entering = now entering }) ⌝ }
-    ensures { λ r. ⌜ ReadInto (now (s .entry)) r (record { jobs = jobsIn r; actions = actionsIn r; frame = now (frame .exit); first = now (first .exit); job = now (job .exit); spawn = now (spawn .exit); join = now (join .exit); parent = now (parent .exit); «spawn_position» = now (position .exit); entering = now (entering .exit) }) ⌝ }
+    requires { ⌜ Blank (record { jobs = 0; actions = 0; frame = now frame; first = now first; job = now job; spawn = now spawn; join = now join; parent = now parent; position = now position; entering = now entering }) ⌝ }
+    ensures { λ r. ⌜ ReadInto (now (s .entry)) r (record { jobs = jobsIn r; actions = actionsIn r; frame = now (frame .exit); first = now (first .exit); job = now (job .exit); spawn = now (spawn .exit); join = now (join .exit); parent = now (parent .exit); position = now (position .exit); entering = now (entering .exit) }) ⌝ }
 {
     let powers = power_table();
     match read_body(s, &powers, frame, first, job, spawn, join) {
@@ -327,68 +324,5 @@ pub fn read_into(
             }
             Found::Plan { jobs, actions }
         }
-    }
-}
-
-// The answer to bytes that are turned down.
-fn refuse(cause: Refusal) -> Reading
-    ensures { λ r. ⌜ r .verdict ≡ Verdict.Refused cause ⌝ }
-{
-    Reading {
-        verdict: Verdict::Refused(cause),
-        plan: FlatPlan {
-            jobs: 0,
-            actions: 0,
-            frame: [0; 256],
-            first: [0; 257],
-            job: [0; 2048],
-            spawn: [0; 2048],
-            join: [0; 2048],
-            parent: [0; 256],
-            spawn_position: [0; 256],
-            entering: [0; 2048],
-        },
-    }
-}
-
-// The plan that the bytes hold, or why they are turned down.
-pub fn read_plan(s: &[u8]) -> Reading
-    ensures { λ r. ⌜ Read (now (s .entry)) r ⌝ }
-{
-    let mut frame = [0u16; 256];
-    let mut first = [0u16; 257];
-    let mut job = [0u8; 2048];
-    let mut spawn = [0u16; 2048];
-    let mut join = [0u16; 2048];
-    let mut parent = [0u8; 256];
-    let mut spawn_position = [255u8; 256];
-    let mut entering = [0u8; 2048];
-    match read_into(
-        s,
-        &mut frame,
-        &mut first,
-        &mut job,
-        &mut spawn,
-        &mut join,
-        &mut parent,
-        &mut spawn_position,
-        &mut entering,
-    ) {
-        Found::Refused(cause) => refuse(cause),
-        Found::Plan { jobs, actions } => Reading {
-            verdict: Verdict::Accepted,
-            plan: FlatPlan {
-                jobs,
-                actions,
-                frame,
-                first,
-                job,
-                spawn,
-                join,
-                parent,
-                spawn_position,
-                entering,
-            },
-        },
     }
 }

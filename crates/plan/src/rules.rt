@@ -1,6 +1,7 @@
 // The spawn rules and the join rules of a plan, over its flat arrays (document 01, "Plan").
 ghost use Prim.Native.Nat.{suc, _<_, _≤_};
 ghost use mathlib.Core.Path.{_≡_};
+ghost use lib.ListN.{length};
 ghost use lib.Dec.{T};
 ghost use Rattle.plan.specs.Plan.{Plan, work};
 ghost use Rattle.plan.specs.Rules.{spawnRules, joinRules};
@@ -183,7 +184,7 @@ pub fn join_rules(
     entering: &mut [u8; 2048],
 ) -> bool
     requires { ⌜ ((p : Plan) × JoinsGiven p actions (now first) (now job) (now spawn) (now join) (now parent) (now position)) × Unentered (now entering) ⌝ }
-    ensures { λ r. ⌜ ((p : Plan) → JoinsGiven p actions (now (first .entry)) (now (job .entry)) (now (spawn .entry)) (now (join .entry)) (now (parent .entry)) (now (position .entry)) → (r ≡ joinRules p) × (T r → Entered p (now (entering .exit)))) ⌝ }
+    ensures { λ r. ⌜ ((p : Plan) → JoinsGiven p actions (now (first .entry)) (now (job .entry)) (now (spawn .entry)) (now (join .entry)) (now (parent .entry)) (now (position .entry)) → (r ≡ joinRules p) × (T r → Entered p (now (entering .exit)) × (length (now (entering .exit)) ≡ 2048))) ⌝ }
 {
     joins_kept(actions, first, job, spawn, join, parent, position, entering)
 }

@@ -1,11 +1,11 @@
 -- What private functions of module measure are given, and what they leave. No public entry cites these.
 --   at l k            == what stands at place k of an array
---   RulesKept p            == the plan p keeps every rule
 --   PathsGiven p ..   == the arrays hold the frames and the parents of the plan p
 --   ends p j i        == when action i of job j is done at the earliest: the largest length of a chain that ends in it
 --   begins p j        == when the spawn of job j is done; 0 for the root
 --   placeOf p j       == the place of job j's first action
 --   TimesGiven p ..   == the arrays hold the actions of the plan p
+--   MeasureGiven p .. == the arrays hold all that is measured of the plan p
 --   JobGiven p j ..   == the same, with the places of the actions of job j
 --   TimedFrom p j ..  == the times of jobs j and up are known, from the spawn of each, and nothing told of when joins came
 --                        is too late
@@ -17,23 +17,18 @@ use mathlib.Core.Path.{_≡_}
 use mathlib.Core.Logic.{_⊎_}
 use mathlib.Core.Bool.{true, false}
 use mathlib.Core.List.{List}
-use lib.Dec.{T, eqb}
+use lib.Dec.{eqb}
 use lib.ListN.{length, getD, take}
 use Rattle.plan.specs.Plan.{Plan, size, action, work, parent, spawnAt}
-use Rattle.plan.specs.Rules.{inRange, spawnRules, joinRules}
+use Rattle.plan.specs.Rules.{Accepted}
 use Rattle.plan.specs.Flat.{Frames, Firsts, Spawns, Joins}
 use Rattle.plan_measure.specs.Measure.{after}
 
 abbrev pub at : List ℕ → ℕ → ℕ
 at l k = getD l k 0
 
-pub record RulesKept (p : Plan) : Type 0 where
-  pub range : T (inRange p)
-  pub spawns : T (spawnRules p)
-  pub joins : T (joinRules p)
-
 pub record PathsGiven (p : Plan) (jobs : ℕ) (frameOf parentOf : List ℕ) : Type 0 where
-  pub rules : RulesKept p
+  pub rules : Accepted p
   pub count : jobs ≡ length p
   pub frames : Frames p frameOf
   pub parents : (c : ℕ) → 1 ≤ c → c < length p → getD parentOf c 0 ≡ parent p c
@@ -50,10 +45,15 @@ abbrev pub placeOf : Plan → ℕ → ℕ
 placeOf p j = work (take j p)
 
 pub record TimesGiven (p : Plan) (first spawn join : List ℕ) : Type 0 where
-  pub rules : RulesKept p
+  pub rules : Accepted p
   pub firsts : Firsts p first
   pub spawns : Spawns p spawn
   pub joins : Joins p join
+
+pub record MeasureGiven (p : Plan) (jobs actions : ℕ) (frameOf firstOf spawnOf joinOf parentOf : List ℕ) : Type 0 where
+  pub paths : PathsGiven p jobs frameOf parentOf
+  pub times : TimesGiven p firstOf spawnOf joinOf
+  pub all : actions ≡ work p
 
 pub record JobGiven (p : Plan) (j from end : ℕ) (firstOf spawnOf joinOf : List ℕ) : Type 0 where
   pub arrays : TimesGiven p firstOf spawnOf joinOf

@@ -2,9 +2,10 @@
 ghost use Prim.Native.Nat.{ℕ, suc, _+_, _-_, _<_, max};
 ghost use mathlib.Core.Path.{_≡_};
 ghost use lib.ListN.{length};
+ghost use Rattle.plan.specs.Refusal.{accepted};
 ghost use Rattle.plan.specs.Plan.{Plan, size};
-ghost use Rattle.plan_measure.specs.Measure.{measures, told, longest as longestOf, heaviest as heaviestOf};
-ghost use Rattle.plan_measure.specs.Times.{at, PathsGiven, ends, begins, TimesGiven, JobGiven, TimedFrom, SendGiven, Sent, PassGiven, Passed};
+ghost use Rattle.plan_measure.specs.Measure.{measured, measures, told, longest as longestOf, heaviest as heaviestOf};
+ghost use Rattle.plan_measure.specs.Times.{at, PathsGiven, ends, begins, TimesGiven, MeasureGiven, JobGiven, TimedFrom, SendGiven, Sent, PassGiven, Passed};
 use plan::flat::Found;
 use plan::flat::wide8;
 use plan::flat::wide16;
@@ -179,6 +180,26 @@ fn longest<'a>(
     most
 }
 
+// T1, T∞ and S1 of the plan that the arrays hold.
+pub fn measure_read<'a>(
+    jobs: usize,
+    actions: usize,
+    frame: &'a [u16; 256],
+    first: &'a [u16; 257],
+    spawn: &'a [u16; 2048],
+    join: &'a [u16; 2048],
+    parent: &'a [u8; 256],
+) -> Measures
+    requires { ⌜ ((p : Plan) × MeasureGiven p jobs actions (now frame) (now first) (now spawn) (now join) (now parent)) ⌝ }
+    ensures { λ r. ⌜ ((p : Plan) → MeasureGiven p jobs actions (now (frame .entry)) (now (first .entry)) (now (spawn .entry)) (now (join .entry)) (now (parent .entry)) → accepted r ≡ measured (accepted p)) ⌝ }
+{
+    Measures {
+        actions: actions as u32,
+        longest: longest(jobs, first, spawn, join),
+        path: heaviest(jobs, frame, parent),
+    }
+}
+
 // T1, T∞ and S1 of the plan that the bytes hold, or why they are turned down.
 pub fn measure(bytes: &[u8]) -> Measured
     ensures { λ r. ⌜ told r ≡ measures (now (bytes .entry)) ⌝ }
@@ -203,10 +224,8 @@ pub fn measure(bytes: &[u8]) -> Measured
         &mut entering,
     ) {
         Found::Refused(cause) => Measured::Refused(cause),
-        Found::Plan { jobs, actions } => Measured::Of(Measures {
-            actions: actions as u32,
-            longest: longest(jobs, &first, &spawn, &join),
-            path: heaviest(jobs, &frame, &parent),
-        }),
+        Found::Plan { jobs, actions } => Measured::Of(measure_read(
+            jobs, actions, &frame, &first, &spawn, &join, &parent,
+        )),
     }
 }

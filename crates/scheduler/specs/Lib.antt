@@ -6,3 +6,4 @@ pub mod TurnParts
 pub mod Requests
 pub mod Header
 pub mod Count
+pub mod Loaded

@@ -1,13 +1,18 @@
 // What `buildrun` does with its input (document 01, "Cases"): P, the choice count, the choices, and the plan behind them.
 ghost use mathlib.Core.Path.{_≡_};
 ghost use lib.ListN.{length};
-ghost use Rattle.scheduler.specs.Build.{buildOf, ranWith, builtOf};
+ghost use Rattle.plan.specs.Refusal.{accepted};
+ghost use Rattle.plan.specs.Plan.{Plan};
+ghost use Rattle.runs.specs.Run.{admitted};
+ghost use Rattle.scheduler.specs.Loaded.{Loaded};
+ghost use Rattle.scheduler.specs.Build.{countsOf, ranWith, buildOf, builtOf};
 use crate::run::Ran;
-use crate::run::run;
+use crate::run::run_read;
+use plan::flat::Found;
 use plan::flat::wide8;
+use plan::reader::read_into;
 use plan::refusal::Refusal;
-use plan_measure::Measured;
-use plan_measure::measure;
+use plan_measure::measure_read;
 
 // The nine counts that are printed.
 pub struct Counts {
@@ -27,16 +32,39 @@ pub enum Built {
     Counted(Counts),
 }
 
-// Runs the plan and measures it.
-fn run_plan(workers: u32, choices: &[u8], plan: &[u8]) -> Built
-    ensures { λ r. ⌜ builtOf r ≡ ranWith (now (plan .entry)) workers (now (choices .entry)) ⌝ }
+// Runs the plan that the arrays hold and measures it.
+fn build_read<'a>(
+    jobs: usize,
+    actions: usize,
+    workers: u32,
+    choices: &[u8],
+    frame: &'a [u16; 256],
+    first: &'a [u16; 257],
+    spawn: &'a [u16; 2048],
+    join: &'a [u16; 2048],
+    parent: &'a [u8; 256],
+    missing: &mut [u8; 2048],
+) -> Built
+    requires { ⌜ ((p : Plan) × Loaded p actions (now frame) (now first) (now spawn) (now join) (now parent) (now missing) × (jobs ≡ length p)) ⌝ }
+    ensures { λ r. ⌜ ((p : Plan) → Loaded p actions (now (frame .entry)) (now (first .entry)) (now (spawn .entry)) (now (join .entry)) (now (parent .entry)) (now (missing .entry)) → jobs ≡ length p → builtOf r ≡ countsOf (accepted p) (admitted (accepted p) workers (now (choices .entry)))) ⌝ }
 {
     let mut schedule = [0u8; 4100];
-    match run(plan, workers, choices, &mut schedule) {
+    match run_read(
+        actions,
+        workers,
+        choices,
+        &mut schedule,
+        frame,
+        first,
+        spawn,
+        join,
+        parent,
+        missing,
+    ) {
         Ran::Refused(cause) => Built::Refused(cause),
-        Ran::Done(t) => match measure(plan) {
-            Measured::Refused(cause) => Built::Refused(cause),
-            Measured::Of(m) => Built::Counted(Counts {
+        Ran::Done(t) => {
+            let m = measure_read(jobs, actions, frame, first, spawn, join, parent);
+            Built::Counted(Counts {
                 rounds: t.rounds,
                 actions: t.actions,
                 longest: m.longest,
@@ -46,8 +74,47 @@ fn run_plan(workers: u32, choices: &[u8], plan: &[u8]) -> Built
                 requests: t.requests,
                 steals: t.steals,
                 misses: t.misses,
-            }),
-        },
+            })
+        }
+    }
+}
+
+// Reads the plan, runs it and measures it.
+fn build_plan(workers: u32, choices: &[u8], plan: &[u8]) -> Built
+    ensures { λ r. ⌜ builtOf r ≡ ranWith (now (plan .entry)) workers (now (choices .entry)) ⌝ }
+{
+    let mut frame = [0u16; 256];
+    let mut first = [0u16; 257];
+    let mut job = [0u8; 2048];
+    let mut spawn = [0u16; 2048];
+    let mut join = [0u16; 2048];
+    let mut parent = [0u8; 256];
+    let mut position = [255u8; 256];
+    let mut entering = [0u8; 2048];
+    match read_into(
+        plan,
+        &mut frame,
+        &mut first,
+        &mut job,
+        &mut spawn,
+        &mut join,
+        &mut parent,
+        &mut position,
+        &mut entering,
+    ) {
+        Found::Refused(cause) => Built::Refused(cause),
+        Found::Plan { jobs, actions } => build_read(
+            jobs,
+            actions,
+            workers,
+            choices,
+            &frame,
+            &first,
+            &spawn,
+            &join,
+            &parent,
+            &mut entering,
+        ),
     }
 }
 
@@ -72,5 +139,5 @@ pub fn build(input: &[u8]) -> Built
     if input.len() < start {
         return Built::Refused(Refusal::RanOut);
     }
-    run_plan(units(input[0]), &input[3..start], &input[start..])
+    build_plan(units(input[0]), &input[3..start], &input[start..])
 }

@@ -7,13 +7,14 @@ ghost use Rattle.plan.specs.Plan.{Plan, work};
 ghost use Rattle.runs.specs.Run.{run as runOfPlan, choicesFit};
 ghost use Rattle.scheduler.specs.Entry.{runInto, ranOf, Claimed};
 ghost use Rattle.scheduler.specs.Machine.{RunGiven, Printed, Kept};
+ghost use Rattle.scheduler.specs.Loaded.{Loaded, Answered};
 ghost use Rattle.scheduler.specs.Header.{headerBytes};
 use crate::account::Account;
 use crate::round::round;
-use plan::flat::Verdict;
+use plan::flat::Found;
 use plan::flat::wide8;
 use plan::flat::wide16;
-use plan::reader::read_plan;
+use plan::reader::read_into;
 use plan::refusal::Refusal;
 use runs::tally::Tally;
 
@@ -138,45 +139,86 @@ fn write_header(schedule: &mut [u8], n: usize, actions: usize)
     schedule[3] = (actions % 2 * 128) as u8;
 }
 
+// Runs the plan that the arrays hold and writes its schedule. `missing` has how many joins enter each action.
+pub(crate) fn run_read<'a>(
+    actions: usize,
+    workers: u32,
+    choices: &[u8],
+    schedule: &mut [u8],
+    frame: &'a [u16; 256],
+    first: &'a [u16; 257],
+    spawn: &'a [u16; 2048],
+    join: &'a [u16; 2048],
+    parent: &'a [u8; 256],
+    missing: &mut [u8; 2048],
+) -> Ran
+    requires { ⌜ ((p : Plan) × Loaded p actions (now frame) (now first) (now spawn) (now join) (now parent) (now missing)) ⌝ }
+    ensures { λ r. ⌜ ((p : Plan) → Loaded p actions (now (frame .entry)) (now (first .entry)) (now (spawn .entry)) (now (join .entry)) (now (parent .entry)) (now (missing .entry)) → Answered p workers (now (choices .entry)) (now (schedule .entry)) r (now (schedule .exit))) ⌝ }
+{
+    if workers == 0 {
+        return Ran::Refused(Refusal::Workers);
+    }
+    if 16 < workers {
+        return Ran::Refused(Refusal::Workers);
+    }
+    let n = workers as usize;
+    if !choices_fit(choices, n) {
+        return Ran::Refused(Refusal::Choices);
+    }
+    if schedule.len() < 4 + 2 * actions {
+        return Ran::Refused(Refusal::Short);
+    }
+    write_header(schedule, n, actions);
+    let t = rounds(
+        n,
+        choices,
+        &mut schedule[4..],
+        frame,
+        first,
+        spawn,
+        join,
+        parent,
+        missing,
+    );
+    Ran::Done(t)
+}
+
 // Runs the plan that the bytes hold and writes its schedule.
 pub fn run(plan: &[u8], workers: u32, choices: &[u8], schedule: &mut [u8]) -> Ran
     ensures { λ r. ⌜ record { answer = ranOf r; schedule = now (schedule .exit) } ≡ runInto (now (plan .entry)) workers (now (choices .entry)) (now (schedule .entry)) ⌝ }
     ensures { λ r. ⌜ Claimed (now (plan .entry)) workers r (now (schedule .exit)) ⌝ }
 {
-    let read = read_plan(plan);
-    let verdict = read.verdict;
-    let flat = read.plan;
-    match verdict {
-        Verdict::Refused(cause) => Ran::Refused(cause),
-        Verdict::Accepted => {
-            if workers == 0 {
-                return Ran::Refused(Refusal::Workers);
-            }
-            if 16 < workers {
-                return Ran::Refused(Refusal::Workers);
-            }
-            let n = workers as usize;
-            if !choices_fit(choices, n) {
-                return Ran::Refused(Refusal::Choices);
-            }
-            let actions = flat.actions;
-            if schedule.len() < 4 + 2 * actions {
-                return Ran::Refused(Refusal::Short);
-            }
-            write_header(schedule, n, actions);
-            let mut missing = flat.entering;
-            let t = rounds(
-                n,
-                choices,
-                &mut schedule[4..],
-                &flat.frame,
-                &flat.first,
-                &flat.spawn,
-                &flat.join,
-                &flat.parent,
-                &mut missing,
-            );
-            Ran::Done(t)
-        }
+    let mut frame = [0u16; 256];
+    let mut first = [0u16; 257];
+    let mut job = [0u8; 2048];
+    let mut spawn = [0u16; 2048];
+    let mut join = [0u16; 2048];
+    let mut parent = [0u8; 256];
+    let mut position = [255u8; 256];
+    let mut entering = [0u8; 2048];
+    match read_into(
+        plan,
+        &mut frame,
+        &mut first,
+        &mut job,
+        &mut spawn,
+        &mut join,
+        &mut parent,
+        &mut position,
+        &mut entering,
+    ) {
+        Found::Refused(cause) => Ran::Refused(cause),
+        Found::Plan { actions, .. } => run_read(
+            actions,
+            workers,
+            choices,
+            schedule,
+            &frame,
+            &first,
+            &spawn,
+            &join,
+            &parent,
+            &mut entering,
+        ),
     }
 }

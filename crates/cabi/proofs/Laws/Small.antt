@@ -12,7 +12,7 @@ use Rattle.plan.specs.Plan.{Action, Plan, work}
 use Rattle.plan.specs.Rules.{inRange}
 use Rattle.plan.specs.Field.{bitsOf}
 use Rattle.plan.specs.Writer.{numberBits, actionsBits, jobsBits, planBits, planBytes}
-use Rattle.plan.proofs.Laws.Accepted.{accepted-range}
+use Rattle.plan.proofs.Laws.Accepted.{accepted-kept}
 use Rattle.plan.proofs.Laws.Bits.{bitsOf-length}
 use Rattle.plan.proofs.Laws.Fits.{in-range}
 use Rattle.plan.proofs.Laws.PlanBytes.{planBytes-length}
@@ -58,7 +58,7 @@ planBytes-few p t =
     omega (arith, planBytes-length p, planBits-few p, r .jobs, r .actions)
 
 pub toTable-few : (s rows : List ℕ) (n : ℕ) → toTable s rows .answer ≡ accepted n → n ≤ 2048
-toTable-few s rows n e = toTable-told s rows n e λ p r k b. omega (arith, in-range p (accepted-range s p r) .actions)
+toTable-few s rows n e = toTable-told s rows n e λ p r k b. omega (arith, in-range p (accepted-kept s p r .range) .actions)
 
 pub toPlan-few : (t bytes : List ℕ) (n : ℕ) → toPlan t bytes .answer ≡ accepted n → n ≤ 5379
 toPlan-few t bytes n e = toPlan-told t bytes n e λ p r k b. omega (arith, planBytes-few p (readTable-rules t p r .0))

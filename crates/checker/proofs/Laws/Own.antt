@@ -13,7 +13,7 @@ use Rattle.plan.specs.Refusal.{Outcome, refused, accepted, numberOf}
 use Rattle.plan.specs.Plan.{Plan}
 use Rattle.plan.specs.Rules.{Accepted}
 use Rattle.plan.specs.Reader.{readPlan}
-use Rattle.plan.proofs.Laws.Accepted.{accepted-range, accepted-spawns, accepted-joins}
+use Rattle.plan.proofs.Laws.Accepted.{accepted-kept}
 use Rattle.plan.proofs.Laws.Valid.{work-range}
 use Rattle.plan.proofs.Laws.Lists.{both-left, both-right, of-true}
 use Rattle.runs.specs.declared.tally.Tally.{Tally}
@@ -82,9 +82,7 @@ module _ (plan : List ℕ) (n : ℕ) (choices schedule : List ℕ) where
       bytes = scheduleBytes n (run (w .p) n choices .rows)
 
       kept : Accepted (w .p)
-      kept =
-          let e = w .read in
-          record { range = accepted-range plan (w .p) e; spawns = accepted-spawns plan (w .p) e; joins = accepted-joins plan (w .p) e }
+      kept = accepted-kept plan (w .p) (w .read)
 
       long : length bytes ≡ 4 + 2 * t .actions
       long =

@@ -2,13 +2,11 @@
 -- Assumes nothing.
 use native.Mathlib.Omega.{arith}
 use borrow.Author.Needs.{needs}
-use Rattle.plan.specs.declared.flat.FlatPlan.{FlatPlan}
+use Rattle.plan.specs.Flat.{FlatPlan}
 use Rattle.plan.proofs.Laws.Blank.{blank}
+use Rattle.plan.proofs.Laws.Found.{Given, found-given}
 use Rattle.checker.specs.Formed.{WellFormed}
 use Rattle.checker.proofs.Laws.Judging.{
-  Given,
-  found-given,
-  given-few,
   judges-plan,
   judges-form,
   rules-given,
@@ -40,7 +38,7 @@ flat c =
       spawn = l .1 .1 .1 .0;
       join = l .1 .1 .1 .1 .0;
       parent = l .1 .1 .1 .1 .1 .0;
-      «spawn_position» = l .1 .1 .1 .1 .1 .1 .0;
+      position = l .1 .1 .1 .1 .1 .1 .0;
       entering = l .1 .1 .1 .1 .1 .1 .1 .0;
     }
 
@@ -48,7 +46,7 @@ given : (c : tie.After-jobs) → Given (c .before .before .before .before .befor
 given c = found-given _ (flat c) (rw (c .jobs .given .1) at (c .before .before .read-into .ensures))
 
 form-requires : tie.Need-form-requires
-form-requires c κs = given-few (given (c .before))
+form-requires c κs = given (c .before) .few
 
 returns : tie.Need-returns
 returns c = judges-form _ _ _ (given (c .before .before .before)) (c .before .form .ensures .broken (c .if1 .taken))

@@ -8,7 +8,7 @@ use mathlib.Core.List.{List}
 use lib.Dec.{T}
 use Rattle.plan.specs.Refusal.{refused, accepted}
 use Rattle.plan.specs.Plan.{Plan}
-use Rattle.plan.specs.Rules.{inRange, spawnRules, joinRules}
+use Rattle.plan.specs.Rules.{inRange, spawnRules, joinRules, Accepted}
 use Rattle.plan.specs.Field.{stop, step}
 use Rattle.plan.specs.Reader.{planAt, fills, judged, readPlan}
 use Rattle.plan.proofs.Laws.Steps.{bool-cases, step-cases, plan-next}
@@ -61,11 +61,7 @@ module _ (s : List ℕ) (p : Plan) (e : readPlan s ≡ accepted p) where
   pub accepted-place : (at : ℕ) × (planAt s ≡ step p at) × T (fills s at)
   accepted-place = let r = accepted-all in (r .0, r .1, r .2)
 
-  pub accepted-range : T (inRange p)
-  accepted-range = let r = accepted-all in planAt-range s p (r .0) (r .1)
-
-  pub accepted-spawns : T (spawnRules p)
-  accepted-spawns = accepted-all .3
-
-  pub accepted-joins : T (joinRules p)
-  accepted-joins = accepted-all .4
+  pub accepted-kept : Accepted p
+  accepted-kept =
+      let (at, e, fills, spawns, joins) = accepted-all in
+      record { range = planAt-range s p at e; spawns = spawns; joins = joins }

@@ -4,7 +4,7 @@ use mathlib.Core.Path.{refl}
 use lib.ListN.{replicate}
 use Rattle.plan.specs.Flat.{Blank}
 
-pub blank : Blank (record { jobs = 0; actions = 0; frame = replicate 256 0; first = replicate 257 0; job = replicate 2048 0; spawn = replicate 2048 0; join = replicate 2048 0; parent = replicate 256 0; «spawn_position» = replicate 256 255; entering = replicate 2048 0 })
+pub blank : Blank (record { jobs = 0; actions = 0; frame = replicate 256 0; first = replicate 257 0; job = replicate 2048 0; spawn = replicate 2048 0; join = replicate 2048 0; parent = replicate 256 0; position = replicate 256 255; entering = replicate 2048 0 })
 blank =
     record {
       frames = refl;

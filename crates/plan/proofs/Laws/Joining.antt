@@ -124,6 +124,7 @@ module _ (p : Plan) (k : ℕ) (first job spawn join parents positions : List ℕ
     counted-none z u =
         record {
           long = r .long;
+          whole = r .whole;
           fits = fits-more (fits-none p (here p k) (sent ∙ z)) u;
           counts = λ q t a b. r .counts q t a b ∙ sym (same-count q t (λ y. omega (arith, sent, enters-of p q t (here p k) y .1)));
           few = r .few;
@@ -243,6 +244,7 @@ module _ (p : Plan) (k : ℕ) (first job spawn join parents positions : List ℕ
             told-kept p (suc k) _
             (record {
               long = rw length-set (r .long);
+              whole = rw length-set (r .whole);
               fits = fits-more fits sends;
               counts = λ a t v u. after a t v u (decT (enters p a t (here p k))) .0;
               few = λ a t v u. after a t v u (decT (enters p a t (here p k))) .1;
@@ -288,6 +290,7 @@ pub counted-start : (p : Plan) → T (inRange p) → (l : List ℕ) → Unentere
 counted-start p g l u =
     record {
       long = rw (u, length-replicate) (work-in-range p g .1);
+      whole = rw (u, length-replicate) refl;
       fits = λ i b. absurd (not-suc-le-zero b);
       counts = λ q t h b. zero-at q t h b;
       few = λ q t h b. rw (zero-at q t h b) (omega arith);
@@ -325,6 +328,6 @@ module _ (p : Plan) (l : List ℕ) where
     all-entered =
         array-by (λ a. entering p (a .job) (a .position)) noPlaced l (placed p) (work p) (placed-length p) (r .long) (λ i b. entering-at i b .0)
 
-  pub joins-told : (told : Bool) → JoinTold p (work p) told l → (told ≡ joinRules p) × (T told → Entered p l)
+  pub joins-told : (told : Bool) → JoinTold p (work p) told l → (told ≡ joinRules p) × (T told → Entered p l × (length l ≡ 2048))
   joins-told told t =
-      (equal-tests told (joinRules p) (λ y. rules-kept (t .kept y)) (t .broken), λ y. all-entered (t .kept y))
+      (equal-tests told (joinRules p) (λ y. rules-kept (t .kept y)) (t .broken), λ y. (all-entered (t .kept y), t .kept y .whole))

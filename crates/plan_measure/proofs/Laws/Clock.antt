@@ -16,7 +16,6 @@ use Rattle.plan.proofs.Laws.Placed.{start, start-suc, start-below, place-below,
 use Rattle.plan.specs.Rules.{Accepted}
 use Rattle.plan.proofs.Laws.Valid.{older, spawned-there, spawned-once, join-target, size-range, jobs-range, work-range}
 use Rattle.plan_measure.proofs.Laws.Follows.{act}
-use Rattle.plan_measure.proofs.Laws.Paths.{of-kept}
 use Rattle.plan_measure.proofs.Laws.Times.{longest-ends, ends-small, begins-spawn, ends-next, begins-first, begins-before, ends-sent, ends-within}
 
 -- no two actions stand at one place
@@ -228,7 +227,7 @@ module _ (p : Plan) (ok : Accepted p) where
 -- the same by the action's place k
 module _ (p : Plan) (j base end : ℕ) (first spawn join : List ℕ) (g : JobGiven p j base end first spawn join) where
   rules : Accepted p
-  rules = of-kept p (g .arrays .rules)
+  rules = g .arrays .rules
 
   pub job-places : (end ≡ base + size p j) × (end ≤ 2048)
   job-places = omega (arith, g .start, g .past, start-suc p j (g .known), start-below p (suc j), work-range p rules)

@@ -1,47 +1,42 @@
--- What the answer of reading tells of the plan to be measured.
+-- What is measured of a plan that was read, and what the entry then answers.
 -- Assumes nothing.
 use Prim.Native.Nat.{ℕ, _≤_}
-use mathlib.Core.Path.{_≡_, sym, _∙_}
+use mathlib.Core.Path.{_≡_, sym, ap, _∙_}
 use mathlib.Core.List.{List}
 use native.Mathlib.Omega.{arith}
-use lib.ListN.{length}
-use Rattle.plan.specs.declared.flat.FlatPlan.{FlatPlan}
-use Rattle.plan.specs.Refusal.{refused, accepted}
-use Rattle.plan.specs.Plan.{Plan, work}
-use Rattle.plan.specs.Flat.{Holds}
+use Rattle.plan.specs.Refusal.{Outcome, refused, accepted}
+use Rattle.plan.specs.Plan.{Plan}
+use Rattle.plan.specs.Flat.{FlatPlan}
 use Rattle.plan.specs.Reader.{readPlan}
+use Rattle.plan_measure.specs.declared.Measures.{Measures}
 use Rattle.plan_measure.specs.Measure.{measured, measures, longest, heaviest}
-use Rattle.plan_measure.specs.Times.{RulesKept, PathsGiven, TimesGiven}
+use Rattle.plan_measure.specs.Times.{MeasureGiven}
 use Rattle.plan.proofs.Laws.Valid.{work-range}
-use Rattle.plan.proofs.Laws.Accepted.{accepted-range, accepted-spawns, accepted-joins}
-use Rattle.plan_measure.proofs.Laws.Paths.{of-kept}
+use Rattle.plan.proofs.Laws.Found.{Given}
 
-pub record Measurable (s : List ℕ) (f : FlatPlan) : Type 0 where
-  pub plan : Plan
-  pub times : TimesGiven plan (f .first) (f .spawn) (f .join)
-  pub paths : PathsGiven plan (f .jobs) (f .frame) (f .parent)
-  pub actions : f .actions ≡ work plan
-  pub small : f .actions ≤ 2048
-  pub answer : measures s ≡ accepted (record { actions = work plan; longest = longest plan; path = heaviest plan })
+pub given-measured : (s : List ℕ) (f : FlatPlan) (g : Given s f)
+    → MeasureGiven (g .plan) (f .jobs) (f .actions) (f .frame) (f .first) (f .spawn) (f .join) (f .parent)
+given-measured s f g =
+    let h = g .holds in
+    record {
+      paths = record { rules = g .kept; count = h .jobs; frames = h .frames; parents = h .spawned .parents };
+      times = record { rules = g .kept; firsts = h .firsts; spawns = h .spawns; joins = h .joins };
+      all = h .actions;
+    }
 
-pub measurable-answer : (s : List ℕ) (f : FlatPlan) (m : Measurable s f) (length path : ℕ) → length ≡ longest (m .plan) → path ≡ heaviest (m .plan)
-    → accepted (record { actions = f .actions; longest = length; path = path }) ≡ measures s
-measurable-answer s f m length path e g =
-    (λ i. accepted (record { actions = m .actions i; longest = e i; path = g i })) ∙ sym (m .answer)
+module _ (p : Plan) (jobs actions : ℕ) (frame first spawn join parent : List ℕ) (g : MeasureGiven p jobs actions frame first spawn join parent) where
+  pub measured-few : actions ≤ 2048
+  measured-few = omega (arith, g .all, work-range p (g .paths .rules))
+
+  pub measured-by : (length path : ℕ) → length ≡ longest p → path ≡ heaviest p
+      → accepted (record { actions = actions; longest = length; path = path }) ≡ measured (accepted p)
+  unfolding measured
+  measured-by length path e h = λ i. accepted (record { actions = g .all i; longest = e i; path = h i })
 
 module _ (s : List ℕ) where
-  pub holds-measurable : (p : Plan) (f : FlatPlan) → readPlan s ≡ accepted p → Holds p f → Measurable s f
-  unfolding measures measured
-  holds-measurable p f e h =
-      let rules : RulesKept p = record { range = accepted-range s p e; spawns = accepted-spawns s p e; joins = accepted-joins s p e } in
-      record {
-        plan = p;
-        times = record { rules = rules; firsts = h .firsts; spawns = h .spawns; joins = h .joins };
-        paths = record { rules = rules; count = h .jobs; frames = h .frames; parents = h .spawned .parents };
-        actions = h .actions;
-        small = omega (arith, h .actions, work-range p (of-kept p rules));
-        answer = rw e;
-      }
+  pub measures-read : (p : Plan) (m : Outcome Measures) → readPlan s ≡ accepted p → m ≡ measured (accepted p) → m ≡ measures s
+  unfolding measures
+  measures-read p m e q = q ∙ sym (ap measured e)
 
   pub measures-refused : (n : ℕ) → readPlan s ≡ refused n → measures s ≡ refused n
   unfolding measures measured

@@ -13,7 +13,6 @@ use lib.ListN.{length}
 use Rattle.plan.specs.Test.{largest, below}
 use Rattle.plan.specs.Plan.{Plan, job, parent}
 use Rattle.plan_measure.specs.Measure.{pathOver, path, heaviest}
-use Rattle.plan_measure.specs.Times.{RulesKept}
 use Rattle.plan_measure.proofs.Laws.Largest.{largest-more, largest-above, largest-attained, below-member, member-below}
 use Rattle.plan.specs.Rules.{Accepted}
 use Rattle.plan.proofs.Laws.Valid.{older, frame-range, jobs-range}
@@ -95,9 +94,6 @@ module _ (p : Plan) where
 pub record Weighed (p : Plan) (j most : ℕ) (weight : ℕ → ℕ) : Type 0 where
   pub weights : (k : ℕ) → k < j → weight k ≡ path p k
   pub largest : most ≡ largest (path p) (below j)
-
-pub of-kept : (p : Plan) → RulesKept p → Accepted p
-of-kept p k = record { range = k .range; spawns = k .spawns; joins = k .joins }
 
 module _ (p : Plan) (ok : Accepted p) where
   pub weighed-root : (most : ℕ) (weight : ℕ → ℕ) → most ≡ job p 0 .frame → weight 0 ≡ most → Weighed p 1 most weight

@@ -11,7 +11,7 @@ use Rattle.plan_measure.specs.Measure.{heaviest}
 use Rattle.plan_measure.specs.Times.{at, PathsGiven}
 use Rattle.plan.proofs.Laws.Placed.{frame-at}
 use Rattle.plan.proofs.Laws.Valid.{older, jobs-range}
-use Rattle.plan_measure.proofs.Laws.Paths.{Weighed, of-kept, weighed-root, weighed-more, path-small}
+use Rattle.plan_measure.proofs.Laws.Paths.{Weighed, weighed-root, weighed-more, path-small}
 use Rattle.plan_measure.proofs.heaviest.Statement.{statement}
 use Rattle.plan_measure.proofs.heaviest.Tie as tie
 
@@ -36,13 +36,13 @@ loop-holds : tie.Need-loop-holds Inv-loop μ-loop
 loop-holds c =
     let s = c .before .before in
     let (p, g) = s .pre in
-    let r = jobs-range p (of-kept p (g .rules)) in (
+    let r = jobs-range p (g .rules) in (
       omega arith,
       omega (arith, g .count),
       omega (arith, g .count),
       refl,
       λ p g.
-          let ok = of-kept p (g .rules) in
+          let ok = g .rules in
           weighed-root p ok _ _ (c .units .ensures .0 ∙ frame-at p _ (g .frames) 0 (jobs-range p ok .0)) refl,
     )
 
@@ -71,7 +71,7 @@ add-weight : tie.Need-add-weight Inv-loop μ-loop
 add-weight c =
     let l = c .before .before .before .before .before in
     let (p, g) = l .before .before .before .pre in
-    let ok = of-kept p (g .rules) in
+    let ok = g .rules in
     let j = l .loop .j in
     let b : j < length p = omega (arith, g .count, c .before .before .before .before .loop-test .taken) in
     let q : c .before .before .wide8 .result ≡ parent p j = c .before .before .wide8 .ensures .0 ∙ g .parents j (l .loop .inv .0) b in
@@ -110,7 +110,7 @@ loop-again c =
       omega (arith, l .loop .inv),
       simp length-set (l .loop .inv .3),
       λ p g.
-          let ok = of-kept p (g .rules) in
+          let ok = g .rules in
           let b : j < length p = omega (arith, g .count) in
           let q : c .before .before .before .wide8 .result ≡ parent p j = c .before .before .before .wide8 .ensures .0 ∙ g .parents j (l .loop .inv .0) b in
           let f : c .before .units2 .result ≡ job p j .frame = c .before .units2 .ensures .0 ∙ frame-at p _ (g .frames) j b in

@@ -8,7 +8,6 @@ use lib.ListN.{length}
 use Rattle.plan.specs.Plan.{Plan, size}
 use Rattle.plan_measure.specs.Times.{at, ends, begins, TimesGiven, TimedFrom}
 use Rattle.plan.proofs.Laws.Valid.{jobs-range}
-use Rattle.plan_measure.proofs.Laws.Paths.{of-kept}
 use Rattle.plan_measure.proofs.Laws.Clock.{timed-none, job-given, zeros-at, root-longest}
 use Rattle.plan_measure.proofs.longest.Statement.{statement}
 use Rattle.plan_measure.proofs.longest.Tie as tie
@@ -25,12 +24,12 @@ abbrev μ-loop : tie.MeasureT-loop
 loop-holds : tie.Need-loop-holds Inv-loop μ-loop
 loop-holds c =
     let (p, g, e) = c .pre in (
-      omega (arith, jobs-range p (of-kept p (g .rules))),
+      omega (arith, jobs-range p (g .rules)),
       omega arith,
       refl,
       refl,
       λ p g e.
-          let ok = of-kept p (g .rules) in
+          let ok = g .rules in
           (timed-none p ok _ _ _ e (zeros-at 2048), λ z. absurd (omega (arith, jobs-range p ok))),
     )
 
@@ -94,7 +93,7 @@ loop-again c =
 returns : tie.Need-returns Inv-loop μ-loop
 returns c = λ p g e.
     let l = c .before .loop in
-    root-longest p (of-kept p (g .rules)) (l .most) (l .inv .4 p g e .1 (omega arith))
+    root-longest p (g .rules) (l .most) (l .inv .4 p g e .1 (omega arith))
 
 pub longest-spec : {M : Type 1} → statement M
 longest-spec =

@@ -1,10 +1,10 @@
 -- `measure::measure` meets its contract.
 -- Assumes nothing.
 use mathlib.Core.Path.{sym}
-use native.Mathlib.Omega.{arith}
-use Rattle.plan.specs.declared.flat.FlatPlan.{FlatPlan}
+use Rattle.plan.specs.Flat.{FlatPlan}
 use Rattle.plan.proofs.Laws.Blank.{blank}
-use Rattle.plan_measure.proofs.Laws.Measuring.{Measurable, measurable-answer, holds-measurable, measures-refused}
+use Rattle.plan.proofs.Laws.Found.{Given, found-given}
+use Rattle.plan_measure.proofs.Laws.Measuring.{given-measured, measures-read, measures-refused}
 use borrow.Author.Needs.{needs}
 use Rattle.plan_measure.proofs.measure.Statement.{statement}
 use Rattle.plan_measure.proofs.measure.Tie as tie
@@ -18,7 +18,7 @@ enum-known-cause c = search needs
 enum-known-jobs : tie.Need-enum-known-jobs
 enum-known-jobs c = search needs
 
--- the arrays that were read into, and what is measured of them
+-- the arrays that were read into, and the plan that they hold
 abbrev flat : tie.After-jobs → FlatPlan
 flat c =
     let l = c .before .before .read-into .last .1 in
@@ -31,27 +31,17 @@ flat c =
       spawn = l .1 .1 .1 .0;
       join = l .1 .1 .1 .1 .0;
       parent = l .1 .1 .1 .1 .1 .0;
-      «spawn_position» = l .1 .1 .1 .1 .1 .1 .0;
+      position = l .1 .1 .1 .1 .1 .1 .0;
       entering = l .1 .1 .1 .1 .1 .1 .1 .0;
     }
 
-found : (c : tie.After-jobs) → Measurable (c .before .before .before .before .before .before .before .before .before .before .before .before .args .bytes .now) (flat c)
-found c =
-    let t = rw (c .jobs .given .1) at (c .before .before .read-into .ensures) in
-    holds-measurable _ (t .0) (flat c) (t .1) (t .2)
+given : (c : tie.After-jobs) → Given (c .before .before .before .before .before .before .before .before .before .before .before .before .args .bytes .now) (flat c)
+given c = found-given _ (flat c) (rw (c .jobs .given .1) at (c .before .before .read-into .ensures))
 
-cast-t23 : tie.Need-cast-t23
-cast-t23 c = omega (arith, found (c .before) .small)
-
-longest-requires : tie.Need-longest-requires
-longest-requires c κs =
-    let m = found (c .before .before .before .before) in
-    (m .plan, m .times, m .paths .count)
-
-heaviest-requires : tie.Need-heaviest-requires
-heaviest-requires c κs =
-    let m = found (c .before .before .before .before .before .before .before) in
-    (m .plan, m .paths)
+measure-read-requires : tie.Need-measure-read-requires
+measure-read-requires c κs =
+    let g = given (c .before .before .before .before .before .before) in
+    (g .plan, given-measured _ _ g)
 
 returns : tie.Need-returns
 returns c =
@@ -60,8 +50,8 @@ returns c =
 
 returns-2 : tie.Need-returns-2
 returns-2 c =
-    let m = found (c .before .before .before .before .before .before .before .before) in
-    measurable-answer _ _ m _ _ (c .before .before .before .longest .ensures (m .plan) (m .times) (m .paths .count)) (c .heaviest .ensures (m .plan) (m .paths))
+    let g = given (c .before .before .before .before .before .before .before) in
+    measures-read _ (g .plan) _ (g .read) (c .measure-read .ensures (g .plan) (given-measured _ _ g))
 
 pub measure-spec : {M : Type 1} → statement M
 measure-spec =
@@ -70,8 +60,6 @@ measure-spec =
     read-into-requires
     enum-known-cause
     enum-known-jobs
-    cast-t23
-    longest-requires
-    heaviest-requires
+    measure-read-requires
     returns
     returns-2)

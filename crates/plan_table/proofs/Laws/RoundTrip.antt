@@ -14,7 +14,7 @@ use Rattle.plan.specs.Plan.{Plan, work}
 use Rattle.plan.specs.Reader.{readPlan}
 use Rattle.plan.specs.Writer.{planBytes}
 use Rattle.plan_table.specs.Table.{tableOf, readTable, Written, written, tabled, toTable, encoded, toPlan}
-use Rattle.plan.proofs.Laws.Accepted.{accepted-range, accepted-spawns, accepted-joins}
+use Rattle.plan.proofs.Laws.Accepted.{accepted-kept}
 use Rattle.plan.proofs.Laws.Outcomes.{refused-accepted}
 use Rattle.plan.proofs.Laws.PlanBytes.{Bytes, read-write, write-read}
 use Rattle.plan_table.proofs.Laws.OpenTable.{table-read-write, table-write-read, tableOf-length, readTable-rules}
@@ -67,10 +67,11 @@ pub plan-table-plan : (s rows bytes : List ℕ) (n : ℕ) → Bytes s → toTabl
 unfolding toPlan encoded
 plan-table-plan s rows bytes n h e room =
     toTable-told s rows n e λ p r k b.
+    let kept = accepted-kept s p r in
     let t : take (4 * n) (toTable s rows .buffer) ≡ tableOf p
     = ap (take (4 * n)) b ∙ take-at (tableOf p) (drop (length (tableOf p)) rows) (4 * n) (omega (arith, tableOf-length p)) in
     ap (λ t. toPlan t bytes) t
-    ∙ ap (λ o. encoded o bytes) (table-write-read p (accepted-range s p r) (accepted-spawns s p r) (accepted-joins s p r))
+    ∙ ap (λ o. encoded o bytes) (table-write-read p (kept .range) (kept .spawns) (kept .joins))
     ∙ ap (λ o. written o (length o) bytes) (read-write s p h r)
     ∙ written-room s (length s) bytes room
 

@@ -1,15 +1,8 @@
 -- `plan::table::plan_to_table` meets its contract: each answer by what reading the bytes tells. Assumes nothing.
-use Prim.Native.Nat.{_≤_}
-use mathlib.Core.Path.{_≡_}
-use Rattle.plan.specs.declared.flat.FlatPlan.{FlatPlan}
-use Rattle.plan.specs.Plan.{Plan}
-use Rattle.plan.specs.Refusal.{accepted}
-use Rattle.plan.specs.Reader.{readPlan}
-use Rattle.plan.specs.Flat.{Holds}
+use Rattle.plan.specs.Flat.{FlatPlan}
 use Rattle.plan_table.specs.GivenRows.{RowsGiven}
 use Rattle.plan.proofs.Laws.Blank.{blank}
-use Rattle.plan.proofs.Laws.Accepted.{accepted-range}
-use Rattle.plan.proofs.Laws.Spawning.{work-in-range}
+use Rattle.plan.proofs.Laws.Found.{Given, found-given}
 use Rattle.plan_table.proofs.Laws.Answers.{table-refused, table-short, table-whole}
 use native.Mathlib.Omega.{arith}
 use borrow.Author.Needs.{needs}
@@ -38,31 +31,27 @@ flat c =
       spawn = l .1 .1 .1 .0;
       join = l .1 .1 .1 .1 .0;
       parent = l .1 .1 .1 .1 .1 .0;
-      «spawn_position» = l .1 .1 .1 .1 .1 .1 .0;
+      position = l .1 .1 .1 .1 .1 .1 .0;
       entering = l .1 .1 .1 .1 .1 .1 .1 .0;
     }
 
-told : (c : tie.After-actions) → (p : Plan) × (readPlan (c .before .before .before .before .before .before .before .before .before .before .before .before .before .args .bytes .now) ≡ accepted p) × Holds p (flat c)
-told c = rw (c .actions .given .1) at (c .before .before .read-into .ensures)
-
-few : (c : tie.After-actions) → flat c .actions ≤ 2048
-few c =
-    let p = told c in
-    omega (arith, p .2 .actions, work-in-range (p .0) (accepted-range _ (p .0) (p .1)))
+given : (c : tie.After-actions) → Given (c .before .before .before .before .before .before .before .before .before .before .before .before .before .args .bytes .now) (flat c)
+given c = found-given _ (flat c) (rw (c .actions .given .1) at (c .before .before .read-into .ensures))
 
 mul-if1 : tie.Need-mul-if1
-mul-if1 c = omega (arith, few (c .before))
+mul-if1 c = omega (arith, given (c .before) .few)
 
 returns : tie.Need-returns
 returns c =
-    let p = told (c .before .before) in
-    table-short _ _ (p .0) (p .1) (omega (arith, p .2 .actions))
+    let g = given (c .before .before) in
+    table-short _ _ (g .plan) (g .read) (omega (arith, g .holds .actions))
 
-given : (c : tie.After-actions) → RowsGiven (told c .0) (flat c .actions) (flat c .frame) (flat c .job) (flat c .spawn) (flat c .join)
-given c =
-    let h = told c .2 in
+rows-given : (c : tie.After-actions) → RowsGiven (given c .plan) (flat c .actions) (flat c .frame) (flat c .job) (flat c .spawn) (flat c .join)
+rows-given c =
+    let g = given c in
+    let h = g .holds in
     record {
-      few = omega (arith, few c, h .actions);
+      few = omega (arith, g .few, h .actions);
       all = h .actions;
       frames = h .frames;
       owners = h .owners;
@@ -73,7 +62,7 @@ given c =
 write-rows-requires : tie.Need-write-rows-requires
 write-rows-requires c κs =
     let t = c .before .before .before .before .before .before .before in
-    ((told t .0, given t), omega arith)
+    ((given t .plan, rows-given t), omega arith)
 
 returns-2 : tie.Need-returns-2
 returns-2 c =
@@ -87,8 +76,9 @@ returns-3 : tie.Need-returns-3
 returns-3 c =
     let o = c .before .before .before .before .before .before .before .before in
     let t = o .before .before in
-    let p = told t in
-    table-whole _ _ (p .0) _ _ (p .1) (p .2 .actions) (o .if1 .left) (c .before .before .write-rows .ensures (p .0) (given t))
+    let g = given t in
+    table-whole _ _ (g .plan) _ _ (g .read) (g .holds .actions) (o .if1 .left)
+    (c .before .before .write-rows .ensures (g .plan) (rows-given t))
 
 pub plan-to-table-spec : {M : Type 1} → statement M
 plan-to-table-spec =

@@ -13,7 +13,7 @@ use Rattle.runs.specs.Run.{run, workersFit, choicesFit}
 use Rattle.runs.specs.Claim.{Bounds, Demand3}
 use Rattle.plan.proofs.Laws.Lists.{both-left, both-right}
 use Rattle.plan.specs.Rules.{Accepted}
-use Rattle.plan.proofs.Laws.Accepted.{accepted-range, accepted-spawns, accepted-joins}
+use Rattle.plan.proofs.Laws.Accepted.{accepted-kept}
 use Rattle.runs.proofs.Laws.Whole.{run-trace, rounds-most, lone-rounds}
 use Rattle.runs.proofs.Laws.Rounds.{began-busy}
 use Rattle.runs.proofs.Laws.Order.{last-round, least-rounds}
@@ -39,5 +39,4 @@ run-bounds p ok n some most choices =
 
 pub demand3 : Demand3
 demand3 s p n choices a w c =
-    let ok : Accepted p = record { range = accepted-range s p a; spawns = accepted-spawns s p a; joins = accepted-joins s p a } in
-    run-bounds p ok n (workers-range n w .0) (workers-range n w .1) choices
+    run-bounds p (accepted-kept s p a) n (workers-range n w .0) (workers-range n w .1) choices

@@ -1,4 +1,5 @@
--- What a run into a schedule of 4,100 bytes tells of the build: the schedule fits, so what was answered is the build's own outcome.
+-- What a run into a schedule of 4,100 bytes tells of the build: the schedule fits, so what was answered is the build's own
+-- outcome. Then what the build's input asks for.
 -- Assumes nothing.
 use Prim.Native.Nat.{ℕ, _+_, _-_, _≤_, _<_}
 use mathlib.Core.Path.{_≡_, refl, sym, ap, ap₂, _∙_}
@@ -14,16 +15,16 @@ use Rattle.plan.specs.Refusal.{Outcome, refused, accepted}
 use Rattle.plan.specs.Plan.{Plan, work}
 use Rattle.plan.specs.Rules.{Accepted}
 use Rattle.plan.specs.Reader.{readPlan}
-use Rattle.plan.proofs.Laws.Accepted.{accepted-range, accepted-spawns, accepted-joins}
 use Rattle.plan.proofs.Laws.Valid.{work-range}
 use Rattle.plan.proofs.Laws.Lists.{both-left, both-right, of-true}
 use Rattle.plan_measure.specs.declared.Measures.{Measures}
-use Rattle.plan_measure.specs.Measure.{longest, heaviest, measured, measures}
+use Rattle.plan_measure.specs.Measure.{longest, heaviest, measured}
+use Rattle.plan_measure.specs.Times.{MeasureGiven}
 use Rattle.runs.specs.declared.tally.Tally.{Tally}
-use Rattle.runs.specs.State.{State}
 use Rattle.runs.specs.Run.{run, workersFit, choicesFit, admitted, runOf}
 use Rattle.runs.specs.Schedule.{scheduleBytes}
-use Rattle.scheduler.specs.Entry.{Result, resulted, runInto}
+use Rattle.scheduler.specs.Entry.{Result, resulted}
+use Rattle.scheduler.specs.Loaded.{Loaded}
 use Rattle.scheduler.specs.declared.build.Counts.{Counts}
 use Rattle.scheduler.specs.Build.{countsOf, ranWith, choiceCount, buildOf}
 use Rattle.scheduler.proofs.Laws.RunBytes.{run-fits}
@@ -43,99 +44,105 @@ counted t m =
       misses = t .misses;
     }
 
-module _ (bytes : List ℕ) (n : ℕ) (choices schedule : List ℕ) (long : 4100 ≤ length schedule) where
-  abbrev answer : Outcome Tally
-  answer = runInto bytes n choices schedule .answer
+-- the arrays that are run are measured too
+pub loaded-measured : (p : Plan) (jobs actions : ℕ) (frame first spawn join parent missing : List ℕ)
+    → Loaded p actions frame first spawn join parent missing → jobs ≡ length p → MeasureGiven p jobs actions frame first spawn join parent
+loaded-measured p jobs actions frame first spawn join parent missing g e =
+    let h = g .planned in
+    record {
+      paths = record { rules = h .accepted; count = e; frames = h .frames; parents = h .parents };
+      times = record { rules = h .accepted; firsts = h .firsts; spawns = h .spawns; joins = h .joins };
+      all = g .all;
+    }
 
-  -- the build is turned down and the run answers so
+module _ (p : Plan) (ok : Accepted p) (n : ℕ) (choices schedule : List ℕ) (long : 4100 ≤ length schedule) where
+  abbrev answer : Outcome Tally
+  answer = resulted (admitted (accepted p) n choices) n schedule .answer
+
+  abbrev built : Outcome Counts
+  built = countsOf (accepted p) (admitted (accepted p) n choices)
+
+  -- the run is turned down, or its tally is answered
   record Stopped : Type 0 where
     cause : ℕ
-    built : ranWith bytes n choices ≡ refused cause
-    answered : answer ≡ refused cause
+    not-run : admitted (accepted p) n choices ≡ refused cause
 
-  -- a plan was read and run
   record Went : Type 0 where
-    plan : Plan
-    state : State
-    read : readPlan bytes ≡ accepted plan
-    ran : runOf bytes n choices ≡ accepted state
-    answered : answer ≡ accepted (state .tally)
-
-  stops : (k : ℕ) → ranWith bytes n choices ≡ refused k → runOf bytes n choices ≡ refused k → Stopped ⊎ Went
-  unfolding runInto resulted
-  stops k e q = inl (record { cause = k; built = e; answered = ap (λ o. resulted o n schedule .answer) q })
-
-  goes : (p : Plan) → readPlan bytes ≡ accepted p → 1 ≤ n → n ≤ 16 → runOf bytes n choices ≡ accepted (run p n choices) → Stopped ⊎ Went
-  unfolding runInto resulted
-  goes p e some most q =
-      let ok : Accepted p = record { range = accepted-range bytes p e; spawns = accepted-spawns bytes p e; joins = accepted-joins bytes p e } in
-      let fits : length (scheduleBytes n (run p n choices .rows)) ≤ length schedule =
-      omega (arith, run-fits p ok n some most choices, work-range p ok) in
-      let whole : runInto bytes n choices schedule ≡ record {
-        answer = accepted (run p n choices .tally);
-        schedule = scheduleBytes n (run p n choices .rows) ++ drop (length (scheduleBytes n (run p n choices .rows))) schedule;
-      } = rw (q, resulted, le-leb _ _ fits) in
-      inr (record { plan = p; state = run p n choices; read = e; ran = q; answered = ap (λ (r : Result). r .answer) whole })
+    ran : admitted (accepted p) n choices ≡ accepted (run p n choices)
+    some : 1 ≤ n
+    most : n ≤ 16
 
   outcome : Stopped ⊎ Went
-  unfolding runOf admitted ranWith countsOf
-  outcome = plan (readPlan bytes) refl
+  unfolding admitted workersFit
+  outcome = worker (workersFit n) refl
     where
-      choice : (p : Plan) (b : Bool) → readPlan bytes ≡ accepted p → workersFit n ≡ true → choicesFit n choices ≡ b → Stopped ⊎ Went
-      choice p false e w q = stops 8 (rw (e, admitted, w, q)) (rw (e, admitted, w, q))
-      choice p true e w q =
+      choice : (b : Bool) → workersFit n ≡ true → choicesFit n choices ≡ b → Stopped ⊎ Went
+      choice false w q = inl (record { cause = 8; not-run = rw (admitted, w, q) })
+      choice true w q =
           let t = of-true (workersFit n) w in
-          goes p e (leb→le 1 n (both-left (leb 1 n) (leb n 16) t)) (leb→le n 16 (both-right (leb 1 n) (leb n 16) t)) (rw (e, admitted, w, q))
+          inr (record {
+            ran = rw (admitted, w, q);
+            some = leb→le 1 n (both-left (leb 1 n) (leb n 16) t);
+            most = leb→le n 16 (both-right (leb 1 n) (leb n 16) t);
+          })
 
-      worker : (p : Plan) (b : Bool) → readPlan bytes ≡ accepted p → workersFit n ≡ b → Stopped ⊎ Went
-      worker p false e q = stops 7 (rw (e, admitted, q)) (rw (e, admitted, q))
-      worker p true e q = choice p (choicesFit n choices) e q refl
+      worker : (b : Bool) → workersFit n ≡ b → Stopped ⊎ Went
+      worker false q = inl (record { cause = 7; not-run = rw (admitted, q) })
+      worker true q = choice (choicesFit n choices) q refl
 
-      plan : (o : Outcome Plan) → readPlan bytes ≡ o → Stopped ⊎ Went
-      plan (refused k) e = stops k (rw e) (rw e)
-      plan (accepted p) e = worker p (workersFit n) e refl
+  stopped-answer : (s : Stopped) → answer ≡ refused (s .cause)
+  unfolding resulted
+  stopped-answer s = ap (λ o. resulted o n schedule .answer) (s .not-run)
 
-  pub build-refused : (k : ℕ) → _≡_ {A = Outcome Tally} (refused k) answer → _≡_ {A = Outcome Counts} (refused k) (ranWith bytes n choices)
+  went-answer : Went → answer ≡ accepted (run p n choices .tally)
+  unfolding resulted
+  went-answer w =
+      let fits : length (scheduleBytes n (run p n choices .rows)) ≤ length schedule =
+      omega (arith, run-fits p ok n (w .some) (w .most) choices, work-range p ok) in
+      let whole : resulted (admitted (accepted p) n choices) n schedule ≡ record {
+        answer = accepted (run p n choices .tally);
+        schedule = scheduleBytes n (run p n choices .rows) ++ drop (length (scheduleBytes n (run p n choices .rows))) schedule;
+      } = rw (w .ran, resulted, le-leb _ _ fits) in
+      ap (λ (r : Result). r .answer) whole
+
+  pub build-refused : (k : ℕ) → _≡_ {A = Outcome Tally} (refused k) answer → _≡_ {A = Outcome Counts} (refused k) built
+  unfolding countsOf
   build-refused k e = go outcome
     where
-      go : Stopped ⊎ Went → _≡_ {A = Outcome Counts} (refused k) (ranWith bytes n choices)
+      go : Stopped ⊎ Went → _≡_ {A = Outcome Counts} (refused k) built
       go (inl s) =
-          let x : _≡_ {A = Outcome Tally} (refused k) (refused (s .cause)) = e ∙ s .answered in
+          let x : _≡_ {A = Outcome Tally} (refused k) (refused (s .cause)) = e ∙ stopped-answer s in
           let i : k ≡ s .cause = cc in
-          ap (λ m. refused m) i ∙ sym (s .built)
+          ap (λ m. refused m) i ∙ sym (ap (countsOf (accepted p)) (s .not-run))
       go (inr w) =
-          let x : _≡_ {A = Outcome Tally} (refused k) (accepted (w .state .tally)) = e ∙ w .answered in
+          let x : _≡_ {A = Outcome Tally} (refused k) (accepted (run p n choices .tally)) = e ∙ went-answer w in
           absurd (let z : _≡_ {A = ℕ} 0 1 = cc in omega arith)
-
-  went : (t : Tally) → _≡_ {A = Outcome Tally} (accepted t) answer → (w : Went) × (t ≡ w .state .tally)
-  went t e = go outcome
-    where
-      go : Stopped ⊎ Went → (w : Went) × (t ≡ w .state .tally)
-      go (inl s) =
-          let x : _≡_ {A = Outcome Tally} (accepted t) (refused (s .cause)) = e ∙ s .answered in
-          absurd (let z : _≡_ {A = ℕ} 0 1 = cc in omega arith)
-      go (inr w) =
-          let x : _≡_ {A = Outcome Tally} (accepted t) (accepted (w .state .tally)) = e ∙ w .answered in
-          (w, cc)
 
   pub build-counted : (t : Tally) (m : Measures) → _≡_ {A = Outcome Tally} (accepted t) answer
-      → _≡_ {A = Outcome Measures} (accepted m) (measures bytes) → accepted (counted t m) ≡ ranWith bytes n choices
-  unfolding ranWith countsOf measures measured
-  build-counted t m e q =
-      let (w, i) = went t e in
-      let x : _≡_ {A = Outcome Measures} (accepted m) (measured (accepted (w .plan))) = q ∙ ap measured (w .read) in
-      let j : m ≡ record { actions = work (w .plan); longest = longest (w .plan); path = heaviest (w .plan) } = cc in
-      ap₂ (λ t m. accepted (counted t m)) i j ∙ sym (ap₂ countsOf (w .read) (w .ran))
+      → _≡_ {A = Outcome Measures} (accepted m) (measured (accepted p)) → accepted (counted t m) ≡ built
+  unfolding countsOf measured
+  build-counted t m e q = go outcome
+    where
+      go : Stopped ⊎ Went → accepted (counted t m) ≡ built
+      go (inl s) =
+          let x : _≡_ {A = Outcome Tally} (accepted t) (refused (s .cause)) = e ∙ stopped-answer s in
+          absurd (let z : _≡_ {A = ℕ} 0 1 = cc in omega arith)
+      go (inr w) =
+          let x : _≡_ {A = Outcome Tally} (accepted t) (accepted (run p n choices .tally)) = e ∙ went-answer w in
+          let i : t ≡ run p n choices .tally = cc in
+          let j : m ≡ record { actions = work p; longest = longest p; path = heaviest p } = cc in
+          ap₂ (λ t m. accepted (counted t m)) i j ∙ sym (ap (countsOf (accepted p)) (w .ran))
 
-  -- a plan that was run is measured
-  pub build-measured : (t : Tally) (k : ℕ) → _≡_ {A = Outcome Tally} (accepted t) answer
-      → _≡_ {A = Outcome Measures} (refused k) (measures bytes) → ⊥
-  unfolding measures measured
-  build-measured t k e q =
-      let (w, i) = went t e in
-      let x : _≡_ {A = Outcome Measures} (refused k) (measured (accepted (w .plan))) = q ∙ ap measured (w .read) in
-      let z : _≡_ {A = ℕ} 0 1 = cc in
-      omega arith
+-- the build of bytes, by what reading them tells
+module _ (bytes : List ℕ) (n : ℕ) (choices : List ℕ) where
+  pub ran-refused : (k : ℕ) → readPlan bytes ≡ refused k → refused k ≡ ranWith bytes n choices
+  unfolding ranWith countsOf
+  ran-refused k e = rw e
+
+  pub ran-read : (p : Plan) (o : Outcome Counts) → readPlan bytes ≡ accepted p → o ≡ countsOf (accepted p) (admitted (accepted p) n choices)
+      → o ≡ ranWith bytes n choices
+  unfolding ranWith runOf
+  ran-read p o e q = q ∙ sym (ap (λ r. countsOf r (admitted r n choices)) e)
 
 -- what the input asks for, by its length and its choice count
 module _ (input : List ℕ) where

@@ -72,7 +72,7 @@ module _ (s : List ℕ) (jobs actions next : ℕ) (a : Arrays) (b : PlanRead (pl
       module _
           (kept′ : Bool)
           (entering : List ℕ)
-          (q′ : (p : Plan) → JoinsGiven p actions (a .first) (a .rows .job) (a .rows .spawn) (a .rows .join) parents positions → (kept′ ≡ joinRules p) × (T kept′ → Entered p entering))
+          (q′ : (p : Plan) → JoinsGiven p actions (a .first) (a .rows .job) (a .rows .spawn) (a .rows .join) parents positions → (kept′ ≡ joinRules p) × (T kept′ → Entered p entering × (length entering ≡ 2048)))
           (r : Bool)
           (e : r ≡ fills s next)
           (f : not r ≡ false) where
@@ -80,7 +80,7 @@ module _ (s : List ℕ) (jobs actions next : ℕ) (a : Arrays) (b : PlanRead (pl
         no-joins h =
             read-join s (b .0) next (b .1) (sym e ∙ not-false r f) keeps-spawns (sym (q′ (b .0) joins-given .0) ∙ not-true kept′ h)
 
-        all-kept : not kept′ ≡ false → (p : Plan) × (readPlan s ≡ accepted p) × Holds p (record { jobs = jobs; actions = actions; frame = a .frame; first = a .first; job = a .rows .job; spawn = a .rows .spawn; join = a .rows .join; parent = parents; «spawn_position» = positions; entering = entering })
+        all-kept : not kept′ ≡ false → (p : Plan) × (readPlan s ≡ accepted p) × Holds p (record { jobs = jobs; actions = actions; frame = a .frame; first = a .first; job = a .rows .job; spawn = a .rows .spawn; join = a .rows .join; parent = parents; position = positions; entering = entering })
         all-kept h = (
           b .0,
           read-all s (b .0) next (b .1) (sym e ∙ not-false r f) keeps-spawns (sym (q′ (b .0) joins-given .0) ∙ not-false kept′ h),
@@ -93,7 +93,8 @@ module _ (s : List ℕ) (jobs actions next : ℕ) (a : Arrays) (b : PlanRead (pl
             spawns = b .2 .spawns;
             joins = b .2 .joins;
             spawned = joins-given .spawned;
-            entered = q′ (b .0) joins-given .1 (rw (not-false kept′ h) tt);
+            entered = q′ (b .0) joins-given .1 (rw (not-false kept′ h) tt) .0;
+            whole = q′ (b .0) joins-given .1 (rw (not-false kept′ h) tt) .1;
           },
         )
 

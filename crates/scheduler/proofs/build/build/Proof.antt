@@ -47,31 +47,31 @@ shared-slice-read-units c = search needs
 units-requires : tie.Need-units-requires
 units-requires c κs = search needs
 
-sub-run-plan : tie.Need-sub-run-plan
-sub-run-plan c = search needs
+sub-build-plan : tie.Need-sub-build-plan
+sub-build-plan c = search needs
 
-part-run-plan-start : tie.Need-part-run-plan-start
-part-run-plan-start c = search needs
+part-build-plan-start : tie.Need-part-build-plan-start
+part-build-plan-start c = search needs
 
-part-run-plan-end : tie.Need-part-run-plan-end
-part-run-plan-end c = search needs
+part-build-plan-end : tie.Need-part-build-plan-end
+part-build-plan-end c = search needs
 
-sub-run-plan-2 : tie.Need-sub-run-plan-2
-sub-run-plan-2 c = search needs
+sub-build-plan-2 : tie.Need-sub-build-plan-2
+sub-build-plan-2 c = search needs
 
-part-run-plan-start-2 : tie.Need-part-run-plan-start-2
-part-run-plan-start-2 c = search needs
+part-build-plan-start-2 : tie.Need-part-build-plan-start-2
+part-build-plan-start-2 c = search needs
 
-part-run-plan-end-2 : tie.Need-part-run-plan-end-2
-part-run-plan-end-2 c = search needs
+part-build-plan-end-2 : tie.Need-part-build-plan-end-2
+part-build-plan-end-2 c = search needs
 
-run-plan-requires : tie.Need-run-plan-requires
-run-plan-requires c κs = search needs
+build-plan-requires : tie.Need-build-plan-requires
+build-plan-requires c κs = search needs
 
 returns-4 : tie.Need-returns-4
 returns-4 c =
     let f = c .before .before .before .before .before .before .before in
-    c .run-plan .ensures
+    c .build-plan .ensures
     ∙ build-runs _ _ (ap₂ (λ x y. x * 256 + y) (f .before .before .wide8 .ensures .0) (f .wide82 .ensures .0)) (omega arith) (omega arith) _
     (c .before .before .before .units .ensures) (omega arith)
 
@@ -91,11 +91,11 @@ build-spec =
     returns-3
     shared-slice-read-units
     units-requires
-    sub-run-plan
-    part-run-plan-start
-    part-run-plan-end
-    sub-run-plan-2
-    part-run-plan-start-2
-    part-run-plan-end-2
-    run-plan-requires
+    sub-build-plan
+    part-build-plan-start
+    part-build-plan-end
+    sub-build-plan-2
+    part-build-plan-start-2
+    part-build-plan-end-2
+    build-plan-requires
     returns-4)

@@ -1,0 +1,33 @@
+-- What the run of a plan that was read is given, and what it leaves. Private functions alone cite this file; a public entry's
+-- promise speaks of the plan's bytes.
+--   Loaded p ..                        == the arrays hold the accepted plan p; no join into an action is sent yet
+--   Answered p n choices before r after == the answer r and the schedule `after` are those of a run of p, and the claim of
+--                                        demand 3 holds of them
+-- Assumes nothing.
+use Prim.Native.Nat.{ℕ}
+use mathlib.Core.Path.{_≡_}
+use mathlib.Core.List.{List}
+use lib.ListN.{length, take}
+use Rattle.plan.specs.Refusal.{accepted}
+use Rattle.plan.specs.Plan.{Plan, work}
+use Rattle.plan.specs.Flat.{Entered}
+use Rattle.runs.specs.declared.tally.Tally.{Tally}
+use Rattle.runs.specs.State.{Row}
+use Rattle.runs.specs.Run.{admitted}
+use Rattle.runs.specs.Schedule.{scheduleBytes}
+use Rattle.runs.specs.Claim.{Bounds}
+use Rattle.scheduler.specs.declared.run.Ran.{Ran}
+use Rattle.scheduler.specs.declared.run.Ran.the-variants.{Done}
+use Rattle.scheduler.specs.Entry.{Result, resulted, ranOf}
+use Rattle.scheduler.specs.Machine.{Planned}
+
+pub record Loaded (p : Plan) (actions : ℕ) (frame first spawn join parent missing : List ℕ) : Type 0 where
+  pub planned : Planned p frame first spawn join parent
+  pub all : actions ≡ work p
+  pub entered : Entered p missing
+  pub long : length missing ≡ 2048
+
+abbrev pub Answered : Plan → ℕ → List ℕ → List ℕ → Ran → List ℕ → Type 0
+Answered p n choices before r after =
+    (_≡_ {A = Result} (record { answer = ranOf r; schedule = after }) (resulted (admitted (accepted p) n choices) n before))
+    × ((t : Tally) → r ≡ Done t → (rows : List Row) × Bounds p n rows t × (take (length (scheduleBytes n rows)) after ≡ scheduleBytes n rows))
