@@ -69,7 +69,7 @@ pub record SendGiven (from end base spawned : ℕ) (join time : ℕ → ℕ) : T
   pub order : from ≤ end
   pub fits : end ≤ 2048
   pub targets : (k t : ℕ) → from ≤ k → k < end → join k ≡ suc t → base + t < 2048
-  pub sums : (k : ℕ) → from ≤ k → k < end → spawned + time k < 4294967296
+  pub sums : (k : ℕ) → from ≤ k → k < end → spawned + time k < 65536
 
 pub record Sent (from end base spawned : ℕ) (join time late late′ : ℕ → ℕ) : Type 0 where
   pub kept : (m : ℕ) → late m ≤ late′ m

@@ -30,6 +30,13 @@ fn larger(a: u32, b: u32) -> u32
     if a < b { b } else { a }
 }
 
+// Times are at most T∞, which is at most 2,048; 16 bits halve the arrays of `longest`.
+fn later(a: u16, b: u16) -> u16
+    ensures { λ r. ⌜ r ≡ max a b ⌝ }
+{
+    if a < b { b } else { a }
+}
+
 fn units(x: u16) -> u32
     ensures { λ r. ⌜ (r ≡ x) × (r < 65536) ⌝ }
 {
@@ -61,10 +68,10 @@ fn heaviest<'a>(jobs: usize, frame: &'a [u16; 256], parent: &'a [u8; 256]) -> u3
 fn send_join(
     k: usize,
     base: usize,
-    spawned: u32,
+    spawned: u16,
     join: &[u16; 2048],
-    time: &[u32; 2048],
-    late: &mut [u32; 2048],
+    time: &[u16; 2048],
+    late: &mut [u16; 2048],
 )
     requires { ⌜ (length (now late) ≡ 2048) × SendGiven k (suc k) base spawned (at (now join)) (at (now time)) ⌝ }
     ensures { λ _. ⌜ (length (now (late .exit)) ≡ 2048) × Sent k (suc k) base spawned (at (now (join .entry))) (at (now (time .entry))) (at (now (late .entry))) (at (now (late .exit))) ⌝ }
@@ -74,7 +81,7 @@ fn send_join(
         return;
     }
     let target = base + (sent - 1);
-    late[target] = larger(late[target], spawned + time[k]);
+    late[target] = later(late[target], spawned + time[k]);
 }
 
 // The joins that the actions at places `from` to `end` send, those of one child.
@@ -82,10 +89,10 @@ fn send_joins(
     from: usize,
     end: usize,
     base: usize,
-    spawned: u32,
+    spawned: u16,
     join: &[u16; 2048],
-    time: &[u32; 2048],
-    late: &mut [u32; 2048],
+    time: &[u16; 2048],
+    late: &mut [u16; 2048],
 )
     requires { ⌜ (length (now late) ≡ 2048) × SendGiven from end base spawned (at (now join)) (at (now time)) ⌝ }
     ensures { λ _. ⌜ (length (now (late .exit)) ≡ 2048) × Sent from end base spawned (at (now (join .entry))) (at (now (time .entry))) (at (now (late .entry))) (at (now (late .exit))) ⌝ }
@@ -101,12 +108,12 @@ fn send_joins(
 fn pass_child(
     k: usize,
     base: usize,
-    spawned: u32,
+    spawned: u16,
     first: &[u16; 257],
     spawn: &[u16; 2048],
     join: &[u16; 2048],
-    time: &[u32; 2048],
-    late: &mut [u32; 2048],
+    time: &[u16; 2048],
+    late: &mut [u16; 2048],
 )
     requires { ⌜ (length (now late) ≡ 2048) × PassGiven k base spawned (at (now first)) (at (now spawn)) (at (now join)) (at (now time)) ⌝ }
     ensures { λ _. ⌜ (length (now (late .exit)) ≡ 2048) × Passed k base spawned (at (now (first .entry))) (at (now (spawn .entry))) (at (now (join .entry))) (at (now (time .entry))) (at (now (late .entry))) (at (now (late .exit))) ⌝ }
@@ -133,16 +140,16 @@ fn time_job(
     first: &[u16; 257],
     spawn: &[u16; 2048],
     join: &[u16; 2048],
-    time: &mut [u32; 2048],
-    late: &mut [u32; 2048],
-) -> u32
+    time: &mut [u16; 2048],
+    late: &mut [u16; 2048],
+) -> u16
     requires { ⌜ (length (now time) ≡ 2048) × (length (now late) ≡ 2048) × ((p : Plan) × (j : ℕ) × JobGiven p j base end (now first) (now spawn) (now join) × TimedFrom p (suc j) (at (now time)) (at (now late))) ⌝ }
     ensures { λ r. ⌜ (length (now (time .exit)) ≡ 2048) × (length (now (late .exit)) ≡ 2048) × ((p : Plan) (j : ℕ) → JobGiven p j base end (now (first .entry)) (now (spawn .entry)) (now (join .entry)) → TimedFrom p (suc j) (at (now (time .entry))) (at (now (late .entry))) → TimedFrom p j (at (now (time .exit))) (at (now (late .exit))) × (r + begins p j ≡ ends p j (size p j - 1))) ⌝ }
 {
     let mut done = 0;
     let mut k = base;
     while k < end {
-        done = larger(done, late[k]) + 1;
+        done = later(done, late[k]) + 1;
         time[k] = done;
         pass_child(k, base, done, first, spawn, join, time, late);
         k += 1;
@@ -161,8 +168,8 @@ fn longest<'a>(
     requires { ⌜ ((p : Plan) × TimesGiven p (now first) (now spawn) (now join) × (jobs ≡ length p)) ⌝ }
     ensures { λ r. ⌜ ((p : Plan) → TimesGiven p (now (first .entry)) (now (spawn .entry)) (now (join .entry)) → jobs ≡ length p → r ≡ longestOf p) ⌝ }
 {
-    let mut time = [0u32; 2048];
-    let mut late = [0u32; 2048];
+    let mut time = [0u16; 2048];
+    let mut late = [0u16; 2048];
     let mut most = 0;
     let mut j = jobs;
     while 0 < j {
@@ -177,7 +184,7 @@ fn longest<'a>(
             &mut late,
         );
     }
-    most
+    units(most)
 }
 
 // T1, T∞ and S1 of the plan that the arrays hold.

@@ -1,7 +1,7 @@
 -- `measure::longest` meets its contract: jobs are timed from the highest down, and the root's time is T∞.
 -- Assumes nothing.
 use Prim.Native.Nat.{suc, _+_, _-_, _≤_}
-use mathlib.Core.Path.{_≡_, refl}
+use mathlib.Core.Path.{_≡_, refl, _∙_}
 use native.Mathlib.Omega.{arith}
 use borrow.Author.Needs.{needs}
 use lib.ListN.{length}
@@ -90,10 +90,13 @@ loop-again c =
           (t, λ z. rw z at r),
     )
 
+units-requires : tie.Need-units-requires Inv-loop μ-loop
+units-requires c κs = tt
+
 returns : tie.Need-returns Inv-loop μ-loop
 returns c = λ p g e.
-    let l = c .before .loop in
-    root-longest p (g .rules) (l .most) (l .inv .4 p g e .1 (omega arith))
+    let l = c .before .before .loop in
+    c .units .ensures .0 ∙ root-longest p (g .rules) (l .most) (l .inv .4 p g e .1 (omega arith))
 
 pub longest-spec : {M : Type 1} → statement M
 longest-spec =
@@ -113,4 +116,5 @@ longest-spec =
     time-job-requires
     loop-less
     loop-again
+    units-requires
     returns)

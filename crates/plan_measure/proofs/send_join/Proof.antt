@@ -34,8 +34,8 @@ add-target c =
           (omega (arith, c .before .wide16 .ensures, c .if1 .left)),
     )
 
-mul-larger : tie.Need-mul-larger
-mul-larger c =
+mul-later : tie.Need-mul-later
+mul-later c =
     let s = c .before .before .before in
     omega (
       arith,
@@ -43,8 +43,8 @@ mul-larger c =
           (omega (arith, c .before .wide16 .ensures, c .if1 .left)),
     )
 
-element-copy-out-larger : tie.Need-element-copy-out-larger
-element-copy-out-larger c =
+element-copy-out-later : tie.Need-element-copy-out-later
+element-copy-out-later c =
     let s = c .before .before .before in
     omega (
       arith,
@@ -52,19 +52,19 @@ element-copy-out-larger c =
           (omega (arith, c .before .wide16 .ensures, c .if1 .left)),
     )
 
-mul-larger-2 : tie.Need-mul-larger-2
-mul-larger-2 c = search needs
+mul-later-2 : tie.Need-mul-later-2
+mul-later-2 c = search needs
 
-element-copy-out-larger-2 : tie.Need-element-copy-out-larger-2
-element-copy-out-larger-2 c = search needs
+element-copy-out-later-2 : tie.Need-element-copy-out-later-2
+element-copy-out-later-2 c = search needs
 
-add-larger : tie.Need-add-larger
-add-larger c =
+add-later : tie.Need-add-later
+add-later c =
     let s = c .before .before .before .before .before in
     omega (arith, s .pre .1 .sums (s .args .k) (omega arith) (omega arith))
 
-larger-requires : tie.Need-larger-requires
-larger-requires c κs = search needs
+later-requires : tie.Need-later-requires
+later-requires c κs = search needs
 
 mul-late : tie.Need-mul-late
 mul-late c =
@@ -94,7 +94,7 @@ returns-2 c =
     let l : s .args .base + (e .before .wide16 .result - 1) < length (s .args .late .now) = rw n (element-write-late c) in (
       simp length-set n,
       sent-one _ _ _ _ _ (e .before .wide16 .result) _ _ (e .before .wide16 .ensures .0) (e .if1 .left)
-          (getD-set-same (s .args .late .now) _ _ 0 l ∙ c .larger .ensures) (λ m n. getD-set-other (s .args .late .now) _ m _ 0 n),
+          (getD-set-same (s .args .late .now) _ _ 0 l ∙ c .later .ensures) (λ m n. getD-set-other (s .args .late .now) _ m _ 0 n),
     )
 
 pub send-join-spec : {M : Type 1} → statement M
@@ -107,12 +107,12 @@ send-join-spec =
     returns
     sub-target
     add-target
-    mul-larger
-    element-copy-out-larger
-    mul-larger-2
-    element-copy-out-larger-2
-    add-larger
-    larger-requires
+    mul-later
+    element-copy-out-later
+    mul-later-2
+    element-copy-out-later-2
+    add-later
+    later-requires
     mul-late
     element-write-late
     returns-2)

@@ -27,14 +27,14 @@ loop-holds c =
     let b = job-places p j _ _ _ _ _ g in
     (c .pre .0, c .pre .1, omega arith, omega arith, b .1, λ p j g f. place-first p j _ _ _ _ _ g _ _ f)
 
-mul-larger : tie.Need-mul-larger Inv-loop μ-loop
-mul-larger c = omega arith
+mul-later : tie.Need-mul-later Inv-loop μ-loop
+mul-later c = omega arith
 
-element-copy-out-larger : tie.Need-element-copy-out-larger Inv-loop μ-loop
-element-copy-out-larger c = omega arith
+element-copy-out-later : tie.Need-element-copy-out-later Inv-loop μ-loop
+element-copy-out-later c = omega arith
 
-larger-requires : tie.Need-larger-requires Inv-loop μ-loop
-larger-requires c κs = search needs
+later-requires : tie.Need-later-requires Inv-loop μ-loop
+later-requires c κs = search needs
 
 add-done : tie.Need-add-done Inv-loop μ-loop
 add-done c =
@@ -42,7 +42,7 @@ add-done c =
     let (p, j, g, f) = l .before .pre .2 in
     omega (
       arith,
-      c .larger .ensures,
+      c .later .ensures,
       place-small p j _ _ _ _ _ g _ _ _ _ (l .loop .inv .2) (omega arith) (l .loop .inv .5 p j g f),
     )
 
@@ -58,7 +58,7 @@ pass-child-requires c κs =
     let (p, j, g, f) = l .before .pre .2 in (
       l .loop .inv .1,
       place-given p j _ _ _ _ _ g _ _ (at (l .loop .time)) _ (l .loop .inv .2) (omega arith) (l .loop .inv .5 p j g f)
-          _ (c .before .before .larger .ensures) _
+          _ (c .before .before .later .ensures) _
           (getD-set-same (l .loop .time) _ _ 0 (omega arith)) (λ n d. getD-set-other (l .loop .time) _ n _ 0 d),
     )
 
@@ -80,7 +80,7 @@ loop-again c =
       l .loop .inv .4,
       λ p j g f.
           place-next p j _ _ _ _ _ g _ _ (at (l .loop .time)) _ (l .loop .inv .2) h (l .loop .inv .5 p j g f)
-          _ (c .before .before .before .larger .ensures) _
+          _ (c .before .before .before .later .ensures) _
           (getD-set-same (l .loop .time) _ _ 0 b) (λ n d. getD-set-other (l .loop .time) _ n _ 0 d) _ (c .pass-child .ensures .1),
     )
 
@@ -96,9 +96,9 @@ time-job-spec =
     Inv-loop
     μ-loop
     loop-holds
-    mul-larger
-    element-copy-out-larger
-    larger-requires
+    mul-later
+    element-copy-out-later
+    later-requires
     add-done
     mul-time
     element-write-time
