@@ -232,7 +232,13 @@ pub fn measure(bytes: &[u8]) -> Measured
     ) {
         Found::Refused(cause) => Measured::Refused(cause),
         Found::Plan { jobs, actions } => Measured::Of(measure_read(
-            jobs, actions, &frame, &first, &spawn, &join, &parent,
+            jobs,
+            actions,
+            &frame,
+            &first,
+            &spawn,
+            &join,
+            &parent,
         )),
     }
 }
