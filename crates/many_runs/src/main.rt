@@ -2,10 +2,10 @@
 // second runner gave (compare/src/bin/runs.rs). An input is its length in two bytes, high first, and its bytes; an answer is a
 // refusal's number or 0, and the nine counts in four bytes each, in the order in which `buildrun` prints them.
 ghost use Prim.Native.Nat.{_<_};
+use plan::flat::wide8;
 use scheduler::build::Built;
 use scheduler::build::Counts;
 use scheduler::build::build;
-use plan::flat::wide8;
 
 enum Came {
     End,
@@ -34,7 +34,11 @@ fn next_run() -> Came {
     }
     let mut input = [0u8; 8192];
     let mut answer = [0u8; 37];
-    read_run(wide8(head[0]) * 256 + wide8(head[1]), &mut input, &mut answer)
+    read_run(
+        wide8(head[0]) * 256 + wide8(head[1]),
+        &mut input,
+        &mut answer,
+    )
 }
 
 // Reads an input of n bytes and its answer, and runs it.
