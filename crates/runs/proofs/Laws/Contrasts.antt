@@ -1,8 +1,11 @@
--- Two small runs that tell rules of document 01 from errors close to them: with the error, the fact does not hold.
+-- Small runs that tell rules of document 01 from errors close to them: with the error, the fact does not hold.
 -- The laws are checked in the order of their names, so a wrong definition is first refused here, by a number of these runs.
 --   G == job 0, three actions, spawns 1 at 0; job 1, one, joins position 2; frames 1
 --   H == job 0, four actions, spawns 1 at 0 and 3 at 1; job 1, four, spawns 2 at 0 and 4 at 1, last joins position 3;
 --        jobs 2, 3 and 4, one each, join position 3; frames 1
+--   K == job 0, four actions, spawns 1 at 0; job 1, four, its second spawns 2 and joins position 2, last joins position 3;
+--        job 2, one, joins position 3; frames 1
+--   L == job 0, four actions, spawns 1 at 1; job 1, one, joins position 3; frames 1
 --   done p s j i == the row of action i of job j
 -- Assumes nothing.
 use Prim.Native.Nat.{ℕ, suc}
@@ -39,6 +42,16 @@ H =
     ∷ of (joins 3 ∷ [])
     ∷ []
 
+abbrev K : Plan
+K =
+    of (spawns 1 ∷ plain ∷ plain ∷ plain ∷ [])
+    ∷ of (plain ∷ record { spawn = 3; join = 3 } ∷ plain ∷ joins 3 ∷ [])
+    ∷ of (joins 3 ∷ [])
+    ∷ []
+
+abbrev L : Plan
+L = of (plain ∷ spawns 1 ∷ plain ∷ plain ∷ []) ∷ of (joins 3 ∷ []) ∷ []
+
 pub G-accepted : Accepted G
 unfolding inRange spawnRules joinRules entering spawnAt
 G-accepted = record { range = tt; spawns = tt; joins = tt }
@@ -47,11 +60,25 @@ pub H-accepted : Accepted H
 unfolding inRange spawnRules joinRules entering spawnAt
 H-accepted = record { range = tt; spawns = tt; joins = tt }
 
+pub K-accepted : Accepted K
+unfolding inRange spawnRules joinRules entering spawnAt
+K-accepted = record { range = tt; spawns = tt; joins = tt }
+
+pub L-accepted : Accepted L
+unfolding inRange spawnRules joinRules entering spawnAt
+L-accepted = record { range = tt; spawns = tt; joins = tt }
+
 abbrev G-run : State
 G-run = run G 2 (0 ∷ [])
 
 abbrev H-run : State
 H-run = run H 2 (1 ∷ 0 ∷ [])
+
+abbrev K-run : State
+K-run = run K 2 (0 ∷ [])
+
+abbrev L-run : State
+L-run = run L 3 (0 ∷ [])
 
 abbrev done : Plan → State → ℕ → ℕ → Row
 done p s j i = getD (s .rows) (place p j i) noRow
@@ -90,3 +117,14 @@ frame-held = refl
 pub peak-each-turn : H-run .tally .peak ≡ 4
 unfolding run
 peak-each-turn = refl
+
+-- job 0 stalls on worker 1 in round 2. In round 3 worker 0's action sends it its join and spawns: job 0 goes on the bottom of
+-- worker 0's deque, then job 1, so that job 0 is at the top and worker 1 steals it
+pub parent-above-spawner : done K K-run 0 2 ≡ row 4 1
+unfolding run
+parent-above-spawner = refl
+
+-- workers 1 and 2 ask worker 0 in round 1, worker 1 misses and asks again in round 2: worker 2's request is the older one
+pub oldest-served : done L L-run 0 2 ≡ row 3 2
+unfolding run
+oldest-served = refl
