@@ -19,7 +19,7 @@
  * they held.
  *
  * The functions use no heap and no global state, and of the C library memcpy and memset alone, so they may be called
- * from several threads at once. A call takes at most about 80 KiB of stack, whatever its input.
+ * from several threads at once. A call takes less than 32 KiB of stack, whatever its input.
  *
  * `refused` is 0 where the input is accepted, else the number of the cause, and all that stands beside it is then 0.
  *
