@@ -12,6 +12,7 @@ pub mod Least
 pub mod Queues
 pub mod Picks
 pub mod Manning
+pub mod Noting
 pub mod Halves
 pub mod ScheduleBytes
 pub mod Starting

@@ -1,12 +1,14 @@
 -- What the second half of a round goes through. Private functions alone cite this file.
 --   Fits             == the numbers of the workers tell them apart
+--   NoIdle, past, Noted == the list of the idle workers below n: between one of its workers and the next no worker is idle
 --   Pointed          == k is the place of the next request's choice
 --   Queue, Queued    == the line of the requests at a victim, and the sixteen lines, in the order in which they are served: by the
 --                       round they were laid in, then by the worker. The line of victim v begins behind place 16 + v.
 --   Serving          == victim v is about to serve: `who` is the worker that its oldest request is of, plus 1, or 0
 -- Assumes nothing.
-use Prim.Native.Nat.{ℕ, suc, _+_, _*_, _≤_, _<_, _%_}
+use Prim.Native.Nat.{ℕ, zero, suc, _+_, _*_, _≤_, _<_, _%_}
 use mathlib.Core.Path.{_≡_}
+use mathlib.Core.Bool.{false}
 use mathlib.Core.List.{List, [], _∷_}
 use mathlib.Core.Logic.{_⊎_}
 use lib.ListN.{length, getD}
@@ -17,10 +19,23 @@ use Rattle.runs.specs.declared.worker.Worker.the-variants.{Idle, Waiting}
 use Rattle.runs.specs.State.{State}
 use Rattle.runs.specs.Steal.{oldest}
 use Rattle.runs.specs.Trace.{serving}
-use Rattle.scheduler.specs.Machine.{InRun, Fitting, Manned, Dequed}
+use Rattle.scheduler.specs.Machine.{InRun, Fitting, isIdle, Manned, Dequed}
 
 abbrev pub Fits : List Worker → Type 0
 Fits ws = (w : ℕ) → Fitting (getD ws w Idle)
+
+abbrev pub NoIdle : List Worker → ℕ → ℕ → Type 0
+NoIdle ws i j = (w : ℕ) → i ≤ w → w < j → isIdle (getD ws w Idle) ≡ false
+
+-- the worker behind those of the list's first m places
+abbrev pub past : List ℕ → ℕ → ℕ
+past list zero = 0
+past list (suc m) = suc (getD list m 0)
+
+pub record Noted (ws : List Worker) (n : ℕ) (list : List ℕ) (count : ℕ) : Type 0 where
+  pub each : (m : ℕ) → m < count → (past list m ≤ getD list m 0) × (getD list m 0 < n) × (getD ws (getD list m 0) Idle ≡ Idle)
+      × NoIdle ws (past list m) (getD list m 0)
+  pub rest : (past list count ≤ n) × NoIdle ws (past list count) n
 
 abbrev pub Pointed : List ℕ → State → ℕ → Type 0
 Pointed choices s k = k ≡ s .tally .requests % length choices

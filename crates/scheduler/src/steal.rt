@@ -1,5 +1,6 @@
 // Requests and services, the second half of a round (document 01, "Worker and round").
 ghost use mathlib.Core.Path.{_≡_};
+ghost use mathlib.Core.Bool.{true, false};
 ghost use mathlib.Core.List.{List};
 ghost use Prim.Native.Nat.{ℕ, suc, _+_, _*_, _%_, _≤_, _<_};
 ghost use lib.ListN.{length, getD, set};
@@ -10,7 +11,7 @@ ghost use Rattle.runs.specs.State.{State};
 ghost use Rattle.runs.specs.Steal.{lay as layOf, lays as laysOf, oldest, serve as serveOf, serves as servesOf};
 ghost use Rattle.runs.specs.Trace.{laying, serving};
 ghost use Rattle.scheduler.specs.Machine.{InRun, Manned, Dequed, codeOf, Fitting, isIdle, Seated};
-ghost use Rattle.scheduler.specs.Requests.{Calm, Pointed, Queued, Serving};
+ghost use Rattle.scheduler.specs.Requests.{Calm, Fits, Noted, Pointed, Queued, Serving};
 use crate::account::Account;
 use crate::deque::take_top;
 use crate::seat::code_of;
@@ -80,10 +81,9 @@ fn idle_at(code: u16) -> bool
     }
 }
 
-// Worker w lays a request if it was idle as the round began.
+// Worker w, which was idle as the round began, lays a request.
 fn lay(
     account: Account,
-    began: &[u16; 16],
     choices: &[u8],
     round: usize,
     w: usize,
@@ -92,12 +92,9 @@ fn lay(
     after: &mut [u8; 32],
     last: &mut [u8; 16],
 ) -> Account
-    requires { ⌜ ((p : Plan) × (n : ℕ) × (b : List Worker) × (s : State) × InRun p n (now choices) round b (laying w) s × Manned p s account (now seats) × Seated b (now began) × Pointed (now choices) s (now cursor) × Queued (round * 16 + w) (s .workers) (now after) (now last) × (w < n)) ⌝ }
-    ensures { λ a. ⌜ ((p : Plan) (n : ℕ) (b : List Worker) (s : State) → InRun p n (now (choices .entry)) round b (laying w) s → Manned p s account (now (seats .entry)) → Seated b (now (began .entry)) → Pointed (now (choices .entry)) s (now (cursor .entry)) → Queued (round * 16 + w) (s .workers) (now (after .entry)) (now (last .entry)) → w < n → Manned p (layOf (now (choices .entry)) round w (getD b w Idle) s) a (now (seats .exit)) × Pointed (now (choices .entry)) (layOf (now (choices .entry)) round w (getD b w Idle) s) (now (cursor .exit)) × Queued (suc (round * 16 + w)) (layOf (now (choices .entry)) round w (getD b w Idle) s .workers) (now (after .exit)) (now (last .exit))) ⌝ }
+    requires { ⌜ ((p : Plan) × (n : ℕ) × (b : List Worker) × (s : State) × InRun p n (now choices) round b (laying w) s × Manned p s account (now seats) × (getD b w Idle ≡ Idle) × Pointed (now choices) s (now cursor) × Queued (round * 16 + w) (s .workers) (now after) (now last) × (w < n)) ⌝ }
+    ensures { λ a. ⌜ ((p : Plan) (n : ℕ) (b : List Worker) (s : State) → InRun p n (now (choices .entry)) round b (laying w) s → Manned p s account (now (seats .entry)) → getD b w Idle ≡ Idle → Pointed (now (choices .entry)) s (now (cursor .entry)) → Queued (round * 16 + w) (s .workers) (now (after .entry)) (now (last .entry)) → w < n → Manned p (layOf (now (choices .entry)) round w (getD b w Idle) s) a (now (seats .exit)) × Pointed (now (choices .entry)) (layOf (now (choices .entry)) round w (getD b w Idle) s) (now (cursor .exit)) × Queued (suc (round * 16 + w)) (layOf (now (choices .entry)) round w (getD b w Idle) s .workers) (now (after .exit)) (now (last .exit))) ⌝ }
 {
-    if !idle_at(began[w]) {
-        return account;
-    }
     let at = *cursor;
     let victim = choices[at];
     let worker = Worker::Waiting {
@@ -111,6 +108,29 @@ fn lay(
         weight: account.weight,
         tally: asked(account.tally),
     }
+}
+
+// The next free place of a list: the same one where nothing came in. Compiled, it is no branch.
+fn grown(count: usize, more: bool) -> usize
+    requires { ⌜ count ≤ 16 ⌝ }
+    ensures { λ r. ⌜ (more ≡ true → r ≡ suc count) × (more ≡ false → r ≡ count) ⌝ }
+{
+    if more { count + 1 } else { count }
+}
+
+// Lists the workers that are idle, in rising number, and says how many there are.
+fn note_idle(n: usize, began: &[u16; 16], idle: &mut [u8; 16]) -> usize
+    requires { ⌜ (n ≤ 16) × (length (now idle) ≡ 16) ⌝ }
+    ensures { λ r. ⌜ (r ≤ n) × (length (now (idle .exit)) ≡ 16) × ((b : List Worker) → Seated b (now (began .entry)) → Fits b → Noted b n (now (idle .exit)) r) ⌝ }
+{
+    let mut count = 0;
+    let mut w = 0;
+    while w < n {
+        idle[count] = w as u8;
+        count = grown(count, idle_at(began[w]));
+        w += 1;
+    }
+    count
 }
 
 fn lays(
@@ -127,11 +147,13 @@ fn lays(
     requires { ⌜ ((p : Plan) × (b : List Worker) × (s : State) × InRun p n (now choices) round b (laying 0) s × Manned p s account (now seats) × Seated b (now began) × Pointed (now choices) s (now cursor) × Queued (round * 16) (s .workers) (now after) (now last)) ⌝ }
     ensures { λ a. ⌜ ((p : Plan) (b : List Worker) (s : State) → InRun p n (now (choices .entry)) round b (laying 0) s → Manned p s account (now (seats .entry)) → Seated b (now (began .entry)) → Pointed (now (choices .entry)) s (now (cursor .entry)) → Queued (round * 16) (s .workers) (now (after .entry)) (now (last .entry)) → Manned p (laysOf (now (choices .entry)) round n b s) a (now (seats .exit)) × Pointed (now (choices .entry)) (laysOf (now (choices .entry)) round n b s) (now (cursor .exit)) × Queued (round * 16 + n) (laysOf (now (choices .entry)) round n b s .workers) (now (after .exit)) (now (last .exit))) ⌝ }
 {
+    let mut idle = [0u8; 16];
+    let count = note_idle(n, began, &mut idle);
     let mut a = account;
-    let mut w = 0;
-    while w < n {
-        a = lay(a, began, choices, round, w, cursor, seats, after, last);
-        w += 1;
+    let mut m = 0;
+    while m < count {
+        a = lay(a, choices, round, wide8(idle[m]), cursor, seats, after, last);
+        m += 1;
     }
     a
 }
