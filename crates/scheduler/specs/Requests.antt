@@ -1,6 +1,7 @@
 -- What the second half of a round goes through. Private functions alone cite this file.
 --   Fits             == the numbers of the workers tell them apart
---   NoIdle, past, Noted == the list of the idle workers below n: between one of its workers and the next no worker is idle
+--   None, past, Noted == the list of the numbers below n that pass a test: between one of them and the next none does
+--   idleIn, askedIn  == a worker is idle; a victim has a request
 --   Pointed          == k is the place of the next request's choice
 --   Queue, Queued    == the line of the requests at a victim, and the sixteen lines, in the order in which they are served: by the
 --                       round they were laid in, then by the worker. The line of victim v begins behind place 16 + v.
@@ -8,10 +9,11 @@
 -- Assumes nothing.
 use Prim.Native.Nat.{ℕ, zero, suc, _+_, _*_, _≤_, _<_, _%_}
 use mathlib.Core.Path.{_≡_}
-use mathlib.Core.Bool.{false}
+use mathlib.Core.Bool.{Bool, true, false}
 use mathlib.Core.List.{List, [], _∷_}
 use mathlib.Core.Logic.{_⊎_}
 use lib.ListN.{length, getD}
+use lib.Dec.{ltb}
 use Rattle.plan.specs.Plan.{Plan}
 use Rattle.scheduler.specs.declared.account.Account.{Account}
 use Rattle.runs.specs.declared.worker.Worker.{Worker}
@@ -24,18 +26,26 @@ use Rattle.scheduler.specs.Machine.{InRun, Fitting, isIdle, Manned, Dequ
 abbrev pub Fits : List Worker → Type 0
 Fits ws = (w : ℕ) → Fitting (getD ws w Idle)
 
-abbrev pub NoIdle : List Worker → ℕ → ℕ → Type 0
-NoIdle ws i j = (w : ℕ) → i ≤ w → w < j → isIdle (getD ws w Idle) ≡ false
+-- a test fails from i on and below j
+abbrev pub None : (ℕ → Bool) → ℕ → ℕ → Type 0
+None test i j = (w : ℕ) → i ≤ w → w < j → test w ≡ false
 
--- the worker behind those of the list's first m places
+-- the number behind those of the list's first m places
 abbrev pub past : List ℕ → ℕ → ℕ
 past list zero = 0
 past list (suc m) = suc (getD list m 0)
 
-pub record Noted (ws : List Worker) (n : ℕ) (list : List ℕ) (count : ℕ) : Type 0 where
-  pub each : (m : ℕ) → m < count → (past list m ≤ getD list m 0) × (getD list m 0 < n) × (getD ws (getD list m 0) Idle ≡ Idle)
-      × NoIdle ws (past list m) (getD list m 0)
-  pub rest : (past list count ≤ n) × NoIdle ws (past list count) n
+pub record Noted (test : ℕ → Bool) (n : ℕ) (list : List ℕ) (count : ℕ) : Type 0 where
+  pub each : (m : ℕ) → m < count → (past list m ≤ getD list m 0) × (getD list m 0 < n) × (test (getD list m 0) ≡ true)
+      × None test (past list m) (getD list m 0)
+  pub rest : (past list count ≤ n) × None test (past list count) n
+
+-- the tests of the two lists
+abbrev pub idleIn : List Worker → ℕ → Bool
+idleIn ws w = isIdle (getD ws w Idle)
+
+abbrev pub askedIn : List ℕ → ℕ → Bool
+askedIn after v = ltb 0 (getD after (16 + v) 0)
 
 abbrev pub Pointed : List ℕ → State → ℕ → Type 0
 Pointed choices s k = k ≡ s .tally .requests % length choices

@@ -1,6 +1,7 @@
 // Requests and services, the second half of a round (document 01, "Worker and round").
 ghost use mathlib.Core.Path.{_≡_};
 ghost use mathlib.Core.Bool.{true, false};
+ghost use mathlib.Core.Logic.{_≢_};
 ghost use mathlib.Core.List.{List};
 ghost use Prim.Native.Nat.{ℕ, suc, _+_, _*_, _%_, _≤_, _<_};
 ghost use lib.ListN.{length, getD, set};
@@ -11,7 +12,7 @@ ghost use Rattle.runs.specs.State.{State};
 ghost use Rattle.runs.specs.Steal.{lay as layOf, lays as laysOf, oldest, serve as serveOf, serves as servesOf};
 ghost use Rattle.runs.specs.Trace.{laying, serving};
 ghost use Rattle.scheduler.specs.Machine.{InRun, Manned, Dequed, codeOf, Fitting, isIdle, Seated};
-ghost use Rattle.scheduler.specs.Requests.{Calm, Fits, Noted, Pointed, Queued, Serving};
+ghost use Rattle.scheduler.specs.Requests.{Calm, Fits, Noted, Pointed, askedIn, idleIn, Queued, Serving};
 use crate::account::Account;
 use crate::deque::take_top;
 use crate::seat::code_of;
@@ -61,7 +62,7 @@ fn line_up(v: usize, w: usize, after: &mut [u8; 32], last: &mut [u8; 16])
 // Worker w, the first at victim v, leaves its line.
 fn step_up(v: usize, w: usize, after: &mut [u8; 32], last: &mut [u8; 16])
     requires { ⌜ (v < 16) × (w < 16) × (length (now after) ≡ 32) × (length (now last) ≡ 16) ⌝ }
-    ensures { λ r. ⌜ ((hi : ℕ) (ws : List Worker) (l : ℕ) (x : Worker) → Queued hi ws (now (after .entry)) (now (last .entry)) → length ws ≡ 16 → getD ws w Idle ≡ Waiting v l → getD (now (after .entry)) (16 + v) 0 ≡ suc w → Calm x → Queued hi (set ws w x) (now (after .exit)) (now (last .exit))) ⌝ }
+    ensures { λ r. ⌜ ((hi : ℕ) (ws : List Worker) (l : ℕ) (x : Worker) → Queued hi ws (now (after .entry)) (now (last .entry)) → length ws ≡ 16 → getD ws w Idle ≡ Waiting v l → getD (now (after .entry)) (16 + v) 0 ≡ suc w → Calm x → Queued hi (set ws w x) (now (after .exit)) (now (last .exit))) × ((u : ℕ) → u ≢ v → getD (now (after .exit)) (16 + u) 0 ≡ getD (now (after .entry)) (16 + u) 0) ⌝ }
 {
     let behind = after[w];
     after[16 + v] = behind;
@@ -121,7 +122,7 @@ fn grown(count: usize, more: bool) -> usize
 // Lists the workers that are idle, in rising number, and says how many there are.
 fn note_idle(n: usize, began: &[u16; 16], idle: &mut [u8; 16]) -> usize
     requires { ⌜ (n ≤ 16) × (length (now idle) ≡ 16) ⌝ }
-    ensures { λ r. ⌜ (r ≤ n) × (length (now (idle .exit)) ≡ 16) × ((b : List Worker) → Seated b (now (began .entry)) → Fits b → Noted b n (now (idle .exit)) r) ⌝ }
+    ensures { λ r. ⌜ (r ≤ n) × (length (now (idle .exit)) ≡ 16) × ((b : List Worker) → Seated b (now (began .entry)) → Fits b → Noted (idleIn b) n (now (idle .exit)) r) ⌝ }
 {
     let mut count = 0;
     let mut w = 0;
@@ -231,7 +232,7 @@ fn serve(
     len: &mut [u16; 16],
 ) -> Account
     requires { ⌜ ((p : Plan) × (n : ℕ) × (choices : List ℕ) × (r : ℕ) × (b : List Worker) × (hi : ℕ) × (s : State) × InRun p n choices r b (serving v) s × (v < n) × Manned p s account (now seats) × Queued hi (s .workers) (now after) (now last) × Dequed (s .deques) (now slots) (now top) (now len)) ⌝ }
-    ensures { λ a. ⌜ ((p : Plan) (n : ℕ) (choices : List ℕ) (r : ℕ) (b : List Worker) (hi : ℕ) (s : State) → InRun p n choices r b (serving v) s → (v < n) → Manned p s account (now (seats .entry)) → Queued hi (s .workers) (now (after .entry)) (now (last .entry)) → Dequed (s .deques) (now (slots .entry)) (now (top .entry)) (now (len .entry)) → Manned p (serveOf v (oldest v n (s .workers) .who) s) a (now (seats .exit)) × Queued hi (serveOf v (oldest v n (s .workers) .who) s .workers) (now (after .exit)) (now (last .exit)) × Dequed (serveOf v (oldest v n (s .workers) .who) s .deques) (now (slots .entry)) (now (top .exit)) (now (len .exit))) ⌝ }
+    ensures { λ a. ⌜ ((p : Plan) (n : ℕ) (choices : List ℕ) (r : ℕ) (b : List Worker) (hi : ℕ) (s : State) → InRun p n choices r b (serving v) s → (v < n) → Manned p s account (now (seats .entry)) → Queued hi (s .workers) (now (after .entry)) (now (last .entry)) → Dequed (s .deques) (now (slots .entry)) (now (top .entry)) (now (len .entry)) → Manned p (serveOf v (oldest v n (s .workers) .who) s) a (now (seats .exit)) × Queued hi (serveOf v (oldest v n (s .workers) .who) s .workers) (now (after .exit)) (now (last .exit)) × Dequed (serveOf v (oldest v n (s .workers) .who) s .deques) (now (slots .entry)) (now (top .exit)) (now (len .exit))) × ((u : ℕ) → u ≢ v → getD (now (after .exit)) (16 + u) 0 ≡ getD (now (after .entry)) (16 + u) 0) ⌝ }
 {
     let who = wide8(after[16 + v]);
     if who == 0 {
@@ -239,6 +240,21 @@ fn serve(
     }
     step_up(v, who - 1, after, last);
     give(account, who - 1, v, seats, slots, top, len)
+}
+
+// Lists the victims that have a request, in rising number, and says how many there are.
+fn note_asked(n: usize, after: &[u8; 32], asked: &mut [u8; 16]) -> usize
+    requires { ⌜ (n ≤ 16) × (length (now asked) ≡ 16) ⌝ }
+    ensures { λ r. ⌜ (r ≤ n) × (length (now (asked .exit)) ≡ 16) × Noted (askedIn (now (after .entry))) n (now (asked .exit)) r ⌝ }
+{
+    let mut count = 0;
+    let mut v = 0;
+    while v < n {
+        asked[count] = v as u8;
+        count = grown(count, 0 < after[16 + v]);
+        v += 1;
+    }
+    count
 }
 
 fn serves(
@@ -254,11 +270,13 @@ fn serves(
     requires { ⌜ ((p : Plan) × (choices : List ℕ) × (r : ℕ) × (b : List Worker) × (hi : ℕ) × (s : State) × InRun p n choices r b (serving 0) s × Manned p s account (now seats) × Queued hi (s .workers) (now after) (now last) × Dequed (s .deques) (now slots) (now top) (now len)) ⌝ }
     ensures { λ a. ⌜ ((p : Plan) (choices : List ℕ) (r : ℕ) (b : List Worker) (hi : ℕ) (s : State) → InRun p n choices r b (serving 0) s → Manned p s account (now (seats .entry)) → Queued hi (s .workers) (now (after .entry)) (now (last .entry)) → Dequed (s .deques) (now (slots .entry)) (now (top .entry)) (now (len .entry)) → Manned p (servesOf n n s) a (now (seats .exit)) × Queued hi (servesOf n n s .workers) (now (after .exit)) (now (last .exit)) × Dequed (servesOf n n s .deques) (now (slots .entry)) (now (top .exit)) (now (len .exit))) ⌝ }
 {
+    let mut asked = [0u8; 16];
+    let count = note_asked(n, after, &mut asked);
     let mut a = account;
-    let mut v = 0;
-    while v < n {
-        a = serve(a, v, seats, after, last, slots, top, len);
-        v += 1;
+    let mut m = 0;
+    while m < count {
+        a = serve(a, wide8(asked[m]), seats, after, last, slots, top, len);
+        m += 1;
     }
     a
 }

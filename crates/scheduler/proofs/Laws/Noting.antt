@@ -1,43 +1,48 @@
--- The list of the idle workers, as it grows worker by worker, and the requests of those in it: they are the requests of all.
+-- A list of the numbers that pass a test, as it grows number by number. The requests of the idle workers are the requests of all, and
+-- the services of the victims that have a request are those of all.
 -- Assumes nothing.
 use Prim.Native.Nat.{ℕ, zero, suc, _+_, _*_, _≤_, _<_}
 use mathlib.Core.Path.{_≡_, refl, sym, ap, _∙_}
-use mathlib.Core.Bool.{Bool, true, false}
-use mathlib.Core.Logic.{by-cases}
+use mathlib.Core.Bool.{Bool, true, false, true≢false}
+use mathlib.Core.Logic.{_≢_, by-cases}
 use mathlib.Core.List.{List}
 use native.Mathlib.Omega.{arith}
 use native.Mathlib.Decide.{ℕ-discrete}
 use lib.ListN.{length, getD, set}
+use lib.Dec.{ltb, le→leb}
 use lib.Seq.{getD-set-same, getD-set-other}
 use Rattle.plan.specs.Plan.{Plan}
 use Rattle.runs.specs.declared.worker.Worker.{Worker}
 use Rattle.runs.specs.declared.worker.Worker.the-variants.{Idle}
 use Rattle.runs.specs.State.{State}
-use Rattle.runs.specs.Steal.{lays, lay}
+use Rattle.runs.specs.Steal.{lays, lay, oldest, serve, serves}
+use Rattle.runs.specs.Trace.{serving}
 use Rattle.scheduler.specs.declared.account.Account.{Account}
-use Rattle.scheduler.specs.Machine.{isIdle, Manned}
-use Rattle.scheduler.specs.Requests.{Pointed, Queued, NoIdle, past, Noted}
+use Rattle.scheduler.specs.Machine.{InRun, Manned, Dequed}
+use Rattle.scheduler.specs.Requests.{Pointed, Queued, None, past, Noted, idleIn, askedIn}
 use Rattle.scheduler.proofs.Laws.Codes.{idle-is}
 use Rattle.scheduler.proofs.Laws.Manning.{lay-rests}
 use Rattle.scheduler.proofs.Laws.Queues.{queued-later}
+use Rattle.scheduler.proofs.Laws.Picks.{first-oldest}
+use Rattle.scheduler.proofs.Laws.Running.{run-serves}
 
-pub noted-none : (ws : List Worker) (list : List ℕ) → Noted ws 0 list 0
-noted-none ws list = record { each = λ m h. absurd (omega arith); rest = (omega arith, λ w i h. absurd (omega arith)) }
+pub noted-none : (test : ℕ → Bool) (list : List ℕ) → Noted test 0 list 0
+noted-none test list = record { each = λ m h. absurd (omega arith); rest = (omega arith, λ w i h. absurd (omega arith)) }
 
 past-kept : (list : List ℕ) (count x m : ℕ) → m ≤ count → past (set list count x) m ≡ past list m
 past-kept list count x zero h = refl
 past-kept list count x (suc m) h = ap suc (getD-set-other list count m x 0 (λ e. omega arith))
 
 -- worker n comes in, or does not; either way its number is stored
-module _ {ws : List Worker} {n : ℕ} {list : List ℕ} {count : ℕ} (q : Noted ws n list count) where
+module _ {test : ℕ → Bool} {n : ℕ} {list : List ℕ} {count : ℕ} (q : Noted test n list count) where
   each-kept : (m : ℕ) → m < count
       → (past (set list count n) m ≤ getD (set list count n) m 0) × (getD (set list count n) m 0 < suc n)
-      × (getD ws (getD (set list count n) m 0) Idle ≡ Idle) × NoIdle ws (past (set list count n) m) (getD (set list count n) m 0)
+      × (test (getD (set list count n) m 0) ≡ true) × None test (past (set list count n) m) (getD (set list count n) m 0)
   each-kept m h =
       rw (past-kept list count n m (omega arith), getD-set-other list count m n 0 (λ e. omega arith))
       (q .each m h .0, omega (arith, q .each m h .1), q .each m h .2, q .each m h .3)
 
-  pub noted-more : count < length list → getD ws n Idle ≡ Idle → Noted ws (suc n) (set list count n) (suc count)
+  pub noted-more : count < length list → test n ≡ true → Noted test (suc n) (set list count n) (suc count)
   noted-more room e = record {
     each = λ m h. by-cases (ℕ-discrete m count)
         (λ x. rw (x, past-kept list count n count (omega arith), getD-set-same list count n 0 room) (q .rest .0, omega arith, e, q .rest .1))
@@ -45,7 +50,7 @@ module _ {ws : List Worker} {n : ℕ} {list : List ℕ} {count : ℕ} (q : Noted
     rest = rw (getD-set-same list count n 0 room) (omega arith, λ w i h. absurd (omega arith));
   }
 
-  pub noted-other : isIdle (getD ws n Idle) ≡ false → Noted ws (suc n) (set list count n) count
+  pub noted-other : test n ≡ false → Noted test (suc n) (set list count n) count
   noted-other e = record {
     each = each-kept;
     rest = rw (past-kept list count n count (omega arith))
@@ -53,9 +58,9 @@ module _ {ws : List Worker} {n : ℕ} {list : List ℕ} {count : ℕ} (q : Noted
   }
 
   -- by what was told of it
-  pub noted-next : count < length list → (more : Bool) → more ≡ isIdle (getD ws n Idle) → (r : ℕ) → (more ≡ true → r ≡ suc count)
-      → (more ≡ false → r ≡ count) → Noted ws (suc n) (set list count n) r
-  noted-next room true e r grows stays = rw (grows refl) (noted-more room (idle-is _ (sym e)))
+  pub noted-next : count < length list → (more : Bool) → more ≡ test n → (r : ℕ) → (more ≡ true → r ≡ suc count)
+      → (more ≡ false → r ≡ count) → Noted test (suc n) (set list count n) r
+  noted-next room true e r grows stays = rw (grows refl) (noted-more room (sym e))
   noted-next room false e r grows stays = rw (stays refl) (noted-other (sym e))
 
 pub grown-most : (count : ℕ) (more : Bool) (r : ℕ) → (more ≡ true → r ≡ suc count) → (more ≡ false → r ≡ count) → r ≤ suc count
@@ -63,7 +68,7 @@ grown-most count true r grows stays = omega (arith, grows refl)
 grown-most count false r grows stays = omega (arith, stays refl)
 
 -- where no worker is idle no request is laid
-pub lays-past : (choices : List ℕ) (r : ℕ) (ws : List Worker) (s : State) (i j : ℕ) → i ≤ j → NoIdle ws i j
+pub lays-past : (choices : List ℕ) (r : ℕ) (ws : List Worker) (s : State) (i j : ℕ) → i ≤ j → None (idleIn ws) i j
     → lays choices r j ws s ≡ lays choices r i ws s
 unfolding lays
 lays-past choices r ws s i zero h none = let e : i ≡ 0 = omega arith in rw e refl
@@ -80,30 +85,88 @@ pub record LaidTo (p : Plan) (choices : List ℕ) (r : ℕ) (ws : List Worker) (
   pub queued : Queued (r * 16 + k) (lays choices r k ws s .workers) after last
 
 module _ {p : Plan} {choices : List ℕ} {r : ℕ} {ws : List Worker} {s : State} {a : Account} {seats : List ℕ} {cursor : ℕ} {after last : List ℕ} where
-  laid-on : {i : ℕ} (j : ℕ) → i ≤ j → NoIdle ws i j → LaidTo p choices r ws s a seats cursor after last i
+  laid-on : {i : ℕ} (j : ℕ) → i ≤ j → None (idleIn ws) i j → LaidTo p choices r ws s a seats cursor after last i
       → LaidTo p choices r ws s a seats cursor after last j
   laid-on {i} j h none t =
       let e = lays-past choices r ws s i j h none in
       record { manned = rw e (t .manned); pointed = rw e (t .pointed); queued = rw e (queued-later (t .queued) _ (omega arith)) }
 
   -- before the request of w, the next one in the list
-  pub noted-here : {n : ℕ} {list : List ℕ} {count : ℕ} → Noted ws n list count → (m : ℕ) → m < count → (w : ℕ) → w ≡ getD list m 0
+  pub noted-here : {n : ℕ} {list : List ℕ} {count : ℕ} → Noted (idleIn ws) n list count → (m : ℕ) → m < count → (w : ℕ) → w ≡ getD list m 0
       → LaidTo p choices r ws s a seats cursor after last (past list m)
       → LaidTo p choices r ws s a seats cursor after last w × (w < n) × (getD ws w Idle ≡ Idle)
   noted-here noted m h w e t =
       let there = noted .each m h in
-      rw e (laid-on _ (there .0) (there .3) t, there .1, there .2)
+      rw e (laid-on _ (there .0) (there .3) t, there .1, idle-is _ (there .2))
 
   -- behind the last one
-  pub noted-end : {n : ℕ} {list : List ℕ} {count : ℕ} → Noted ws n list count
+  pub noted-end : {n : ℕ} {list : List ℕ} {count : ℕ} → Noted (idleIn ws) n list count
       → LaidTo p choices r ws s a seats cursor after last (past list count) → LaidTo p choices r ws s a seats cursor after last n
   noted-end {n} noted t = laid-on n (noted .rest .0) (noted .rest .1) t
 
   -- and behind it
-  pub laid-more : {n : ℕ} {list : List ℕ} {count : ℕ} → Noted ws n list count → (m w : ℕ) → w ≡ getD list m 0
+  pub laid-more : {n : ℕ} {list : List ℕ} {count : ℕ} → Noted (idleIn ws) n list count → (m w : ℕ) → w ≡ getD list m 0
       → Manned p (lay choices r w (getD ws w Idle) (lays choices r w ws s)) a seats
       × Pointed choices (lay choices r w (getD ws w Idle) (lays choices r w ws s)) cursor
       × Queued (suc (r * 16 + w)) (lay choices r w (getD ws w Idle) (lays choices r w ws s) .workers) after last
       → LaidTo p choices r ws s a seats cursor after last (past list (suc m))
   unfolding lays
   laid-more noted m w e (h, q, l) = rw (← e) (record { manned = h; pointed = q; queued = queued-later l _ (omega arith) })
+
+not-asked : (x : ℕ) → ltb 0 x ≡ false → x ≡ 0
+not-asked x e = by-cases (ℕ-discrete x 0) (λ q. q) (λ f. absurd (rw e at (le→leb 1 x (omega (arith, f)))))
+
+-- a victim without a request serves none
+serves-none : (n k : ℕ) (s : State) → oldest k n (serves n k s .workers) .who ≡ 0 → serves n (suc k) s ≡ serves n k s
+unfolding serves serve
+serves-none n k s e = ap (λ x. serve k x (serves n k s)) e
+
+-- the victims below k have served; the lines of the others begin as they did
+pub record ServedTo (p : Plan) (n : ℕ) (hi : ℕ) (s : State) (a : Account) (seats after₀ after last slots top len : List ℕ) (k : ℕ) : Type 0 where
+  pub manned : Manned p (serves n k s) a seats
+  pub queued : Queued hi (serves n k s .workers) after last
+  pub dequed : Dequed (serves n k s .deques) slots top len
+  pub kept : (u : ℕ) → k ≤ u → getD after (16 + u) 0 ≡ getD after₀ (16 + u) 0
+
+module _ {p : Plan} {n : ℕ} {choices : List ℕ} {r : ℕ} {b : List Worker} {hi : ℕ} {s : State} {a : Account} {seats after₀ after last slots top len : List ℕ}
+    (run : InRun p n choices r b (serving 0) s) where
+  served-on : (j : ℕ) → suc j ≤ n → askedIn after₀ j ≡ false → ServedTo p n hi s a seats after₀ after last slots top len j
+      → ServedTo p n hi s a seats after₀ after last slots top len (suc j)
+  served-on j l none t =
+      let first = first-oldest (run-serves run j (omega arith)) l (t .queued) in
+      let e = serves-none n j s (sym first ∙ (t .kept j (omega arith) ∙ not-asked _ none)) in
+      record { manned = rw e (t .manned); queued = rw e (t .queued); dequed = rw e (t .dequed); kept = λ u m. t .kept u (omega arith) }
+
+  serves-past : (i j : ℕ) → i ≤ j → j ≤ n → None (askedIn after₀) i j → ServedTo p n hi s a seats after₀ after last slots top len i
+      → ServedTo p n hi s a seats after₀ after last slots top len j
+  serves-past i zero h l none t = let e : 0 ≡ i = omega arith in rw e t
+  serves-past i (suc j) h l none t =
+      by-cases (ℕ-discrete i (suc j)) (λ e. rw (← e) t)
+      (λ f. served-on j l (none j (omega (arith, f)) (omega arith)) (serves-past i j (omega (arith, f)) (omega arith) (λ w k m. none w k (omega arith)) t))
+
+  -- before the service of v, the next one in the list
+  pub asked-here : {list : List ℕ} {count : ℕ} → Noted (askedIn after₀) n list count → (m : ℕ) → m < count → (v : ℕ) → v ≡ getD list m 0
+      → ServedTo p n hi s a seats after₀ after last slots top len (past list m)
+      → ServedTo p n hi s a seats after₀ after last slots top len v × (v < n)
+  asked-here noted m h v e t =
+      let there = noted .each m h in
+      rw e (serves-past _ _ (there .0) (omega (arith, there .1)) (there .3) t, there .1)
+
+  -- behind the last one
+  pub asked-end : {list : List ℕ} {count : ℕ} → Noted (askedIn after₀) n list count
+      → ServedTo p n hi s a seats after₀ after last slots top len (past list count)
+      → ServedTo p n hi s a seats after₀ after last slots top len n
+  asked-end noted t = serves-past _ n (noted .rest .0) (omega arith) (noted .rest .1) t
+
+-- and behind it
+pub served-more : {p : Plan} {n : ℕ} {hi : ℕ} {s : State} {a a′ : Account} {seats seats′ after₀ after after′ last last′ slots top top′ len len′ : List ℕ}
+    {list : List ℕ} {count : ℕ} → Noted (askedIn after₀) n list count → (m v : ℕ) → v ≡ getD list m 0
+    → ServedTo p n hi s a seats after₀ after last slots top len v
+    → Manned p (serve v (oldest v n (serves n v s .workers) .who) (serves n v s)) a′ seats′
+    × Queued hi (serve v (oldest v n (serves n v s .workers) .who) (serves n v s) .workers) after′ last′
+    × Dequed (serve v (oldest v n (serves n v s .workers) .who) (serves n v s) .deques) slots top′ len′
+    → ((u : ℕ) → u ≢ v → getD after′ (16 + u) 0 ≡ getD after (16 + u) 0)
+    → ServedTo p n hi s a′ seats′ after₀ after′ last′ slots top′ len′ (past list (suc m))
+unfolding serves
+served-more noted m v e t (h, q, d) others =
+    rw (← e) (record { manned = h; queued = q; dequed = d; kept = λ u k. others u (λ x. omega arith) ∙ t .kept u (omega arith) })

@@ -9,20 +9,20 @@ use lib.ListN.{length, getD, length-set}
 use Rattle.runs.specs.declared.worker.Worker.{Worker}
 use Rattle.runs.specs.declared.worker.Worker.the-variants.{Idle}
 use Rattle.scheduler.specs.Machine.{Seated}
-use Rattle.scheduler.specs.Requests.{Fits, Noted}
+use Rattle.scheduler.specs.Requests.{Fits, Noted, idleIn}
 use Rattle.scheduler.proofs.Laws.Noting.{noted-none, noted-next, grown-most}
 use Rattle.scheduler.proofs.steal.note_idle.Statement.{statement}
 use Rattle.scheduler.proofs.steal.note_idle.Tie as tie
 
 abbrev Inv-loop : tie.InvT-loop
 Inv-loop n began idle₀ count₀ w₀ idle count w =
-    (w ≤ n) × (n ≤ 16) × (count ≤ w) × (length idle ≡ 16) × ((b : List Worker) → Seated b began → Fits b → Noted b w idle count)
+    (w ≤ n) × (n ≤ 16) × (count ≤ w) × (length idle ≡ 16) × ((b : List Worker) → Seated b began → Fits b → Noted (idleIn b) w idle count)
 
 abbrev μ-loop : tie.MeasureT-loop
 μ-loop n began idle₀ count₀ w₀ idle count w = n - w
 
 loop-holds : tie.Need-loop-holds Inv-loop μ-loop
-loop-holds c = (omega arith, c .pre .0, omega arith, c .pre .1, λ b seated fits. noted-none b _)
+loop-holds c = (omega arith, c .pre .0, omega arith, c .pre .1, λ b seated fits. noted-none (idleIn b) _)
 
 cast-idle : tie.Need-cast-idle Inv-loop μ-loop
 cast-idle c = omega arith

@@ -1,6 +1,6 @@
 -- `steal::serve` meets its contract: the first of the victim's line is served, if there is one. Assumes nothing.
 use Prim.Native.Nat.{ℕ, suc, _-_, _<_}
-use mathlib.Core.Path.{_≡_, sym, _∙_}
+use mathlib.Core.Path.{_≡_, refl, sym, _∙_}
 use mathlib.Core.List.{List}
 use native.Mathlib.Omega.{arith}
 use borrow.Author.Needs.{needs}
@@ -35,9 +35,11 @@ reads c p n choices r b hi s run known queued = c .wide8 .ensures .0 ∙ first-o
 
 returns : tie.Need-returns
 unfolding serve
-returns c =
-    λ p n choices r b hi s run known manned queued dequed.
-    rw (sym (reads (c .before) p n choices r b hi s run known queued) ∙ c .if1 .taken) (manned, queued, dequed)
+returns c = (
+  λ p n choices r b hi s run known manned queued dequed.
+      rw (sym (reads (c .before) p n choices r b hi s run known queued) ∙ c .if1 .taken) (manned, queued, dequed),
+  λ u f. refl,
+)
 
 picks : (c : tie.Else1) (p : Plan) (n : ℕ) (choices : List ℕ) (r : ℕ) (b : List Worker) (hi : ℕ) (s : State)
     → InRun p n choices r b (serving (c .before .before .before .args .v)) s → c .before .before .before .args .v < n
@@ -81,7 +83,7 @@ give-requires c κs =
     )
 
 returns-2 : tie.Need-returns-2
-returns-2 c =
+returns-2 c = (
     λ p n choices r b hi s run known manned queued dequed.
     let e = picks (c .before .before .before .before .before .before .before) p n choices r b hi s run known queued in
     let (m, d) = c .give .ensures p n choices r b s (record { run = run; known = known; manned = manned; dequed = dequed; picked = e }) in
@@ -89,9 +91,11 @@ returns-2 c =
     rw (sym e) (
       m,
       serve-queued (c .before .before .before .before .before .before .before .before .before .before .args .v) _ s
-          (λ x calm. c .before .before .before .before .step-up .ensures hi (s .workers) l x queued (run-sound run .workers) w (first-oldest run known queued ∙ sym e) calm),
+          (λ x calm. c .before .before .before .before .step-up .ensures .0 hi (s .workers) l x queued (run-sound run .workers) w (first-oldest run known queued ∙ sym e) calm),
       d,
-    )
+    ),
+    c .before .before .before .before .step-up .ensures .1,
+)
 
 pub serve-spec : {M : Type 1} → statement M
 serve-spec =

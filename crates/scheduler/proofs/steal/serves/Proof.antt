@@ -1,63 +1,81 @@
--- `steal::serves` meets its contract. The loop's invariant: the arrays stand for the state in which the victims below v have served.
--- Assumes nothing.
+-- `steal::serves` meets its contract. The loop's invariant: the arrays stand for the state in which the victims up to the one in the
+-- list's place before m have served. Assumes nothing.
 use Prim.Native.Nat.{ℕ, _-_, _≤_}
-use mathlib.Core.Path.{_≡_}
+use mathlib.Core.Path.{_≡_, refl}
 use mathlib.Core.List.{List}
 use native.Mathlib.Numerals.{add-one}
 use native.Mathlib.Omega.{arith}
+use borrow.Author.Needs.{needs}
 use Rattle.plan.specs.Plan.{Plan}
 use Rattle.runs.specs.declared.worker.Worker.{Worker}
 use Rattle.runs.specs.State.{State}
 use Rattle.runs.specs.Steal.{serves}
 use Rattle.runs.specs.Trace.{serving}
 use Rattle.scheduler.specs.Machine.{InRun, Manned, Dequed}
-use Rattle.scheduler.specs.Requests.{Queued}
+use Rattle.scheduler.specs.Requests.{Queued, past}
+use Rattle.scheduler.proofs.Laws.Noting.{ServedTo, asked-here, asked-end, served-more}
 use Rattle.scheduler.proofs.Laws.Running.{run-serves}
 use Rattle.scheduler.proofs.steal.serves.Statement.{statement}
 use Rattle.scheduler.proofs.steal.serves.Tie as tie
 
 abbrev Inv-loop : tie.InvT-loop
-Inv-loop n seats₀ after₀ last₀ slots top₀ len₀ a₀ v₀ seats after last top len a v =
-    (v ≤ n)
+Inv-loop n seats₀ after₀ last₀ slots top₀ len₀ asked count a₀ m₀ seats after last top len a m =
+    (m ≤ count)
     × ((p : Plan) (choices : List ℕ) (r : ℕ) (b : List Worker) (hi : ℕ) (s : State) → InRun p n choices r b (serving 0) s
     → Manned p s a₀ seats₀ → Queued hi (s .workers) after₀ last₀ → Dequed (s .deques) slots top₀ len₀
-    → Manned p (serves n v s) a seats × Queued hi (serves n v s .workers) after last × Dequed (serves n v s .deques) slots top len)
+    → ServedTo p n hi s a seats after₀ after last slots top len (past asked m))
 
 abbrev μ-loop : tie.MeasureT-loop
-μ-loop n seats₀ after₀ last₀ slots top₀ len₀ a₀ v₀ seats after last top len a v = n - v
+μ-loop n seats₀ after₀ last₀ slots top₀ len₀ asked count a₀ m₀ seats after last top len a m = count - m
+
+note-asked-requires : tie.Need-note-asked-requires Inv-loop μ-loop
+note-asked-requires c κs = (c .before .before .pre .6 .most, refl)
 
 loop-holds : tie.Need-loop-holds Inv-loop μ-loop
 unfolding serves
-loop-holds c = (omega arith, λ p choices r b hi s run manned queued dequed. (manned, queued, dequed))
+loop-holds c = (omega arith, λ p choices r b hi s run manned queued dequed. record { manned = manned; queued = queued; dequed = dequed; kept = λ u k. refl })
+
+array-read-wide8 : tie.Need-array-read-wide8 Inv-loop μ-loop
+array-read-wide8 c = omega (arith, c .before .before .note-asked .ensures .0, c .before .before .before .before .before .pre .6 .most)
+
+wide8-requires : tie.Need-wide8-requires Inv-loop μ-loop
+wide8-requires c κs = search needs
 
 serve-requires : tie.Need-serve-requires Inv-loop μ-loop
 serve-requires c κs =
-    let (p, choices, r, b, hi, s, run, manned, queued, dequed) = c .before .before .before .before .before .before .before .pre in
-    let l = c .before .before .before .before .before .before .loop in
-    let (m, q, d) = l .inv .1 p choices r b hi s run manned queued dequed in
-    (p, _, choices, r, b, hi, _, run-serves run (l .v) (l .inv .0), c .before .before .before .before .before .loop-test .taken, m, q, d)
+    let (p, choices, r, b, hi, s, run, manned, queued, dequed) = c .before .before .before .before .before .before .before .before .before .before .before .pre in
+    let l = c .before .before .before .before .before .before .before .loop in
+    let v = c .before .before .before .before .before .wide8 in
+    let (t, known) = asked-here run (c .before .before .before .before .before .before .before .before .note-asked .ensures .2) (l .m) (c .before .before .before .before .before .before .loop-test .taken) (v .result) (v .ensures .0) (l .inv .1 p choices r b hi s run manned queued dequed) in
+    (p, _, choices, r, b, hi, _, run-serves run (v .result) (omega (arith, known)), known, t .manned, t .queued, t .dequed)
 
-add-v : tie.Need-add-v Inv-loop μ-loop
-add-v c = omega arith
+add-m : tie.Need-add-m Inv-loop μ-loop
+add-m c = omega (arith, c .before .before .before .before .before .before .before .before .before .note-asked .ensures .0, c .before .before .before .before .before .before .before .before .before .before .before .before .pre .6 .most)
 
 loop-less : tie.Need-loop-less Inv-loop μ-loop
 loop-less c = omega arith
 
 loop-again : tie.Need-loop-again Inv-loop μ-loop
-unfolding serves
 loop-again c =
-    let l = c .before .before .before .before .before .before .before .loop in (
+    let l = c .before .before .before .before .before .before .before .before .loop in
+    let v = c .before .before .before .before .before .before .wide8 in
+    let noted = c .before .before .before .before .before .before .before .before .before .note-asked .ensures .2 in (
       omega arith,
       λ p choices r b hi s run manned queued dequed.
-          let (m, q, d) = l .inv .1 p choices r b hi s run manned queued dequed in
-          rw add-one (c .serve .ensures p _ choices r b hi _ (run-serves run (l .v) (l .inv .0)) (c .before .before .before .before .before .before .loop-test .taken) m q d),
+          let (t, known) = asked-here run noted (l .m) (c .before .before .before .before .before .before .before .loop-test .taken) (v .result) (v .ensures .0) (l .inv .1 p choices r b hi s run manned queued dequed) in
+          rw add-one
+          (served-more noted (l .m) (v .result) (v .ensures .0) t
+          (c .serve .ensures .0 p _ choices r b hi _ (run-serves run (v .result) (omega (arith, known))) known (t .manned) (t .queued) (t .dequed))
+          (c .serve .ensures .1)),
     )
 
 returns : tie.Need-returns Inv-loop μ-loop
 returns c =
+    λ p choices r b hi s run manned queued dequed.
     let l = c .before .loop in
-    let e : l .v ≡ c .before .before .args .n = omega arith in
-    λ p choices r b hi s run manned queued dequed. rw e at (l .inv .1 p choices r b hi s run manned queued dequed)
+    let e : l .m ≡ c .before .before .note-asked .result = omega arith in
+    let t = asked-end run (c .before .before .note-asked .ensures .2) (rw e at (l .inv .1 p choices r b hi s run manned queued dequed)) in
+    (t .manned, t .queued, t .dequed)
 
 pub serves-spec : {M : Type 1} → statement M
 serves-spec =
@@ -65,9 +83,12 @@ serves-spec =
     (tie.spec
     Inv-loop
     μ-loop
+    note-asked-requires
     loop-holds
+    array-read-wide8
+    wide8-requires
     serve-requires
-    add-v
+    add-m
     loop-less
     loop-again
     returns)
