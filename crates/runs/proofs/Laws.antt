@@ -13,6 +13,7 @@ pub mod Waits
 pub mod Waiting
 pub mod Victims
 pub mod Whole
+pub mod Least
 pub mod Served
 pub mod Rows
 pub mod Order

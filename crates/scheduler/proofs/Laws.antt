@@ -8,7 +8,6 @@ pub mod Turning
 pub mod Running
 pub mod TallyCell
 pub mod Codes
-pub mod Least
 pub mod Queues
 pub mod Picks
 pub mod Manning

@@ -1,29 +1,25 @@
 -- How long a request waits: it is served at the latest n - 1 rounds after the one it was laid in, unless the run ends first.
 -- A victim serves one request in each round, the one of least rank, and those laid later have a greater rank; so with each round
 -- one request fewer comes before one that waits, and when it was laid at most n - 1 did.
---   rank l w         == orders requests as a victim does: by the round l, then by the worker w, which is below 16
 --   ahead v a u x    == 1 where the worker u, which is x, waits on v with a request of a rank below a, 0 where it does not
 --   before n v a ws  == how many of the workers below n do
---   Best v k ws q m  == of the workers below k, q is what `oldest` picks for v, laid in round m
 -- Assumes nothing.
-use Prim.Native.Nat.{ℕ, zero, suc, _+_, _*_, _≤_, _<_, _%_, zero-le}
+use Prim.Native.Nat.{ℕ, zero, suc, _+_, _≤_, _<_, _%_, zero-le}
 use mathlib.Core.Path.{_≡_, refl, sym, ap, _∙_}
 use mathlib.Core.Logic.{_⊎_, inl, inr, _≢_, by-cases}
-use mathlib.Core.Bool.{Bool, true, false}
 use mathlib.Core.List.{List, [], _∷_}
 use native.Mathlib.Nat.{not-suc-le-zero, le-of-suc-le-suc, eq-or-lt-of-le, le-refl}
 use native.Mathlib.Omega.{arith}
 use native.Mathlib.Decide.{ℕ-discrete, decLt}
-use lib.Dec.{T, ltb, eqb}
+use lib.Dec.{T}
 use lib.ListN.{length, getD, set}
 use lib.Seq.{getD-set-same, getD-set-other}
-use borrow.Author.Tests.{eqb-true, eqb-false, ltb-true, ltb-false}
 use Rattle.runs.specs.declared.worker.Worker.{Worker}
 use Rattle.runs.specs.declared.worker.Worker.the-variants.{Idle, Holding, Waiting}
 use Rattle.plan.specs.Plan.{Plan}
 use Rattle.runs.specs.State.{State, workerOf, dequeOf, start}
 use Rattle.runs.specs.Turn.{turn, idled, turnOf}
-use Rattle.runs.specs.Steal.{laid as laidBy, lay, older, oldest, topOf, given, serve}
+use Rattle.runs.specs.Steal.{laid as laidBy, lay, oldest, topOf, given, serve}
 use Rattle.runs.specs.Run.{choicesFit}
 use Rattle.runs.proofs.Lines.Sum.{sum, sum-le, sum-bound, only, only-yes}
 use Rattle.plan.specs.Rules.{Accepted}
@@ -31,6 +27,7 @@ use Rattle.runs.specs.Trace.{Stage, turning, laying, serving, Trace, beg
 use Rattle.runs.proofs.Laws.Sound.{trace-sound}
 use Rattle.runs.proofs.Laws.Waits.{waits, start-calm, seated, seated-waits}
 use Rattle.runs.proofs.Laws.Victims.{victim-below}
+use Rattle.runs.proofs.Laws.Least.{rank, Best, oldest-best}
 
 -- terms that are no greater, and one that is less
 sum-less : (n : ℕ) (f g : ℕ → ℕ) → ((i : ℕ) → i < n → f i ≤ g i) → (j : ℕ) → j < n → f j < g j → sum n f < sum n g
@@ -41,9 +38,6 @@ sum-less (suc n) f g h j b l = go (sum-less n f g (λ i c. h i (omega arith)) j)
     go : (j < n → f j < g j → sum n f < sum n g) → (j ≡ n) ⊎ (j < n) → sum n f + f n < sum n g + g n
     go rec (inl q) = omega (arith, ap f q, ap g q, sum-le n f g (λ i c. h i (omega arith)))
     go rec (inr c) = omega (arith, rec c l, h n (le-refl (suc n)))
-
-abbrev rank : ℕ → ℕ → ℕ
-rank l w = l * 16 + w
 
 ahead : ℕ → ℕ → ℕ → Worker → ℕ
 ahead v a u Idle = 0
@@ -96,59 +90,6 @@ before-itself n v l w ws h e =
     let none : f w ≤ 0 = ahead-most v (rank l w) w (getD ws w Idle) 0 (λ m q r. let s : l ≡ m = cc in omega arith) in
     let less = sum-less n f (λ u. 1) (λ u b. ahead-most v (rank l w) u (getD ws u Idle) 1 (λ m q r. omega arith)) w h (omega arith) in
     omega (arith, sum-bound n (λ u. 1) 1 (λ u b. omega arith))
-
-abbrev Best : ℕ → ℕ → List Worker → ℕ → ℕ → Type 0
-Best v k ws zero m = (u l : ℕ) → u < k → getD ws u Idle ≡ Waiting v l → ⊥
-Best v k ws (suc x) m =
-    (x < k) × (getD ws x Idle ≡ Waiting v m) × ((u l : ℕ) → u < k → u ≢ x → getD ws u Idle ≡ Waiting v l → rank m x < rank l u)
-
--- a victim serves the request of least rank
-oldest-best : (v k : ℕ) (ws : List Worker) → k ≤ 16 → Best v k ws (oldest v k ws .who) (oldest v k ws .laid)
-unfolding oldest older
-oldest-best v zero ws h = λ u l b e. not-suc-le-zero b
-oldest-best v (suc k) ws h = go (getD ws k Idle) refl (oldest v k ws .who) (oldest v k ws .laid) (oldest-best v k ws (omega arith))
-  where
-    at : (u m : ℕ) → u ≡ k → getD ws u Idle ≡ Waiting v m → getD ws k Idle ≡ Waiting v m
-    at u m s e = ap (λ z. getD ws z Idle) (sym s) ∙ e
-
-    -- worker k does not wait on v
-    kept : ((l : ℕ) → getD ws k Idle ≡ Waiting v l → ⊥) → (q m : ℕ) → Best v k ws q m → Best v (suc k) ws q m
-    kept f zero m i = λ u l b e. by-cases (ℕ-discrete u k) (λ s. f l (at u l s e)) (λ d. i u l (omega arith) e)
-    kept f (suc x) m i =
-        (omega (arith, i .0), i .1, λ u l b g e. by-cases (ℕ-discrete u k) (λ s. absurd (f l (at u l s e))) (λ d. i .2 u l (omega arith) g e))
-
-    -- it does, and its request comes before those of the workers below it
-    fresh : (l : ℕ) → getD ws k Idle ≡ Waiting v l → ((u m : ℕ) → u < k → getD ws u Idle ≡ Waiting v m → rank l k < rank m u)
-        → Best v (suc k) ws (suc k) l
-    fresh l e f = (le-refl (suc k), e, λ u m b g q. f u m (omega arith) q)
-
-    -- or not
-    stays : (l : ℕ) → getD ws k Idle ≡ Waiting v l → (x m : ℕ) → Best v k ws (suc x) m → m ≤ l → Best v (suc k) ws (suc x) m
-    stays l e x m i c = (
-      omega (arith, i .0),
-      i .1,
-      λ u a b g q.
-          by-cases (ℕ-discrete u k) (λ s. let r : l ≡ a = cc (at u a s q) in omega (arith, i .0)) (λ d. i .2 u a (omega arith) g q),
-    )
-
-    -- a request that was laid in an earlier round than the best comes before all
-    earlier : (l x m : ℕ) → Best v k ws (suc x) m → l < m → (u a : ℕ) → u < k → getD ws u Idle ≡ Waiting v a → rank l k < rank a u
-    earlier l x m i c u a b q =
-        by-cases (ℕ-discrete u x) (λ s. let r : m ≡ a = cc (ap (λ z. getD ws z Idle) s, i .1) in omega arith) (λ d. omega (arith, i .2 u a b d q))
-
-    go : (x : Worker) → getD ws k Idle ≡ x → (q m : ℕ) → Best v k ws q m
-        → Best v (suc k) ws (older v k x (record { who = q; laid = m }) .who) (older v k x (record { who = q; laid = m }) .laid)
-    go Idle e q m i = kept (λ l f. let z : _≡_ {A = ℕ} 0 1 = cc in omega arith) q m i
-    go (Holding j) e q m i = kept (λ l f. let z : _≡_ {A = ℕ} 0 1 = cc in omega arith) q m i
-    go (Waiting y l) e q m i = picked (eqb y v) refl q m i (ltb l m) refl
-      where
-        picked : (b : Bool) → eqb y v ≡ b → (q m : ℕ) → Best v k ws q m → (c : Bool) → ltb l m ≡ c
-            → Best v (suc k) ws (older v k (Waiting y l) (record { who = q; laid = m }) .who)
-            (older v k (Waiting y l) (record { who = q; laid = m }) .laid)
-        picked false f q m i c g = rw (older, f) (kept (λ a t. eqb-false y v f (cc)) q m i)
-        picked true f zero m i c g = rw (older, f) (fresh l (cc (eqb-true y v f)) (λ u a b t. absurd (i u a b t)))
-        picked true f (suc x) m i true g = rw (older, f, g) (fresh l (cc (eqb-true y v f)) (earlier l x m i (ltb-true l m g)))
-        picked true f (suc x) m i false g = rw (older, f, g) (stays l (cc (eqb-true y v f)) x m i (ltb-false l m g))
 
 -- a request laid on v in round l, before which c others come, at stage g of round r: one is served in each of the rounds from r on,
 -- or from the next on where v has served in this one, so this one is served in round l + n - 1 at the latest

@@ -14,7 +14,7 @@ use Rattle.runs.specs.declared.worker.Worker.{Worker}
 use Rattle.runs.specs.declared.worker.Worker.the-variants.{Idle, Waiting}
 use Rattle.runs.specs.Steal.{oldest}
 use Rattle.scheduler.specs.Requests.{Calm, Stands, Linked, Ranked, Queue, Queued}
-use Rattle.scheduler.proofs.Laws.Least.{Best, oldest-best}
+use Rattle.runs.proofs.Laws.Least.{Best, oldest-best}
 
 -- a list with one worker more at its end
 abbrev snoc : List ℕ → ℕ → List ℕ

@@ -1,4 +1,5 @@
--- The request that a victim serves is the one of least rank: by the round it was laid in, then by its worker, which is below 16.
+-- The request that a victim serves is the one of least rank.
+--   rank l w         == orders requests as a victim does: by the round l, then by the worker w, which is below 16
 --   Best v k ws q m  == of the workers below k, q is what `oldest` picks for v, laid in round m
 -- Assumes nothing.
 use Prim.Native.Nat.{ℕ, zero, suc, _+_, _*_, _≤_, _<_}
@@ -12,14 +13,17 @@ use native.Mathlib.Decide.{ℕ-discrete}
 use lib.Dec.{ltb, eqb}
 use lib.ListN.{getD}
 use borrow.Author.Tests.{eqb-true, eqb-false, ltb-true, ltb-false}
 use Rattle.runs.specs.declared.worker.Worker.{Worker}
 use Rattle.runs.specs.declared.worker.Worker.the-variants.{Idle, Holding, Waiting}
 use Rattle.runs.specs.Steal.{older, oldest}
+
+abbrev pub rank : ℕ → ℕ → ℕ
+rank l w = l * 16 + w
 
 abbrev pub Best : ℕ → ℕ → List Worker → ℕ → ℕ → Type 0
 Best v k ws zero m = (u l : ℕ) → u < k → getD ws u Idle ≡ Waiting v l → ⊥
 Best v k ws (suc x) m =
-    (x < k) × (getD ws x Idle ≡ Waiting v m) × ((u l : ℕ) → u < k → u ≢ x → getD ws u Idle ≡ Waiting v l → m * 16 + x < l * 16 + u)
+    (x < k) × (getD ws x Idle ≡ Waiting v m) × ((u l : ℕ) → u < k → u ≢ x → getD ws u Idle ≡ Waiting v l → rank m x < rank l u)
 
 pub oldest-best : (v k : ℕ) (ws : List Worker) → k ≤ 16 → Best v k ws (oldest v k ws .who) (oldest v k ws .laid)
 unfolding oldest older
@@ -36,7 +40,7 @@ oldest-best v (suc k) ws h = go (getD ws k Idle) refl (oldest v k ws .who) (olde
         (omega (arith, i .0), i .1, λ u l b g e. by-cases (ℕ-discrete u k) (λ s. absurd (f l (at u l s e))) (λ d. i .2 u l (omega arith) g e))
 
     -- it does, and its request comes before those of the workers below it
-    fresh : (l : ℕ) → getD ws k Idle ≡ Waiting v l → ((u m : ℕ) → u < k → getD ws u Idle ≡ Waiting v m → l * 16 + k < m * 16 + u)
+    fresh : (l : ℕ) → getD ws k Idle ≡ Waiting v l → ((u m : ℕ) → u < k → getD ws u Idle ≡ Waiting v m → rank l k < rank m u)
         → Best v (suc k) ws (suc k) l
     fresh l e f = (le-refl (suc k), e, λ u m b g q. f u m (omega arith) q)
 
@@ -50,7 +54,7 @@ oldest-best v (suc k) ws h = go (getD ws k Idle) refl (oldest v k ws .who) (olde
     )
 
     -- a request that was laid in an earlier round than the best comes before all
-    earlier : (l x m : ℕ) → Best v k ws (suc x) m → l < m → (u a : ℕ) → u < k → getD ws u Idle ≡ Waiting v a → l * 16 + k < a * 16 + u
+    earlier : (l x m : ℕ) → Best v k ws (suc x) m → l < m → (u a : ℕ) → u < k → getD ws u Idle ≡ Waiting v a → rank l k < rank a u
     earlier l x m i c u a b q =
         by-cases (ℕ-discrete u x) (λ s. let r : m ≡ a = cc (ap (λ z. getD ws z Idle) s, i .1) in omega arith) (λ d. omega (arith, i .2 u a b d q))
 
