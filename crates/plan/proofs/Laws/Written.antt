@@ -11,6 +11,7 @@ use lib.Seq.{take-suc-set}
 use Rattle.plan.specs.Plan.{Action, Job, Plan, Placed, work, placedIn, placedFrom, placed}
 use Rattle.plan.specs.Flat.{starts, Frames, Firsts}
 use Rattle.plan.specs.Progress.{Wrote, Rows, RowsLong, Laid}
+use Rattle.plan.proofs.Laws.Placed.{placedIn-length}
 
 pub map-append : {A B : Type 0} (f : A → B) (l m : List A) → map f (l ++ m) ≡ map f l ++ map f m
 map-append f [] m = refl
@@ -22,10 +23,6 @@ placedIn-append j i (x ∷ l) m =
     let e : suc i + length l ≡ i + length (x ∷ l) = omega arith in
     rw (placedIn-append j (suc i) l m, e)
 
-pub placedIn-length : (j i : ℕ) (l : List Action) → length (placedIn j i l) ≡ length l
-placedIn-length j i [] = refl
-placedIn-length j i (x ∷ l) = ap suc (placedIn-length j (suc i) l)
-
 pub placedFrom-append : (j : ℕ) (p q : Plan) → placedFrom j (p ++ q) ≡ placedFrom j p ++ placedFrom (j + length p) q
 placedFrom-append j [] q = rw add-zero
 placedFrom-append j (b ∷ p) q =
@@ -35,11 +32,6 @@ placedFrom-append j (b ∷ p) q =
 pub work-append : (p q : Plan) → work (p ++ q) ≡ work p + work q
 work-append [] q = omega arith
 work-append (b ∷ p) q = omega (arith, work-append p q)
-
-pub placed-length : (j : ℕ) (p : Plan) → length (placedFrom j p) ≡ work p
-placed-length j [] = refl
-placed-length j (b ∷ p) =
-    omega (arith, length-append (placedIn j 0 (b .actions)) (placedFrom (suc j) p), placedIn-length j 0 (b .actions), placed-length (suc j) p)
 
 pub wrote-none : (k : ℕ) (a : List ℕ) → Wrote k [] a a
 wrote-none k a = record { holds = rw (add-zero, append-nil); long = refl }

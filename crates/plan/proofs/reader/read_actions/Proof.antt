@@ -14,7 +14,8 @@ use Rattle.plan.specs.Field.{Step, stop, step}
 use Rattle.plan.specs.Reader.{actionAt, actionsAt}
 use Rattle.plan.specs.Progress.{Rows, RowsLong, Laid, ActionRead}
 use Rattle.plan.proofs.Laws.Steps.{after, action-next, actions-more, actions-out}
-use Rattle.plan.proofs.Laws.Written.{placedIn-append, placedIn-length, laid-none, laid-more, laid-long}
+use Rattle.plan.proofs.Laws.Placed.{placedIn-length}
+use Rattle.plan.proofs.Laws.Written.{placedIn-append, laid-none, laid-more, laid-long}
 use Rattle.plan.proofs.reader.read_actions.Statement.{statement}
 use Rattle.plan.proofs.reader.read_actions.Tie as tie
 
