@@ -1,5 +1,4 @@
 -- What holds of the definitions in specs/, in named modules.
-pub mod Range
 pub mod Puts
 pub mod PlanBits
 pub mod OpenTable

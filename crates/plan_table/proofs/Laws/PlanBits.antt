@@ -16,7 +16,7 @@ use Rattle.plan.specs.Flat.{Spawns, Joins}
 use Rattle.plan_table.specs.GivenRows.{BitsGiven, WriterGiven}
 use Rattle.plan_table.specs.ActionBits.{openingBits, actionBits, Writable}
 use Rattle.plan.proofs.Laws.Placed.{start, start-suc, placed-at, placed-of, place-below, first-at, frame-at, job-at, spawn-at, join-at}
-use Rattle.plan_table.proofs.Laws.Range.{in-range, size-range}
+use Rattle.plan.proofs.Laws.Spawning.{jobs-in-range, size-in-range, work-in-range}
 use Rattle.plan_table.proofs.Laws.Puts.{number-few}
 
 -- f 0 ++ f 1 ++ .., the first k of them
@@ -130,8 +130,7 @@ numbers-few spawn join (suc k) =
 
 pub bits-bounds : (p : Plan) (jobs actions : ℕ) (spawn join : List ℕ) → BitsGiven p jobs actions spawn join → (jobs ≤ 256) × (actions ≤ 2048)
 bits-bounds p jobs actions spawn join g =
-    let r = in-range p (g .range) in
-    (rw (g .count) (r .jobs), rw (g .all) (r .actions))
+    (rw (g .count) (jobs-in-range p (g .range) .1), rw (g .all) (work-in-range p (g .range) .1))
 
 pub plan-count : (p : Plan) (jobs actions : ℕ) (spawn join : List ℕ) → BitsGiven p jobs actions spawn join
     → length (planBits p) ≡ 17 + 24 * jobs + length (upTo (numbersAt spawn join) actions)
@@ -162,14 +161,14 @@ module _ (p : Plan) (jobs actions : ℕ) (frame first owner spawn join : List �
   unfolding planBits
   plan-upTo =
       let f = actionBits frame first owner spawn join in
-      let u = jobs-upTo f 0 p (λ j h. size-range p (in-range p (g .laid .range) .each) j h .0) (λ j i h b. rw zero-add (action-at j i h b)) in
+      let u = jobs-upTo f 0 p (λ j h. size-in-range p (g .laid .range) j h .0) (λ j i h b. rw zero-add (action-at j i h b)) in
       rw (g .all, g .laid .count, rw zero-add at u)
 
   pub plan-room : (n : ℕ) → (length (planBits p) + 7) / 8 ≤ n → 17 + length (upTo (actionBits frame first owner spawn join) actions) ≤ 8 * n
   plan-room n h = let e = ap (λ (l : List ℕ). length l) plan-upTo in omega arith
 
   pub few-jobs : jobs ≤ 256
-  few-jobs = rw (g .laid .count) (in-range p (g .laid .range) .jobs)
+  few-jobs = rw (g .laid .count) (jobs-in-range p (g .laid .range) .1)
 
   pub place-writable : (k : ℕ) → k < actions → Writable first owner spawn join k
   place-writable k h =
@@ -179,10 +178,9 @@ module _ (p : Plan) (jobs actions : ℕ) (frame first owner spawn join : List �
       let a = first-at p first (g .laid .firsts) (getD (placed p) k noPlaced .job) (omega (arith, s .known)) in
       let b = first-at p first (g .laid .firsts) (suc (getD (placed p) k noPlaced .job)) (s .known) in
       let c = start-suc p (getD (placed p) k noPlaced .job) (s .known) in
-      let r = in-range p (g .laid .range) in
-      let z = size-range p (r .each) (getD (placed p) k noPlaced .job) (s .known) in
+      let z = size-in-range p (g .laid .range) (getD (placed p) k noPlaced .job) (s .known) in
       record {
-        place = omega arith;
+        place = omega (arith, work-in-range p (g .laid .range));
         rises = rw (o, add-one, a, b) (omega arith);
         few = rw (o, add-one, a, b) (omega arith);
         child = g .children k;

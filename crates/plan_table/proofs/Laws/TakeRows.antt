@@ -33,6 +33,7 @@ use Rattle.plan.proofs.Laws.Placed.{
   placed-length,
   placed-of,
 }
+use Rattle.plan.proofs.Laws.Spawning.{jobs-in-range, size-in-range, frame-in-range, work-in-range}
 use Rattle.plan_table.proofs.Laws.Rows.{
   noRow,
   rowsOf-at,
@@ -89,45 +90,13 @@ zeros-small (suc n) b (suc k) = zeros-small n b k
 
 -- a plan in range
 
-pub record InRange (p : Plan) : Type 0 where
-  pub some : 1 ≤ length p
-  pub jobs : length p ≤ 256
-  pub each : (j : ℕ) → j < length p → (1 ≤ job p j .frame) × (job p j .frame ≤ 65535) × (1 ≤ size p j) × (size p j ≤ 255)
-  pub actions : work p ≤ 2048
-
-pub in-range : (p : Plan) → T (inRange p) → InRange p
+pub range-in : (p : Plan) → 1 ≤ length p → length p ≤ 256
+    → ((j : ℕ) → j < length p → (1 ≤ job p j .frame) × (job p j .frame ≤ 65535) × (1 ≤ size p j) × (size p j ≤ 255)) → work p ≤ 2048 → T (inRange p)
 unfolding inRange
-in-range p t =
-    let l = both (leb 1 (length p)) (leb (length p) 256) in
-    let r = both (all jobInRange p) (leb (work p) 2048) in
-    let u = both-left l r t in
-    let v = both-right l r t in
-    let a = both-left (all jobInRange p) (leb (work p) 2048) v in
-    record {
-      some = leb→le 1 (length p) (both-left (leb 1 (length p)) (leb (length p) 256) u);
-      jobs = leb→le (length p) 256 (both-right (leb 1 (length p)) (leb (length p) 256) u);
-      each = λ j h. one (job p j) (all-at jobInRange p a noJob j h);
-      actions = leb→le (work p) 2048 (both-right (all jobInRange p) (leb (work p) 2048) v);
-    }
-  where
-    one : (b : Job) → T (jobInRange b) → (1 ≤ b .frame) × (b .frame ≤ 65535) × (1 ≤ length (b .actions)) × (length (b .actions) ≤ 255)
-    one b t =
-        let f = both (leb 1 (b .frame)) (leb (b .frame) 65535) in
-        let n = length (b .actions) in
-        let u = both-left f (both (leb 1 n) (leb n 255)) t in
-        let v = both-right f (both (leb 1 n) (leb n 255)) t in (
-          leb→le 1 (b .frame) (both-left (leb 1 (b .frame)) (leb (b .frame) 65535) u),
-          leb→le (b .frame) 65535 (both-right (leb 1 (b .frame)) (leb (b .frame) 65535) u),
-          leb→le 1 n (both-left (leb 1 n) (leb n 255) v),
-          leb→le n 255 (both-right (leb 1 n) (leb n 255) v),
-        )
-
-pub range-in : (p : Plan) → InRange p → T (inRange p)
-unfolding inRange
-range-in p r =
+range-in p some jobs each actions =
     both-intro (both (leb 1 (length p)) (leb (length p) 256)) (both (all jobInRange p) (leb (work p) 2048))
-    (both-intro (leb 1 (length p)) (leb (length p) 256) (le→leb 1 (length p) (r .some)) (le→leb (length p) 256 (r .jobs)))
-    (both-intro (all jobInRange p) (leb (work p) 2048) (all-by jobInRange p noJob (λ j h. one (job p j) (r .each j h))) (le→leb (work p) 2048 (r .actions)))
+    (both-intro (leb 1 (length p)) (leb (length p) 256) (le→leb 1 (length p) some) (le→leb (length p) 256 jobs))
+    (both-intro (all jobInRange p) (leb (work p) 2048) (all-by jobInRange p noJob (λ j h. one (job p j) (each j h))) (le→leb (work p) 2048 actions))
   where
     one : (b : Job) → (1 ≤ b .frame) × (b .frame ≤ 65535) × (1 ≤ length (b .actions)) × (length (b .actions) ≤ 255) → T (jobInRange b)
     one b t =
@@ -161,29 +130,24 @@ pub record Fit (p : Plan) (a : Row) (k : ℕ) : Type 0 where
 
 pub row-fits : (p : Plan) (a : Row) (k : ℕ) → T (inRange p) → Sits p k a → Fit p a k
 row-fits p a k t s =
-    let r = in-range p t in
-    let e = r .each (a .job) (s .known) in
+    let f = frame-in-range p t (a .job) (s .known) in
     record {
-      some = omega (arith, s .frame, e .0);
-      word = omega (arith, s .frame, e .1);
-      few = omega (arith, s .known, r .jobs);
-      short = omega (arith, s .place, s .within, e .3);
+      some = omega (arith, s .frame, f .0);
+      word = omega (arith, s .frame, f .1);
+      few = omega (arith, s .known, jobs-in-range p t);
+      short = omega (arith, s .place, s .within, size-in-range p t (a .job) (s .known));
     }
 
 pub all-fit : (p : Plan) (rows : List Row) → rowsFrom 0 p ≡ rows → Filled p → 1 ≤ length rows → length rows ≤ 2048
     → ((k : ℕ) → k < length rows → Fit p (getD rows k noRow) k) → T (inRange p)
 all-fit p rows made filled some few fit =
-    range-in p
-    (record {
-      some = first p (omega (arith, n));
-      jobs = last p (λ j h. at j 0 h (filled-at p filled j h) .few);
-      each = λ j h.
-          let s = filled-at p filled j h in
-          let f = at j 0 h s in
-          let e = at j (size p j - 1) h (omega arith) in
-          (f .some, f .word, s, omega (arith, e .short));
-      actions = omega (arith, n);
-    })
+    range-in p (first p (omega (arith, n))) (last p (λ j h. at j 0 h (filled-at p filled j h) .few))
+    (λ j h.
+    let s = filled-at p filled j h in
+    let f = at j 0 h s in
+    let e = at j (size p j - 1) h (omega arith) in
+    (f .some, f .word, s, omega (arith, e .short)))
+    (omega (arith, n))
   where
     n : length rows ≡ work p
     n = sym (ap length made) ∙ rowsFrom-length 0 p
@@ -320,8 +284,8 @@ took-all p rows k jobs frame first owner spawn join made filled some few e g =
       laid = record {
         range = r;
         count = c;
-        frames = array-by (λ b. b .frame) frame p noJob (omega (arith, q .jobs, g .frames)) (λ j h. g .begun .framed j (omega (arith, c)));
-        firsts = starts-by 0 p first (omega (arith, q .jobs, g .firsts)) (λ j h. begins j h (ℕ-discrete j (length p)));
+        frames = array-by (λ b. b .frame) frame p noJob (omega (arith, most, g .frames)) (λ j h. g .begun .framed j (omega (arith, c)));
+        firsts = starts-by 0 p first (omega (arith, most, g .firsts)) (λ j h. begins j h (ℕ-discrete j (length p)));
         owners = placed-by (λ a. a .job) owner (omega (arith, n, g .owners)) (λ i h. g .jobs-copied i (omega (arith, n)) ∙ ap (λ a. a .job) (row i h));
         spawns = placed-by (λ a. a .spawn) spawn (omega (arith, n, g .spawns)) (λ i h. g .spawns-copied i (omega (arith, n)) ∙ ap (λ a. a .spawn) (row i h));
         joins = placed-by (λ a. a .join) join (omega (arith, n, g .joins)) (λ i h. g .joins-copied i (omega (arith, n)) ∙ ap (λ a. a .join) (row i h));
@@ -340,8 +304,8 @@ took-all p rows k jobs frame first owner spawn join made filled some few e g =
     r : T (inRange p)
     r = all-fit p rows made filled some few (λ i h. g .fit i (omega arith))
 
-    q : InRange p
-    q = in-range p r
+    most : length p ≤ 256
+    most = jobs-in-range p r .1
 
     begins : (j : ℕ) → j ≤ length p → Dec (j ≡ length p) → getD first j 0 ≡ 0 + start p j
     begins j h (yes d) =
@@ -398,7 +362,7 @@ module _ (t : List ℕ) (n : ℕ) (whole : length t ≡ 4 * n) (few : n ≤ 2048
 -- a table of too many rows puts its plan out of range
 pub table-long : (t : List ℕ) (n : ℕ) → length t ≡ 4 * n → T (rowRules (rowsOf t)) → 2048 < n → inRange (planOf (rowsOf t)) ≡ false
 table-long t n whole rules h =
-    false-of (inRange (planOf (rowsOf t))) (λ r. omega (arith, in-range (planOf (rowsOf t)) r .actions, rowsFrom-length 0 (planOf (rowsOf t)), ap length (plan-rows (rowsOf t) rules .0), rowsOf-length t n whole))
+    false-of (inRange (planOf (rowsOf t))) (λ r. omega (arith, work-in-range (planOf (rowsOf t)) r, rowsFrom-length 0 (planOf (rowsOf t)), ap length (plan-rows (rowsOf t) rules .0), rowsOf-length t n whole))
 
 pub took-none : (t : List ℕ) (n : ℕ) (frame first owner spawn join : List ℕ) → TakeGiven t n frame first owner spawn join
     → Took (planOf (rowsOf t)) (rowsOf t) 0 0 frame first owner spawn join
