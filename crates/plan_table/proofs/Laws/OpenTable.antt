@@ -1,16 +1,16 @@
 -- The open table: a table that is read and written again has the same rows, and a plan whose table is read again is the same.
 -- Assumes nothing.
-use Prim.Native.Nat.{ℕ, suc, _*_, _%_, _≤_}
+use Prim.Native.Nat.{ℕ, suc, _%_, _≤_}
 use native.Mathlib.Omega.{arith}
 use mathlib.Core.Path.{_≡_, refl, sym, ap, ap₂, _∙_}
 use mathlib.Core.Bool.{Bool, true, false}
 use mathlib.Core.List.{List, [], _∷_, _++_}
-use lib.ListN.{length, length-append}
+use lib.ListN.{length}
 use lib.Dec.{T, eqb, leb, eqb→eq, eqb-refl, le→leb}
-use borrow.Author.Tests.{eqb-true, eqb-false, eq-eqb, ne-eqb}
+use borrow.Author.Tests.{eq-eqb, ne-eqb}
 use Rattle.plan.specs.Refusal.{Outcome, refused, accepted}
 use Rattle.plan.specs.Test.{both, either, all}
-use Rattle.plan.specs.Plan.{Action, Job, Plan, work}
+use Rattle.plan.specs.Plan.{Action, Job, Plan}
 use Rattle.plan.specs.Rules.{inRange, spawnRules, joinRules}
 use Rattle.plan_table.specs.Table.{
   tableIn,
@@ -31,21 +31,7 @@ use Rattle.plan_table.specs.Table.{
 use Rattle.plan.proofs.Laws.Lists.{both-intro, both-left, both-right, true-of}
 use Rattle.plan.proofs.Laws.Outcomes.{refused-accepted, passes, passed}
 use Rattle.plan.proofs.Laws.Fits.{Small, Fits, plan-fits, in-range}
-
--- a plan's table has four numbers an action
-
-tableIn-length : (j f : ℕ) (l : List Action) → length (tableIn j f l) ≡ 4 * length l
-tableIn-length j f [] = refl
-tableIn-length j f (a ∷ l) = omega (arith, tableIn-length j f l)
-
-tableFrom-length : (j : ℕ) (p : List Job) → length (tableFrom j p) ≡ 4 * work p
-tableFrom-length j [] = refl
-tableFrom-length j (b ∷ bs) =
-    rw length-append (omega (arith, tableIn-length j (b .frame) (b .actions), tableFrom-length (suc j) bs))
-
-pub tableOf-length : (p : Plan) → length (tableOf p) ≡ 4 * work p
-unfolding tableOf
-tableOf-length p = tableFrom-length 0 p
+use Rattle.plan_table.proofs.Laws.Rows.{rowOf, rowsIn, rowsFrom, table-rows, table-length, plan-rows}
 
 -- what an accepted table passed
 
@@ -95,67 +81,22 @@ numbersOf-rowsOf (j ∷ (f ∷ (s ∷ []))) e = absurd (omega arith)
 numbersOf-rowsOf (j ∷ (f ∷ (s ∷ (t ∷ rest)))) e =
     ap {B = List ℕ} (λ l. j ∷ f ∷ s ∷ t ∷ l) (numbersOf-rowsOf rest (omega arith))
 
-either-left : (x y : Bool) → T (either x y) → (T y → ⊥) → T x
-either-left true y t f = tt
-either-left false y t f = f t
+numbersOf-append : (l m : List Row) → numbersOf (l ++ m) ≡ numbersOf l ++ numbersOf m
+numbersOf-append [] m = refl
+numbersOf-append (a ∷ l) m = ap {B = List ℕ} (λ r. a .job ∷ a .frame ∷ a .spawn ∷ a .join ∷ r) (numbersOf-append l m)
 
-either-right : (x y : Bool) → T (either x y) → (T x → ⊥) → T y
-either-right true y t f = absurd (f tt)
-either-right false y t f = t
+numbersOf-rowsIn : (j f : ℕ) (l : List Action) → numbersOf (rowsIn j f l) ≡ tableIn j f l
+numbersOf-rowsIn j f [] = refl
+numbersOf-rowsIn j f (a ∷ l) = ap {B = List ℕ} (λ r. j ∷ f ∷ a .spawn ∷ a .join ∷ r) (numbersOf-rowsIn j f l)
 
--- rows from the row a on are the table of the plan p, from job a .job on, whose first job has the frame of a
-record Grouped (a : Row) (rows : List Row) (p : Plan) : Type 0 where
-  first : Job
-  others : List Job
-  parts : p ≡ first ∷ others
-  frame : first .frame ≡ a .frame
-  numbers : tableFrom (a .job) p ≡ numbersOf (a ∷ rows)
-
-grouped-front : (a b : Row) (rows : List Row) (p : Plan) (c : Bool) → eqb (a .job) (b .job) ≡ c → T (goesOn a b) → Grouped b rows p
-    → Grouped a (b ∷ rows) (elim c [ true ↦ infront a p | false ↦ record { frame = a .frame; actions = actionOf a ∷ [] } ∷ p ])
-grouped-front a b rows p true e t g =
-    let next = eqb (b .job) (suc (a .job)) in
-    let same = both (eqb (b .job) (a .job)) (eqb (b .frame) (a .frame)) in
-    let j : a .job ≡ b .job = eqb-true (a .job) (b .job) e in
-    let s = either-right next same t (λ n. omega (arith, eqb→eq (b .job) (suc (a .job)) n)) in
-    let f : g .first .frame ≡ a .frame
-    = g .frame ∙ eqb→eq (b .frame) (a .frame) (both-right (eqb (b .job) (a .job)) (eqb (b .frame) (a .frame)) s) in
-    record {
-      first = record { frame = g .first .frame; actions = actionOf a ∷ g .first .actions };
-      others = g .others;
-      parts = ap (infront a) (g .parts);
-      frame = f;
-      numbers = ap (λ q. tableFrom (a .job) (infront a q)) (g .parts)
-          ∙ ap₂ {C = List ℕ} (λ f l. a .job ∷ f ∷ a .spawn ∷ a .join ∷ l) f (ap₂ tableFrom j (sym (g .parts)) ∙ g .numbers);
-    }
-grouped-front a b rows p false e t g =
-    let next = eqb (b .job) (suc (a .job)) in
-    let same = both (eqb (b .job) (a .job)) (eqb (b .frame) (a .frame)) in
-    let n = either-left next same t (λ s. eqb-false (a .job) (b .job) e
-    (sym (eqb→eq (b .job) (a .job) (both-left (eqb (b .job) (a .job)) (eqb (b .frame) (a .frame)) s)))) in
-    record {
-      first = record { frame = a .frame; actions = actionOf a ∷ [] };
-      others = p;
-      parts = refl;
-      frame = refl;
-      numbers = ap {B = List ℕ} (λ l. a .job ∷ a .frame ∷ a .spawn ∷ a .join ∷ l)
-          (ap (λ j. tableFrom j p) (sym (eqb→eq (b .job) (suc (a .job)) n)) ∙ g .numbers);
-    }
-
-grouped : (a : Row) (rows : List Row) → T (rising a rows) → Grouped a rows (planOf (a ∷ rows))
-grouped a [] t = record { first = record { frame = a .frame; actions = actionOf a ∷ [] }; others = []; parts = refl; frame = refl; numbers = refl }
-grouped a (b ∷ rows) t =
-    grouped-front a b rows (planOf (b ∷ rows)) (eqb (a .job) (b .job)) refl (both-left (goesOn a b) (rising b rows) t)
-    (grouped b rows (both-right (goesOn a b) (rising b rows) t))
+numbersOf-rowsFrom : (j : ℕ) (p : List Job) → numbersOf (rowsFrom j p) ≡ tableFrom j p
+numbersOf-rowsFrom j [] = refl
+numbersOf-rowsFrom j (b ∷ bs) =
+    numbersOf-append (rowsIn j (b .frame) (b .actions)) (rowsFrom (suc j) bs)
+    ∙ ap₂ _++_ (numbersOf-rowsIn j (b .frame) (b .actions)) (numbersOf-rowsFrom (suc j) bs)
 
 planOf-numbers : (l : List Row) → T (rowRules l) → tableFrom 0 (planOf l) ≡ numbersOf l
-unfolding rowRules
-planOf-numbers [] t = absurd t
-planOf-numbers (a ∷ rows) t =
-    let rest = both (rising a rows) (all small (a ∷ rows)) in
-    let z = eqb→eq (a .job) 0 (both-left (eqb (a .job) 0) rest t) in
-    let r = both-left (rising a rows) (all small (a ∷ rows)) (both-right (eqb (a .job) 0) rest t) in
-    ap (λ j. tableFrom j (planOf (a ∷ rows))) (sym z) ∙ grouped a rows r .numbers
+planOf-numbers l t = sym (numbersOf-rowsFrom 0 (planOf l)) ∙ ap numbersOf (plan-rows l t .0)
 
 pub table-read-write : (t : List ℕ) (p : Plan) → readTable t ≡ accepted p → tableOf p ≡ t
 unfolding tableOf
@@ -163,29 +104,7 @@ table-read-write t p e =
     let r = readTable-passed t p e in
     ap (tableFrom 0) (sym (r .plan)) ∙ planOf-numbers (rowsOf t) (r .rows) ∙ numbersOf-rowsOf t (r .whole)
 
--- the rows of a plan's table
-
-abbrev rowOf : ℕ → ℕ → Action → Row
-rowOf j f a = record { job = j; frame = f; spawn = a .spawn; join = a .join }
-
-abbrev rowsIn : ℕ → ℕ → List Action → List Row
-rowsIn j f [] = []
-rowsIn j f (a ∷ l) = rowOf j f a ∷ rowsIn j f l
-
-abbrev rowsFrom : ℕ → List Job → List Row
-rowsFrom j [] = []
-rowsFrom j (b ∷ bs) = rowsIn j (b .frame) (b .actions) ++ rowsFrom (suc j) bs
-
-rowsOf-tableIn : (j f : ℕ) (l : List Action) (t : List ℕ) → rowsOf (tableIn j f l ++ t) ≡ rowsIn j f l ++ rowsOf t
-rowsOf-tableIn j f [] t = refl
-rowsOf-tableIn j f (a ∷ l) t = ap {B = List Row} (λ r. rowOf j f a ∷ r) (rowsOf-tableIn j f l t)
-
-rowsOf-tableFrom : (j : ℕ) (p : List Job) → rowsOf (tableFrom j p) ≡ rowsFrom j p
-rowsOf-tableFrom j [] = refl
-rowsOf-tableFrom j (b ∷ bs) =
-    rowsOf-tableIn j (b .frame) (b .actions) (tableFrom (suc j) bs) ∙ ap (λ r. rowsIn j (b .frame) (b .actions) ++ r) (rowsOf-tableFrom (suc j) bs)
-
--- they are grouped into the jobs that they came from
+-- the rows of a plan's table are grouped into the jobs that they came from
 
 -- the rows, if there are any, begin with the job that follows job j
 abbrev Next : ℕ → List Row → Type 0
@@ -289,8 +208,8 @@ pub table-write-read : (p : Plan) → T (inRange p) → T (spawnRules p) → T (
 unfolding readTable ruled tableOf
 table-write-read p i s j =
     let fits = plan-fits p i s j in
-    let rows : rowsOf (tableOf p) ≡ rowsFrom 0 p = rowsOf-tableFrom 0 p in
-    let whole : length (tableOf p) % 4 ≡ 0 = omega (arith, tableOf-length p) in
+    let rows : rowsOf (tableOf p) ≡ rowsFrom 0 p = table-rows p in
+    let whole : length (tableOf p) % 4 ≡ 0 = omega (arith, table-length p) in
     let rules : T (both (eqb (length (tableOf p) % 4) 0) (rowRules (rowsOf (tableOf p))))
     = both-intro (eqb (length (tableOf p) % 4) 0) (rowRules (rowsOf (tableOf p))) (rw whole (eqb-refl 0))
     (rw rows (rowsFrom-rules p (in-range p i .some-job) fits)) in

@@ -17,7 +17,8 @@ use Rattle.plan_table.specs.Table.{tableOf, readTable, Written, written,
 use Rattle.plan.proofs.Laws.Accepted.{accepted-kept}
 use Rattle.plan.proofs.Laws.Outcomes.{refused-accepted}
 use Rattle.plan.proofs.Laws.PlanBytes.{Bytes, read-write, write-read}
-use Rattle.plan_table.proofs.Laws.OpenTable.{table-read-write, table-write-read, tableOf-length, readTable-rules}
+use Rattle.plan_table.proofs.Laws.Rows.{table-length}
+use Rattle.plan_table.proofs.Laws.OpenTable.{table-read-write, table-write-read, readTable-rules}
 
 written-room : (output : List ℕ) (n : ℕ) (buffer : List ℕ) → length output ≤ length buffer
     → written output n buffer ≡ record { answer = accepted n; buffer = output ++ drop (length output) buffer }
@@ -69,7 +70,7 @@ plan-table-plan s rows bytes n h e room =
     toTable-told s rows n e λ p r k b.
     let kept = accepted-kept s p r in
     let t : take (4 * n) (toTable s rows .buffer) ≡ tableOf p
-    = ap (take (4 * n)) b ∙ take-at (tableOf p) (drop (length (tableOf p)) rows) (4 * n) (omega (arith, tableOf-length p)) in
+    = ap (take (4 * n)) b ∙ take-at (tableOf p) (drop (length (tableOf p)) rows) (4 * n) (omega (arith, table-length p)) in
     ap (λ t. toPlan t bytes) t
     ∙ ap (λ o. encoded o bytes) (table-write-read p (kept .range) (kept .spawns) (kept .joins))
     ∙ ap (λ o. written o (length o) bytes) (read-write s p h r)
@@ -84,7 +85,7 @@ table-plan-table t bytes rows n e room =
     = ap (take n) b ∙ take-at (planBytes p) (drop (length (planBytes p)) bytes) n (sym k) in
     let rules = readTable-rules t p r in
     let w : tableOf p ≡ t = table-read-write t p r in
-    let l : work p ≡ length t / 4 = omega (arith, tableOf-length p, ap length w) in
+    let l : work p ≡ length t / 4 = omega (arith, table-length p, ap length w) in
     ap (λ s. toTable s rows) s
     ∙ ap (λ o. tabled o rows) (write-read p (rules .0) (rules .1) (rules .2))
     ∙ ap₂ (λ o k. written o k rows) w l
