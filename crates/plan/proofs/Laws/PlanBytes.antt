@@ -201,11 +201,11 @@ read-write s p h e = bits-same (planBytes p) s (planBytes-bytes p) h (planBytes-
 -- bits that writing gives are read again
 
 -- from place n on, the bytes hold the bits l
-record Rest (s : List ℕ) (n : ℕ) (l : List ℕ) : Type 0 where
-  within : n ≤ 8 * length s
-  bits : drop n (bits s) ≡ l
+pub record Rest (s : List ℕ) (n : ℕ) (l : List ℕ) : Type 0 where
+  pub within : n ≤ 8 * length s
+  pub bits : drop n (bits s) ≡ l
 
-field-found : (s : List ℕ) (w v n : ℕ) (c : List ℕ) → v < 2 ^ w → Rest s n (bitsOf w v ++ c) → (fieldAt s w n ≡ step v (n + w)) × Rest s (n + w) c
+pub field-found : (s : List ℕ) (w v n : ℕ) (c : List ℕ) → v < 2 ^ w → Rest s n (bitsOf w v ++ c) → (fieldAt s w n ≡ step v (n + w)) × Rest s (n + w) c
 field-found s w v n c h r = (rw at at (field-seam s front w v c h parts), record { within = omega (arith, room); bits = rest })
   where
     front : List ℕ

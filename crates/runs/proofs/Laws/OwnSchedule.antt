@@ -1,21 +1,19 @@
 -- The schedule of a run is well formed and keeps the checker's rules: what was written of rows is read again, and a run's rows are in order.
---   Rest s n l  == from place n on, the bytes s hold the bits l
 --   Small rows  == each row has a round from 1 to 4095 and a worker below 16
 -- Assumes nothing.
-use Prim.Native.Nat.{ℕ, suc, _+_, _*_, _-_, _^_, _≤_, _<_}
-use mathlib.Core.Path.{_≡_, refl, ap, sym, _∙_}
+use Prim.Native.Nat.{ℕ, suc, _+_, _*_, _-_, _≤_, _<_}
+use mathlib.Core.Path.{_≡_, refl, ap, _∙_}
 use mathlib.Core.Bool.{Bool, true, false}
 use mathlib.Core.List.{List, [], _∷_, _++_, append-assoc}
 use native.Mathlib.Omega.{arith}
-use lib.ListN.{length, getD, take, drop, replicate, length-append, take-append-drop}
-use lib.Seq.{drop-drop, drop-at, length-take-le}
+use lib.ListN.{length, getD, replicate, length-append}
 use lib.Dec.{T, eqb, leb, le→leb, eqb-refl}
 use borrow.Author.Tests.{eq-eqb, ne-eqb}
 use Rattle.runs.specs.declared.worker.Worker.{Worker}
 use Rattle.plan.specs.Refusal.{Outcome, refused, accepted}
 use Rattle.plan.specs.Test.{both}
 use Rattle.plan.specs.Plan.{Plan, work}
-use Rattle.plan.specs.Field.{bitsOf, bits, Step, stop, step, then, fieldAt}
+use Rattle.plan.specs.Field.{bitsOf, bits, Step, stop, step, fieldAt}
 use Rattle.plan.specs.Reader.{readPlan}
 use Rattle.runs.specs.State.{Row, noRow, State}
 use Rattle.runs.specs.Run.{ended}
@@ -33,43 +31,16 @@ use Rattle.runs.specs.Schedule.{
   checked,
 }
 use Rattle.plan.proofs.Laws.Lists.{true-of, both-intro}
-use Rattle.plan.proofs.Laws.Bits.{Binary, append-binary, bitsOf-binary, bitsOf-length, bits-length, field-seam, pack-length, bits-pack}
+use Rattle.plan.proofs.Laws.Readings.{then-goes-on, unless-goes-on}
+use Rattle.plan.proofs.Laws.PlanBytes.{Rest, field-found}
+use Rattle.plan.proofs.Laws.Bits.{Binary, append-binary, bitsOf-binary, bitsOf-length, pack-length, bits-pack}
 use Rattle.plan.specs.Rules.{Accepted}
 use Rattle.plan.proofs.Laws.Valid.{work-range}
 use Rattle.runs.specs.Trace.{turning, Trace}
 use Rattle.runs.proofs.Laws.Rows.{rows-length}
 use Rattle.runs.proofs.Laws.Order.{run-row, run-keeps}
 
-record Rest (s : List ℕ) (n : ℕ) (l : List ℕ) : Type 0 where
-  within : n ≤ 8 * length s
-  bits : drop n (bits s) ≡ l
-
-field-found : (s : List ℕ) (w v n : ℕ) (c : List ℕ) → v < 2 ^ w → Rest s n (bitsOf w v ++ c) → (fieldAt s w n ≡ step v (n + w)) × Rest s (n + w) c
-field-found s w v n c h r = (rw at at (field-seam s front w v c h parts), record { within = omega (arith, room); bits = rest })
-  where
-    front : List ℕ
-    front = take n (bits s)
-
-    at : length front ≡ n
-    at = length-take-le n (bits s) (rw bits-length (r .within))
-
-    parts : bits s ≡ front ++ (bitsOf w v ++ c)
-    parts = sym (take-append-drop n (bits s)) ∙ ap (λ l. front ++ l) (r .bits)
-
-    room : 8 * length s ≡ n + (w + length c)
-    room = sym (bits-length s) ∙ ap length parts ∙ simp (length-append, bitsOf-length) (rw at)
-
-    rest : drop (n + w) (bits s) ≡ c
-    rest = sym (drop-drop w n (bits s)) ∙ ap (drop w) (r .bits) ∙ drop-at (bitsOf w v) c w (bitsOf-length w v)
-
 -- a reading goes on
-then-goes-on : {A B : Type 0} {a : A} {n : ℕ} {r : Step B} (m : Step A) (f : A → ℕ → Step B) → m ≡ step a n → f a n ≡ r → then m f ≡ r
-then-goes-on m f e g = ap (λ x. then x f) e ∙ g
-
-unless-goes-on : {B : Type 0} {r : Step B} (c : Bool) (k : ℕ) (m : Step B) → c ≡ false → m ≡ r
-    → _≡_ {A = Step B} (elim c [ true ↦ stop k | false ↦ m ]) r
-unless-goes-on c k m e g = rw e g
-
 when-goes-on : {B : Type 0} {r : Step B} (c : Bool) (k : ℕ) (m : Step B) → c ≡ true → m ≡ r
     → _≡_ {A = Step B} (elim c [ false ↦ stop k | true ↦ m ]) r
 when-goes-on c k m e g = rw e g
