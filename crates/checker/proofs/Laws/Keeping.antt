@@ -7,7 +7,7 @@ use mathlib.Core.List.{List, [], _∷_}
 use native.Mathlib.Omega.{arith}
 use native.Mathlib.Nat.{not-suc-le-zero, le-of-suc-le-suc}
 use lib.ListN.{length, getD, take}
-use lib.Dec.{T, eqb, ltb, eqb→eq, eqb-refl, ltb→lt, lt→ltb, not-T}
+use lib.Dec.{T, eqb, ltb, eqb→eq, eqb-refl, ltb→lt, lt→ltb}
 use Rattle.plan.specs.Test.{both, either, all}
 use Rattle.plan.specs.Plan.{Plan, Placed, work, placed, noPlaced}
 use Rattle.plan_measure.specs.Measure.{mustFollow}
@@ -15,18 +15,10 @@ use Rattle.runs.specs.State.{Row, noRow}
 use Rattle.runs.specs.Schedule.{rowOf, clash, alone, inOrder, keeps}
 use Rattle.plan.proofs.Laws.Lists.{both-intro, both-left, both-right, true-of, false-of, all-at, all-by}
 use Rattle.plan.proofs.Laws.Placed.{placed-of, placed-length, start-all}
+use Rattle.runs.proofs.Laws.Order.{alone-by, unless}
 use Rattle.checker.specs.Rows.{RowsAt}
 use Rattle.checker.specs.Judging.{word, Followed, Seen}
 use Rattle.checker.specs.Given.{RulesGiven}
-
--- no two rows of a list clash
-alone-by : (rows : List Row)
-    → ((i k : ℕ) → i < k → k < length rows → T (clash (getD rows i noRow) (getD rows k noRow)) → ⊥) → T (alone rows)
-alone-by [] f = tt
-alone-by (a ∷ rows) f =
-    both-intro (all (λ b. not (clash a b)) rows) (alone rows)
-    (all-by (λ b. not (clash a b)) rows noRow (λ i l. not-T (clash a (getD rows i noRow)) (f 0 (suc i) (omega arith) (omega arith))))
-    (alone-by rows (λ i k l m. f (suc i) (suc k) (omega arith) (omega arith)))
 
 not-both : (a : Bool) → T (not a) → T a → ⊥
 not-both true s t = s
@@ -42,10 +34,6 @@ alone-at (a ∷ rows) t (suc i) (suc k) h l =
     alone-at rows (both-right (all (λ b. not (clash a b)) rows) (alone rows) t) i k (le-of-suc-le-suc h) (le-of-suc-le-suc l)
 
 -- a test where another holds
-unless-by : (a b : Bool) → (T a → T b) → T (either (not a) b)
-unless-by true b f = f tt
-unless-by false b f = tt
-
 unless-at : (a b : Bool) → T (either (not a) b) → T a → T b
 unless-at true b t s = t
 unless-at false b t s = absurd s
@@ -69,7 +57,7 @@ module _ (p : Plan) (m : ℕ) (rows : List Row) (s : List ℕ) (long : length ro
   order-by f =
       all-by (λ x. all (λ y. rule x y) (placed p)) (placed p) noPlaced
       (λ x l. all-by (rule (getD (placed p) x noPlaced)) (placed p) noPlaced
-      (λ y h. unless-by (mustFollow p (getD (placed p) x noPlaced) (getD (placed p) y noPlaced)) _
+      (λ y h. unless (mustFollow p (getD (placed p) x noPlaced) (getD (placed p) y noPlaced)) _
       (λ t. lt→ltb _ _ (one x y (omega (arith, placed-length p)) (omega (arith, placed-length p)) t))))
     where
       one : (x y : ℕ) → x < work p → y < work p → T (mustFollow p (getD (placed p) x noPlaced) (getD (placed p) y noPlaced))

@@ -256,7 +256,7 @@ module _ (p : Plan) (ok : Accepted p) (n : ℕ) (some : 1 ≤ n) (most : n ≤ 1
         }
 
 -- no two rows of a list clash
-alone-by : (rows : List Row)
+pub alone-by : (rows : List Row)
     → ((k h : ℕ) → k < h → h < length rows → T (clash (getD rows k noRow) (getD rows h noRow)) → ⊥) → T (alone rows)
 alone-by [] f = tt
 alone-by (a ∷ rows) f =
@@ -265,7 +265,7 @@ alone-by (a ∷ rows) f =
     (alone-by rows (λ k h l m. f (suc k) (suc h) (omega arith) (omega arith)))
 
 -- a test where another holds
-unless : (a b : Bool) → (T a → T b) → T (either (not a) b)
+pub unless : (a b : Bool) → (T a → T b) → T (either (not a) b)
 unless true b f = f tt
 unless false b f = tt
 
