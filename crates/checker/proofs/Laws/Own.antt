@@ -2,12 +2,13 @@
 -- Assumes nothing.
 use Prim.Native.Nat.{ℕ, _+_, _*_, _-_, _≤_}
 use mathlib.Core.Path.{_≡_, refl, sym, ap, _∙_}
+use mathlib.Core.Logic.{_⊎_, inl, inr}
 use mathlib.Core.Bool.{Bool, true, false}
 use mathlib.Core.List.{List, _++_}
 use native.Mathlib.Omega.{arith}
 use lib.ListN.{length, take, drop, length-append}
 use lib.Seq.{take-at}
-use lib.Dec.{leb, leb→le}
+use lib.Dec.{leb}
 use Rattle.plan.specs.declared.refusal.Refusal.{Refusal}
 use Rattle.plan.specs.Refusal.{Outcome, refused, accepted, numberOf}
 use Rattle.plan.specs.Plan.{Plan}
@@ -15,10 +16,10 @@ use Rattle.plan.specs.Rules.{Accepted}
 use Rattle.plan.specs.Reader.{readPlan}
 use Rattle.plan.proofs.Laws.Accepted.{accepted-kept}
 use Rattle.plan.proofs.Laws.Valid.{work-range}
-use Rattle.plan.proofs.Laws.Lists.{both-left, both-right, of-true}
 use Rattle.runs.specs.declared.tally.Tally.{Tally}
-use Rattle.runs.specs.Run.{run, workersFit, choicesFit, admitted, runOf}
+use Rattle.runs.specs.Run.{run, admitted, runOf}
 use Rattle.runs.specs.Schedule.{scheduleBytes, checked}
+use Rattle.runs.proofs.Laws.Admitted.{Stopped, Went, outcome}
 use Rattle.runs.proofs.Laws.OwnSchedule.{run-checked}
 use Rattle.runs.proofs.Laws.Whole.{run-trace, round-most, run-actions}
 use Rattle.scheduler.specs.declared.run.Ran.{Ran}
@@ -63,19 +64,13 @@ module _ (plan : List ℕ) (n : ℕ) (choices schedule : List ℕ) where
             let x : _≡_ {A = Outcome Tally} (accepted t) (accepted (run p n choices .tally)) = sym answer ∙ ap (λ (r : Result). r .answer) whole in
             record { p = p; read = e; some = some; most = most; tally = cc; written = ap (λ (r : Result). r .schedule) whole }
 
-        by-choices : (p : Plan) (b : Bool) → readPlan plan ≡ accepted p → workersFit n ≡ true → choicesFit n choices ≡ b → Wrote t
-        by-choices p false e w q = refuses 8 (rw (e, admitted, w, q))
-        by-choices p true e w q =
-            let f = of-true (workersFit n) w in
-            by-room p e (leb→le 1 n (both-left (leb 1 n) (leb n 16) f)) (leb→le n 16 (both-right (leb 1 n) (leb n 16) f)) (rw (e, admitted, w, q)) _ refl
-
-        by-workers : (p : Plan) (b : Bool) → readPlan plan ≡ accepted p → workersFit n ≡ b → Wrote t
-        by-workers p false e q = refuses 7 (rw (e, admitted, q))
-        by-workers p true e q = by-choices p (choicesFit n choices) e q refl
+        by-run : (p : Plan) → readPlan plan ≡ accepted p → Stopped p n choices ⊎ Went p n choices → Wrote t
+        by-run p e (inl s) = refuses (s .cause) (ap (λ o. resulted o n schedule .answer) (ap (λ r. admitted r n choices) e ∙ s .not-run))
+        by-run p e (inr w) = by-room p e (w .some) (w .most) (ap (λ r. admitted r n choices) e ∙ w .ran) _ refl
 
         by-plan : (o : Outcome Plan) → readPlan plan ≡ o → Wrote t
         by-plan (refused k) e = refuses k (rw e)
-        by-plan (accepted p) e = by-workers p (workersFit n) e refl
+        by-plan (accepted p) e = by-run p e (outcome p n choices)
 
     module _ (w : Wrote t) where
       abbrev bytes : List ℕ

@@ -2,27 +2,25 @@
 -- outcome. Then what the build's input asks for.
 -- Assumes nothing.
 use Prim.Native.Nat.{ℕ, _+_, _-_, _≤_, _<_}
-use mathlib.Core.Path.{_≡_, refl, sym, ap, ap₂, _∙_}
+use mathlib.Core.Path.{_≡_, sym, ap, ap₂, _∙_}
 use mathlib.Core.Logic.{_⊎_, inl, inr}
-use mathlib.Core.Bool.{Bool, true, false}
 use mathlib.Core.List.{List, _++_}
 use native.Mathlib.Omega.{arith}
 use lib.ListN.{length, getD, take, drop, length-drop}
 use lib.Seq.{take-all}
-use lib.Dec.{leb, leb→le}
 use borrow.Author.Tests.{le-leb, lt-ltb, le-ltb}
 use Rattle.plan.specs.Refusal.{Outcome, refused, accepted}
 use Rattle.plan.specs.Plan.{Plan, work}
 use Rattle.plan.specs.Rules.{Accepted}
 use Rattle.plan.specs.Reader.{readPlan}
 use Rattle.plan.proofs.Laws.Valid.{work-range}
-use Rattle.plan.proofs.Laws.Lists.{both-left, both-right, of-true}
 use Rattle.plan_measure.specs.declared.Measures.{Measures}
 use Rattle.plan_measure.specs.Measure.{longest, heaviest, measured}
 use Rattle.plan_measure.specs.Times.{MeasureGiven}
 use Rattle.runs.specs.declared.tally.Tally.{Tally}
-use Rattle.runs.specs.Run.{run, workersFit, choicesFit, admitted, runOf}
+use Rattle.runs.specs.Run.{run, admitted, runOf}
 use Rattle.runs.specs.Schedule.{scheduleBytes}
+use Rattle.runs.proofs.Laws.Admitted.{Stopped, Went, outcome}
 use Rattle.scheduler.specs.Entry.{Result, resulted}
 use Rattle.scheduler.specs.Loaded.{Loaded}
 use Rattle.scheduler.specs.declared.build.Counts.{Counts}
@@ -63,38 +61,11 @@ module _ (p : Plan) (ok : Accepted p) (n : ℕ) (choices schedule : List ℕ) (l
   built = countsOf (accepted p) (admitted (accepted p) n choices)
 
   -- the run is turned down, or its tally is answered
-  record Stopped : Type 0 where
-    cause : ℕ
-    not-run : admitted (accepted p) n choices ≡ refused cause
-
-  record Went : Type 0 where
-    ran : admitted (accepted p) n choices ≡ accepted (run p n choices)
-    some : 1 ≤ n
-    most : n ≤ 16
-
-  outcome : Stopped ⊎ Went
-  unfolding admitted workersFit
-  outcome = worker (workersFit n) refl
-    where
-      choice : (b : Bool) → workersFit n ≡ true → choicesFit n choices ≡ b → Stopped ⊎ Went
-      choice false w q = inl (record { cause = 8; not-run = rw (admitted, w, q) })
-      choice true w q =
-          let t = of-true (workersFit n) w in
-          inr (record {
-            ran = rw (admitted, w, q);
-            some = leb→le 1 n (both-left (leb 1 n) (leb n 16) t);
-            most = leb→le n 16 (both-right (leb 1 n) (leb n 16) t);
-          })
-
-      worker : (b : Bool) → workersFit n ≡ b → Stopped ⊎ Went
-      worker false q = inl (record { cause = 7; not-run = rw (admitted, q) })
-      worker true q = choice (choicesFit n choices) q refl
-
-  stopped-answer : (s : Stopped) → answer ≡ refused (s .cause)
+  stopped-answer : (s : Stopped p n choices) → answer ≡ refused (s .cause)
   unfolding resulted
   stopped-answer s = ap (λ o. resulted o n schedule .answer) (s .not-run)
 
-  went-answer : Went → answer ≡ accepted (run p n choices .tally)
+  went-answer : Went p n choices → answer ≡ accepted (run p n choices .tally)
   unfolding resulted
   went-answer w =
       let fits : length (scheduleBytes n (run p n choices .rows)) ≤ length schedule =
@@ -107,9 +78,9 @@ module _ (p : Plan) (ok : Accepted p) (n : ℕ) (choices schedule : List ℕ) (l
 
   pub build-refused : (k : ℕ) → _≡_ {A = Outcome Tally} (refused k) answer → _≡_ {A = Outcome Counts} (refused k) built
   unfolding countsOf
-  build-refused k e = go outcome
+  build-refused k e = go (outcome p n choices)
     where
-      go : Stopped ⊎ Went → _≡_ {A = Outcome Counts} (refused k) built
+      go : Stopped p n choices ⊎ Went p n choices → _≡_ {A = Outcome Counts} (refused k) built
       go (inl s) =
           let x : _≡_ {A = Outcome Tally} (refused k) (refused (s .cause)) = e ∙ stopped-answer s in
           let i : k ≡ s .cause = cc in
@@ -121,9 +92,9 @@ module _ (p : Plan) (ok : Accepted p) (n : ℕ) (choices schedule : List ℕ) (l
   pub build-counted : (t : Tally) (m : Measures) → _≡_ {A = Outcome Tally} (accepted t) answer
       → _≡_ {A = Outcome Measures} (accepted m) (measured (accepted p)) → accepted (counted t m) ≡ built
   unfolding countsOf measured
-  build-counted t m e q = go outcome
+  build-counted t m e q = go (outcome p n choices)
     where
-      go : Stopped ⊎ Went → accepted (counted t m) ≡ built
+      go : Stopped p n choices ⊎ Went p n choices → accepted (counted t m) ≡ built
       go (inl s) =
           let x : _≡_ {A = Outcome Tally} (accepted t) (refused (s .cause)) = e ∙ stopped-answer s in
           absurd (let z : _≡_ {A = ℕ} 0 1 = cc in omega arith)
