@@ -12,6 +12,7 @@ use Rattle.plan.specs.Test.{both, either}
 use Rattle.plan.specs.Plan.{Plan, Placed, noPlaced, size, action, placed, parent, spawnAt, enters}
 use Rattle.plan_measure.specs.Measure.{mustFollow, Member}
 use Rattle.plan.proofs.Laws.Lists.{both-intro, both-left, both-right}
+use Rattle.plan.proofs.Laws.Counts.{either-left, either-right}
 use Rattle.plan.proofs.Laws.Placed.{Stands, placed-at, placed-of, placed-length, place-below, start}
 use Rattle.plan_measure.proofs.Laws.Largest.{member-at, member-place}
 use Rattle.plan.specs.Rules.{Accepted}
@@ -44,17 +45,9 @@ member-acts p x m =
       is = λ i. record { job = x .job; position = x .position; spawn = s .spawn i; join = s .join i };
     }
 
-either-cases : (a b : Bool) → T (either a b) → T a ⊎ T b
+pub either-cases : (a b : Bool) → T (either a b) → T a ⊎ T b
 either-cases true b t = inl tt
 either-cases false b t = inr t
-
-either-left : (a b : Bool) → T a → T (either a b)
-either-left true b t = tt
-either-left false b t = absurd t
-
-either-right : (a b : Bool) → T b → T (either a b)
-either-right true b t = tt
-either-right false b t = t
 
 -- why x must follow y
 pub data Follows (p : Plan) (x y : Placed) : Type 0 where

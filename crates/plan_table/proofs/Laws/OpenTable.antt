@@ -9,7 +9,7 @@ use lib.ListN.{length}
 use lib.Dec.{T, eqb, leb, eqb→eq, eqb-refl, le→leb}
 use borrow.Author.Tests.{eq-eqb, ne-eqb}
 use Rattle.plan.specs.Refusal.{Outcome, refused, accepted}
-use Rattle.plan.specs.Test.{both, either, all}
+use Rattle.plan.specs.Test.{both, all}
 use Rattle.plan.specs.Plan.{Action, Job, Plan}
 use Rattle.plan.specs.Rules.{inRange, spawnRules, joinRules}
 use Rattle.plan_table.specs.Table.{
@@ -29,6 +29,7 @@ use Rattle.plan_table.specs.Table.{
   readTable,
 }
 use Rattle.plan.proofs.Laws.Lists.{both-intro, both-left, both-right, true-of}
+use Rattle.plan.proofs.Laws.Counts.{either-left, either-right}
 use Rattle.plan.proofs.Laws.Outcomes.{refused-accepted, passes, passed}
 use Rattle.plan.proofs.Laws.Fits.{Small, Fits, plan-fits, in-range}
 use Rattle.plan_table.proofs.Laws.Rows.{rowOf, rowsIn, rowsFrom, table-rows, table-length, plan-rows}
@@ -152,20 +153,12 @@ planOf-rowsFrom j (b ∷ bs) h = go (b .actions) (h .0 .some-action) (planOf-row
 
 -- they keep the row rules
 
-either-first : (x y : Bool) → T x → T (either x y)
-either-first true y t = tt
-either-first false y t = absurd t
-
-either-second : (x y : Bool) → T y → T (either x y)
-either-second true y t = tt
-either-second false y t = t
-
 rising-in : (j f : ℕ) (a : Action) (l : List Action) (rows : List Row) → ((x : Action) → T (rising (rowOf j f x) rows))
     → T (rising (rowOf j f a) (rowsIn j f l ++ rows))
 rising-in j f a [] rows h = h a
 rising-in j f a (b ∷ l) rows h =
     both-intro (goesOn (rowOf j f a) (rowOf j f b)) (rising (rowOf j f b) (rowsIn j f l ++ rows))
-    (either-second (eqb j (suc j)) (both (eqb j j) (eqb f f)) (both-intro (eqb j j) (eqb f f) (eqb-refl j) (eqb-refl f)))
+    (either-right (eqb j (suc j)) (both (eqb j j) (eqb f f)) (both-intro (eqb j j) (eqb f f) (eqb-refl j) (eqb-refl f)))
     (rising-in j f b l rows h)
 
 rising-from : (j f : ℕ) (p : List Job) → Fits p → (x : Action) → T (rising (rowOf j f x) (rowsFrom (suc j) p))
@@ -178,7 +171,7 @@ rising-from j f (b ∷ bs) h x = go (b .actions) (h .0 .some-action) (rising-fro
     go (a ∷ l) h r =
         let next = rowOf (suc j) (b .frame) a in
         both-intro (goesOn (rowOf j f x) next) (rising next (rowsIn (suc j) (b .frame) l ++ rowsFrom (suc (suc j)) bs))
-        (either-first (eqb (suc j) (suc j)) (both (eqb (suc j) j) (eqb (b .frame) f)) (eqb-refl (suc j)))
+        (either-left (eqb (suc j) (suc j)) (both (eqb (suc j) j) (eqb (b .frame) f)) (eqb-refl (suc j)))
         (rising-in (suc j) (b .frame) a l (rowsFrom (suc (suc j)) bs) r)
 
 small-in : (j f : ℕ) (l : List Action) (rows : List Row) → Small l → T (all small rows) → T (all small (rowsIn j f l ++ rows))

@@ -22,7 +22,7 @@ use Rattle.runs.specs.Turn.{frames, spawned, living, weight, turn, turnO
 use Rattle.runs.specs.Steal.{oldest}
 use Rattle.runs.specs.Living.{notAfter}
 use Rattle.plan.proofs.Laws.Lists.{both-intro, both-left, true-of, false-of}
-use Rattle.plan.proofs.Laws.Counts.{decT}
+use Rattle.plan.proofs.Laws.Counts.{decT, either-left, either-right}
 use Rattle.plan.specs.Rules.{Accepted}
 use Rattle.plan.proofs.Laws.Valid.{jobs-range, size-range, older}
 use Rattle.runs.specs.Trace as Trace
@@ -30,14 +30,6 @@ use Rattle.runs.specs.Trace.{Stage, turning, Trace}
 use Rattle.runs.proofs.Laws.Sound.{Sound, start-sound, trace-sound, trace-began, next-bound}
 use Rattle.runs.proofs.Laws.Rests.{lay-rests, serve-rests}
 use Rattle.runs.proofs.Laws.Rows.{rowAt, Done, Rowed, Acts, acted, turn-acts, round-first, trace-rowed}
-
-either-left : (a b : Bool) → T a → T (either a b)
-either-left true b t = tt
-either-left false b t = absurd t
-
-either-right : (a b : Bool) → T b → T (either a b)
-either-right true b t = tt
-either-right false b t = t
 
 -- turns in order of round, then worker
 pub not-after : (a : Row) (r w : ℕ) → a .round ≤ r → (a .round ≡ r → a .worker ≤ w) → T (notAfter a r w)

@@ -29,6 +29,8 @@ use Rattle.plan.proofs.Laws.Lists.{both-intro, both-left, both-right, all-by}
 use Rattle.plan.proofs.Laws.Placed.{place-below, locate, Stands, placed-of, placed-length}
 use Rattle.plan.specs.Rules.{Accepted}
 use Rattle.plan.proofs.Laws.Valid.{spawned-once}
+use Rattle.plan_measure.proofs.Laws.Largest.{member-place}
+use Rattle.plan_measure.proofs.Laws.Follows.{either-cases}
 use Rattle.plan_measure.proofs.Laws.Chains.{longest-chain}
 use Rattle.runs.specs.Trace as Trace
 use Rattle.runs.specs.Trace.{Stage, turning, Trace}
@@ -52,10 +54,6 @@ pub data Follows (p : Plan) (j i h m : ℕ) : Type 0 where
   next : h ≡ j → suc m ≡ i → Follows p j i h m
   spawned : 1 ≤ j → i ≡ 0 → action p h m .spawn ≡ suc j → Follows p j i h m
   joined : 1 ≤ h → parent p h ≡ j → action p h m .join ≡ suc i → Follows p j i h m
-
-either-cases : (a b : Bool) → T (either a b) → T a ⊎ T b
-either-cases true b t = inl tt
-either-cases false b t = inr t
 
 -- what the test says of two actions of the plan
 pub follows : (p : Plan) (x y : Placed) (k : ℕ) → Stands p k y → T (mustFollow p x y)
@@ -274,16 +272,8 @@ chain-head : (p : Plan) (x : Placed) (l : List Placed) → Chain p (x ∷ l) →
 chain-head p x [] c = c
 chain-head p x (y ∷ l) c = c .0
 
--- the place of a member
-member-place : (x : Placed) (l : List Placed) → Member x l → (k : ℕ) × (k < length l) × (x ≡ getD l k noPlaced)
-member-place x [] m = absurd m
-member-place x (y ∷ l) (inl e) = (0, omega arith, e)
-member-place x (y ∷ l) (inr m) =
-    let r = member-place x l m in
-    (suc (r .0), omega (arith, r .1), r .2)
-
 member-stands : (p : Plan) (x : Placed) → Member x (placed p) → (k : ℕ) × (k < work p) × Stands p k x
-member-stands p x m = let q = member-place x (placed p) m in go (q .0) (omega (arith, q .1, placed-length p)) (q .2)
+member-stands p x m = let (k, h, e) = member-place (placed p) noPlaced x m in go k (omega (arith, placed-length p)) (sym e)
   where
     go : (k : ℕ) → k < work p → x ≡ getD (placed p) k noPlaced → (k : ℕ) × (k < work p) × Stands p k x
     go k h e = (k, h, rw e (placed-of p k h))
