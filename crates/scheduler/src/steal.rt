@@ -153,7 +153,16 @@ fn lays(
     let mut a = account;
     let mut m = 0;
     while m < count {
-        a = lay(a, choices, round, wide8(idle[m]), cursor, seats, after, last);
+        a = lay(
+            a,
+            choices,
+            round,
+            wide8(idle[m]),
+            cursor,
+            seats,
+            after,
+            last,
+        );
         m += 1;
     }
     a

@@ -84,17 +84,17 @@ give-requires c κs =
 
 returns-2 : tie.Need-returns-2
 returns-2 c = (
-    λ p n choices r b hi s run known manned queued dequed.
-    let e = picks (c .before .before .before .before .before .before .before) p n choices r b hi s run known queued in
-    let (m, d) = c .give .ensures p n choices r b s (record { run = run; known = known; manned = manned; dequed = dequed; picked = e }) in
-    let (h, l, w) = oldest-waits (c .before .before .before .before .before .before .before .before .before .before .args .v) n (s .workers) _ (sym e) in
-    rw (sym e) (
-      m,
-      serve-queued (c .before .before .before .before .before .before .before .before .before .before .args .v) _ s
-          (λ x calm. c .before .before .before .before .step-up .ensures .0 hi (s .workers) l x queued (run-sound run .workers) w (first-oldest run known queued ∙ sym e) calm),
-      d,
-    ),
-    c .before .before .before .before .step-up .ensures .1,
+  λ p n choices r b hi s run known manned queued dequed.
+      let e = picks (c .before .before .before .before .before .before .before) p n choices r b hi s run known queued in
+      let (m, d) = c .give .ensures p n choices r b s (record { run = run; known = known; manned = manned; dequed = dequed; picked = e }) in
+      let (h, l, w) = oldest-waits (c .before .before .before .before .before .before .before .before .before .before .args .v) n (s .workers) _ (sym e) in
+      rw (sym e) (
+        m,
+        serve-queued (c .before .before .before .before .before .before .before .before .before .before .args .v) _ s
+            (λ x calm. c .before .before .before .before .step-up .ensures .0 hi (s .workers) l x queued (run-sound run .workers) w (first-oldest run known queued ∙ sym e) calm),
+        d,
+      ),
+  c .before .before .before .before .step-up .ensures .1,
 )
 
 pub serve-spec : {M : Type 1} → statement M
