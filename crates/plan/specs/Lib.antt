@@ -1,4 +1,4 @@
--- What a reader must believe of the plan: Refusal to Flat. The last five say what private functions do and keep.
+-- What a reader must believe of the plan: Refusal to Writer. The others say what functions that are no entries are given and leave.
 pub mod Refusal
 pub mod Test
 pub mod Plan

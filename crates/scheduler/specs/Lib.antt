@@ -1,4 +1,4 @@
--- What a reader must believe of the entries: Entry. The others say what private functions are given and leave.
+-- What a reader must believe of the entries: Entry and Build. The others say what private functions are given and leave.
 pub mod Entry
 pub mod Build
 pub mod Machine
