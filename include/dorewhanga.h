@@ -9,6 +9,10 @@
  * that is held while the job lives. Up to 16 workers run a plan and steal jobs from one another. It is proved, in
  * crates/cabi, that each function answers and writes, for every input, what the definitions in crates/NAME/specs give.
  *
+ * Plan bytes, bits taken most significant first: form 8 bits (1), jobs 9; then for each job its frame 16 and action
+ * count 8, and for each of its actions a spawn bit, the child's number 8 if it is 1, a join bit, the target's position 8
+ * if it is 1. Zero bits fill the last byte; nothing follows.
+ *
  * What is lent. A buffer is lent as a pointer and a length, which counts elements: 16-bit numbers for `rows`, bytes for
  * all others. A pointer is aligned for its type and never NULL, not even where the length is 0: with nothing to lend,
  * lend the address of anything, such as a local variable of that type. All that the length covers must be readable, and
@@ -19,7 +23,8 @@
  * they held.
  *
  * The functions use no heap and no global state, and of the C library memcpy and memset alone, so they may be called
- * from several threads at once. A call takes less than 32 KiB of stack, whatever its input.
+ * from several threads at once. The stack that a call takes does not grow with its input;
+ * measured, it is below 32 KiB.
  *
  * `refused` is 0 where the input is accepted, else the number of the cause, and all that stands beside it is then 0.
  *
@@ -27,13 +32,15 @@
  *      2  form is not 1
  *      3  job count, frame, action count or sum outside its range (1 to 256 jobs, frame 1 to 65,535, 1 to 255 actions
  *         in a job, 1 to 2,048 in all)
- *      4  a spawn rule is broken
- *      5  a join rule is broken
+ *      4  a spawn rule is broken: every job but 0 is spawned exactly once, by a job of smaller number
+ *      5  a join rule is broken: a join goes to a position of the parent later than the sender's spawn and not right
+ *         after any spawn; at most 8 enter one action; the last action of every job but 0 sends one; job 0 sends none
  *      6  fill bit not 0, or bytes left over
  *      7  worker count 0 or above 16
  *      8  choice not below the worker count, over 4,096 choices, or none with more than one worker
  *      9  output buffer too short
- *     10  open table empty, not whole rows, or breaks its row rules
+ *     10  open table empty, not whole rows, or breaks its row rules: the job column starts at 0 and rises by 0 or 1, a
+ *         job's frame is equal in its rows, the third and the fourth number are at most 256
  *     11  schedule length, form, worker count, action count, zero bits or a round of 0
  *     12  a schedule rule is broken
  *

@@ -157,7 +157,7 @@ fn main() {
     let times = run(&chains, 16, &any_list(&mut random, 16));
     line("run of a chain of jobs, P 16, mixed choices", times);
 
-    println!("\nA run with P 4 as plans grow, again over {PLANS} of each size:\n");
+    println!("\nA run with P 4 as plans grow, over {PLANS} of each size:\n");
     println!("| Actions | proved | second | proved / second |");
     println!("|---:|---:|---:|---:|");
     let choices = any_list(&mut random, 4);

@@ -1,4 +1,4 @@
--- What private functions of module measure are given, and what they leave. No public entry cites these.
+-- What functions that are no entries are given, and what they leave. No public entry cites these.
 --   at l k            == what stands at place k of an array
 --   PathsGiven p ..   == the arrays hold the frames and the parents of the plan p
 --   ends p j i        == when action i of job j is done at the earliest: the largest length of a chain that ends in it

@@ -77,8 +77,8 @@ unfoldable pub passes : Case → Bool
 unfolding valueOf runOf checked readPlan
 passes c = answers (c .plan) (c .workers) (c .choices) (c .answer)
 
--- "E is `01 01 80 02 02 C0 44 08 00 00 60 42 08 00 04 02 82 00` (hexadecimal)"; only its last byte, or the target of job 2's
--- join in the two bytes before it, changes in the cases 8 and 9
+-- "E is `01 01 80 02 02 C0 44 08 00 00 60 42 08 00 04 02 82 00` (hexadecimal)"; case 8 changes its last byte, case 9 its last
+-- two, which hold the target of job 2's join
 unfoldable pub E : List ℕ
 E =
     0x01 ∷ 0x01 ∷ 0x80 ∷ 0x02 ∷ 0x02 ∷ 0xC0 ∷ 0x44 ∷ 0x08 ∷ 0x00 ∷ 0x00 ∷ 0x60 ∷ 0x42 ∷ 0x08 ∷ 0x00 ∷ 0x04 ∷ 0x02 ∷ 0x82 ∷ 0x00 ∷ []

@@ -1,6 +1,6 @@
 -- The schedule's bytes and the checker's rules (document 01, "Schedule").
---   scheduleBits, scheduleBytes == "Form 8 bits (1), workers 5, actions 12, 7 zero bits; then per action, in plan order,
---                                  round 12 bits and worker 4"
+--   scheduleBits, scheduleBytes == "Form 8 bits (1), workers 5 .., actions 12, 7 zero bits; then per action, in plan order,
+--                                  round 12 bits .. and worker 4"
 --   rowOf p rows x   == the row of action x
 --   keeps p m rows   == the rules: no two actions of one worker in one round; later than all that it must follow;
 --                       workers below m

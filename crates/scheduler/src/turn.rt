@@ -68,7 +68,7 @@ fn send(
     push(slots, top, len, w, parent[j]);
 }
 
-// 2 and 3, where the action did not spawn: the job goes on, or the worker takes the bottom job of its own deque, or has none.
+// 3, where the action did not spawn: the job goes on, or the worker takes the bottom job of its own deque, or has none.
 fn settle(
     k: usize,
     j: usize,
