@@ -5,58 +5,14 @@
 //!
 //! It writes CRATE/data/NAME for each case, CRATE/stdout, and CRATE/src/cases.rt with one call for each case. A second checker,
 //! with each slip that it may have, shows that some case tells every slip apart.
+mod plans;
+
+use plans::{e, f, join, plan, spawn, Action, Bits, Job, NONE};
 use std::fmt::Write;
 use std::fs;
 
-/// An action: the child's number plus 1 or 0, the join's target plus 1 or 0.
-type Action = (u32, u32);
-type Job = (u32, Vec<Action>);
 /// A round and a worker.
 type Row = (u32, u32);
-
-const NONE: Action = (0, 0);
-fn spawn(child: u32) -> Action {
-    (child + 1, 0)
-}
-fn join(target: u32) -> Action {
-    (0, target + 1)
-}
-
-struct Bits(Vec<bool>);
-
-impl Bits {
-    fn put(&mut self, width: u32, value: u32) {
-        for i in (0..width).rev() {
-            self.0.push(value >> i & 1 == 1);
-        }
-    }
-    fn number(&mut self, x: u32) {
-        if x == 0 {
-            self.put(1, 0);
-        } else {
-            self.put(1, 1);
-            self.put(8, x - 1);
-        }
-    }
-    fn bytes(&self) -> Vec<u8> {
-        self.0.chunks(8).map(|c| (0..8).fold(0, |b, i| b * 2 + *c.get(i).unwrap_or(&false) as u8)).collect()
-    }
-}
-
-fn plan(jobs: &[Job]) -> Vec<u8> {
-    let mut b = Bits(vec![]);
-    b.put(8, 1);
-    b.put(9, jobs.len() as u32);
-    for (frame, actions) in jobs {
-        b.put(16, *frame);
-        b.put(8, actions.len() as u32);
-        for &(spawn, join) in actions {
-            b.number(spawn);
-            b.number(join);
-        }
-    }
-    b.bytes()
-}
 
 fn headed(form: u32, workers: u32, actions: u32, zeros: u32, rows: &[Row]) -> Vec<u8> {
     let mut b = Bits(vec![]);
@@ -88,10 +44,6 @@ fn one() -> Vec<Job> {
     vec![(1, vec![NONE])]
 }
 
-/// Document 01's plan E. Its actions stand in rows 0 to 4, 5 to 6, and 7.
-fn e() -> Vec<Job> {
-    vec![(4, vec![spawn(1), NONE, spawn(2), NONE, NONE]), (3, vec![NONE, join(4)]), (2, vec![join(4)])]
-}
 /// Case 4's rows.
 const E4: [Row; 8] = [(1, 0), (2, 1), (3, 1), (5, 1), (6, 1), (2, 0), (3, 0), (4, 1)];
 
@@ -100,10 +52,6 @@ fn spread() -> Vec<Row> {
     E4.iter().map(|&(r, w)| (100 * r, w)).collect()
 }
 
-/// Document 01's plan F. Its actions stand in rows 0 to 2 and 3 to 6.
-fn f() -> Vec<Job> {
-    vec![(1, vec![spawn(1), NONE, NONE]), (1, vec![NONE, NONE, NONE, join(2)])]
-}
 const F2: [Row; 7] = [(1, 0), (2, 0), (9, 0), (2, 1), (3, 1), (4, 1), (5, 1)];
 
 /// Job 0 spawns n jobs of one action, one after the other; then an action that nothing enters, and one for each 8 joins.

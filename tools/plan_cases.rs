@@ -4,52 +4,11 @@
 //!     rustc -O tools/plan_cases.rs -o target/plan_cases && target/plan_cases crates/plan_cases
 //!
 //! It writes CRATE/data/NAME for each case, CRATE/stdout, and CRATE/src/cases.rt with one call for each case.
+mod plans;
+
+use plans::{e, f, join, plan, spawn, with_header, Action, Job, NONE};
 use std::fmt::Write;
 use std::fs;
-
-/// An action: the child's number plus 1 or 0, the join's target plus 1 or 0.
-type Action = (u32, u32);
-type Job = (u32, Vec<Action>);
-
-struct Bits(Vec<bool>);
-
-impl Bits {
-    fn put(&mut self, width: u32, value: u32) {
-        for i in (0..width).rev() {
-            self.0.push(value >> i & 1 == 1);
-        }
-    }
-    fn number(&mut self, x: u32) {
-        if x == 0 {
-            self.put(1, 0);
-        } else {
-            self.put(1, 1);
-            self.put(8, x - 1);
-        }
-    }
-    fn bytes(&self) -> Vec<u8> {
-        self.0.chunks(8).map(|c| (0..8).fold(0, |b, i| b * 2 + *c.get(i).unwrap_or(&false) as u8)).collect()
-    }
-}
-
-fn plan(jobs: &[Job]) -> Vec<u8> {
-    with_header(1, jobs.len() as u32, jobs)
-}
-
-fn with_header(form: u32, count: u32, jobs: &[Job]) -> Vec<u8> {
-    let mut b = Bits(vec![]);
-    b.put(8, form);
-    b.put(9, count);
-    for (frame, actions) in jobs {
-        b.put(16, *frame);
-        b.put(8, actions.len() as u32);
-        for &(spawn, join) in actions {
-            b.number(spawn);
-            b.number(join);
-        }
-    }
-    b.bytes()
-}
 
 fn table(jobs: &[Job]) -> Vec<u16> {
     let mut t = vec![];
@@ -59,28 +18,6 @@ fn table(jobs: &[Job]) -> Vec<u16> {
         }
     }
     t
-}
-
-const NONE: Action = (0, 0);
-fn spawn(child: u32) -> Action {
-    (child + 1, 0)
-}
-fn join(target: u32) -> Action {
-    (0, target + 1)
-}
-
-/// Document 01's plan E.
-fn e() -> Vec<Job> {
-    vec![
-        (4, vec![spawn(1), NONE, spawn(2), NONE, NONE]),
-        (3, vec![NONE, join(4)]),
-        (2, vec![join(4)]),
-    ]
-}
-
-/// Document 01's plan F.
-fn f() -> Vec<Job> {
-    vec![(1, vec![spawn(1), NONE, NONE]), (1, vec![NONE, NONE, NONE, join(2)])]
 }
 
 /// n jobs, each the parent of the next.

@@ -12,17 +12,7 @@ fn proved_build(input: &[u8]) -> Result<Counts, u32> {
     let measures = proved::measure(plan)?;
     let mut schedule = [0; 4100];
     let tally = proved::run(plan, input[0].into(), choices, &mut schedule)?;
-    Ok(Counts {
-        rounds: tally.rounds,
-        actions: tally.actions,
-        longest: measures.longest,
-        path: measures.path,
-        peak: tally.peak,
-        idle: tally.idle,
-        requests: tally.requests,
-        steals: tally.steals,
-        misses: tally.misses,
-    })
+    Ok(Counts::of(tally, measures))
 }
 
 fn printed(counts: Result<Counts, u32>) -> String {

@@ -1,7 +1,8 @@
 //! One input of a whole run, and what is printed of it.
 
+use crate::measure::Measures;
 use crate::plan::Plan;
-use crate::run::{check_workers, schedule_length, write_run, MAX_CHOICES};
+use crate::run::{check_workers, schedule_length, write_run, Tally, MAX_CHOICES};
 use crate::{measure, refusal};
 use std::fmt;
 
@@ -23,6 +24,21 @@ pub struct Counts {
 }
 
 impl Counts {
+    /// The counts of a run of the plan that has these measures.
+    pub fn of(tally: Tally, measures: Measures) -> Counts {
+        Counts {
+            rounds: tally.rounds,
+            actions: tally.actions,
+            longest: measures.longest,
+            path: measures.path,
+            peak: tally.peak,
+            idle: tally.idle,
+            requests: tally.requests,
+            steals: tally.steals,
+            misses: tally.misses,
+        }
+    }
+
     /// Names and values, in the printed order.
     pub fn named(&self) -> [(&'static str, u32); 9] {
         [
@@ -65,15 +81,5 @@ pub fn build(input: &[u8]) -> Result<Counts, u32> {
     let measures = measure::of(&plan);
     let mut schedule = vec![0; schedule_length(&plan)];
     let tally = write_run(&plan, workers, choices, &mut schedule);
-    Ok(Counts {
-        rounds: tally.rounds,
-        actions: tally.actions,
-        longest: measures.longest,
-        path: measures.path,
-        peak: tally.peak,
-        idle: tally.idle,
-        requests: tally.requests,
-        steals: tally.steals,
-        misses: tally.misses,
-    })
+    Ok(Counts::of(tally, measures))
 }

@@ -1,0 +1,64 @@
+//! Plans for the writers of cases: jobs, their actions, and their bytes (document 01, "Plan").
+
+/// An action: the child's number plus 1 or 0, the join's target plus 1 or 0.
+pub type Action = (u32, u32);
+/// A frame and the actions.
+pub type Job = (u32, Vec<Action>);
+
+pub const NONE: Action = (0, 0);
+pub fn spawn(child: u32) -> Action {
+    (child + 1, 0)
+}
+pub fn join(target: u32) -> Action {
+    (0, target + 1)
+}
+
+pub struct Bits(pub Vec<bool>);
+
+impl Bits {
+    pub fn put(&mut self, width: u32, value: u32) {
+        for i in (0..width).rev() {
+            self.0.push(value >> i & 1 == 1);
+        }
+    }
+    fn number(&mut self, x: u32) {
+        if x == 0 {
+            self.put(1, 0);
+        } else {
+            self.put(1, 1);
+            self.put(8, x - 1);
+        }
+    }
+    pub fn bytes(&self) -> Vec<u8> {
+        self.0.chunks(8).map(|c| (0..8).fold(0, |b, i| b * 2 + *c.get(i).unwrap_or(&false) as u8)).collect()
+    }
+}
+
+pub fn plan(jobs: &[Job]) -> Vec<u8> {
+    with_header(1, jobs.len() as u32, jobs)
+}
+
+pub fn with_header(form: u32, count: u32, jobs: &[Job]) -> Vec<u8> {
+    let mut b = Bits(vec![]);
+    b.put(8, form);
+    b.put(9, count);
+    for (frame, actions) in jobs {
+        b.put(16, *frame);
+        b.put(8, actions.len() as u32);
+        for &(spawn, join) in actions {
+            b.number(spawn);
+            b.number(join);
+        }
+    }
+    b.bytes()
+}
+
+/// Document 01's plan E. Its actions stand in rows 0 to 4, 5 to 6, and 7.
+pub fn e() -> Vec<Job> {
+    vec![(4, vec![spawn(1), NONE, spawn(2), NONE, NONE]), (3, vec![NONE, join(4)]), (2, vec![join(4)])]
+}
+
+/// Document 01's plan F. Its actions stand in rows 0 to 2 and 3 to 6.
+pub fn f() -> Vec<Job> {
+    vec![(1, vec![spawn(1), NONE, NONE]), (1, vec![NONE, NONE, NONE, join(2)])]
+}
