@@ -14,8 +14,8 @@ use Rattle.plan.specs.Field.{bitsOf}
 use Rattle.plan.specs.Writer.{numberBits, actionsBits, jobsBits, planBits, planBytes}
 use Rattle.plan.proofs.Laws.Accepted.{accepted-kept}
 use Rattle.plan.proofs.Laws.Bits.{bitsOf-length}
-use Rattle.plan.proofs.Laws.Fits.{in-range}
 use Rattle.plan.proofs.Laws.PlanBytes.{planBytes-length}
+use Rattle.plan.proofs.Laws.Spawning.{jobs-in-range, work-in-range}
 use Rattle.plan_table.specs.Table.{toTable, toPlan}
 use Rattle.plan_table.proofs.Laws.OpenTable.{readTable-rules}
 use Rattle.plan_table.proofs.Laws.Puts.{number-few}
@@ -54,11 +54,10 @@ planBits-few p =
 
 pub planBytes-few : (p : Plan) → T (inRange p) → length (planBytes p) ≤ 5379
 planBytes-few p t =
-    let r = in-range p t in
-    omega (arith, planBytes-length p, planBits-few p, r .jobs, r .actions)
+    omega (arith, planBytes-length p, planBits-few p, jobs-in-range p t, work-in-range p t)
 
 pub toTable-few : (s rows : List ℕ) (n : ℕ) → toTable s rows .answer ≡ accepted n → n ≤ 2048
-toTable-few s rows n e = toTable-told s rows n e λ p r k b. omega (arith, in-range p (accepted-kept s p r .range) .actions)
+toTable-few s rows n e = toTable-told s rows n e λ p r k b. omega (arith, work-in-range p (accepted-kept s p r .range))
 
 pub toPlan-few : (t bytes : List ℕ) (n : ℕ) → toPlan t bytes .answer ≡ accepted n → n ≤ 5379
 toPlan-few t bytes n e = toPlan-told t bytes n e λ p r k b. omega (arith, planBytes-few p (readTable-rules t p r .0))

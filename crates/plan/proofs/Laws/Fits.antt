@@ -7,7 +7,7 @@ use mathlib.Core.List.{List, [], _∷_, _++_}
 use lib.ListN.{length, getD}
 use lib.Dec.{T, eqb, leb, ltb, ltb→lt, leb→le, le→leb}
 use Rattle.plan.specs.Test.{both, all, below}
-use Rattle.plan.specs.Plan.{Action, Job, Plan, Placed, noPlaced, size, action, work, placedIn, placedFrom, placed, parent, spawnAt}
+use Rattle.plan.specs.Plan.{Action, Job, Plan, Placed, noPlaced, size, action, placedIn, placedFrom, placed, parent, spawnAt}
 use Rattle.plan.specs.Rules.{
   jobInRange,
   inRange,
@@ -20,6 +20,7 @@ use Rattle.plan.specs.Rules.{
   joinRules,
 }
 use Rattle.plan.proofs.Laws.Lists.{both-intro, both-left, both-right, all-at, all-by}
+use Rattle.plan.proofs.Laws.Spawning.{job-in-range, each-in-range, jobs-in-range}
 
 abbrev pub Small : List Action → Type 0
 Small [] = Unit {0}
@@ -58,27 +59,15 @@ actions-small j i (a ∷ l) t =
       actions-small j (suc i) l (both-right (both (leb (a .spawn) 256) (leb (a .join) 256)) rest t),
     )
 
-pub job-in-range : (b : Job) → T (jobInRange b) → (1 ≤ b .frame) × (b .frame < 65536) × (1 ≤ length (b .actions)) × (length (b .actions) < 256)
-job-in-range b t =
-    let frame = both (leb 1 (b .frame)) (leb (b .frame) 65535) in
-    let count = both (leb 1 (length (b .actions))) (leb (length (b .actions)) 255) in
-    let f = both-left frame count t in
-    let c = both-right frame count t in (
-      leb→le 1 (b .frame) (both-left (leb 1 (b .frame)) (leb (b .frame) 65535) f),
-      (let h = leb→le (b .frame) 65535 (both-right (leb 1 (b .frame)) (leb (b .frame) 65535) f) in omega arith),
-      leb→le 1 (length (b .actions)) (both-left (leb 1 (length (b .actions))) (leb (length (b .actions)) 255) c),
-      (let h = leb→le (length (b .actions)) 255 (both-right (leb 1 (length (b .actions))) (leb (length (b .actions)) 255) c) in omega arith),
-    )
-
 jobs-fit : (j : ℕ) (p : List Job) → T (all jobInRange p) → T (all placedSmall (placedFrom j p)) → Fits p
 jobs-fit j [] r t = tt
 jobs-fit j (b ∷ bs) r t =
     let f = job-in-range b (both-left (jobInRange b) (all jobInRange bs) r) in (
       record {
         some-frame = f .0;
-        frame = f .1;
+        frame = omega (arith, f);
         some-action = f .2;
-        actions = f .3;
+        actions = omega (arith, f);
         small = actions-small j 0 (b .actions) (all-front placedSmall (placedIn j 0 (b .actions)) (placedFrom (suc j) bs) t);
       },
       jobs-fit (suc j) bs (both-right (jobInRange b) (all jobInRange bs) r) (all-back placedSmall (placedIn j 0 (b .actions)) (placedFrom (suc j) bs) t),
@@ -86,28 +75,8 @@ jobs-fit j (b ∷ bs) r t =
 
 size-few : (p : List Job) → T (all jobInRange p) → (q : ℕ) → size p q < 256
 size-few [] r q = omega arith
-size-few (b ∷ bs) r zero = job-in-range b (both-left (jobInRange b) (all jobInRange bs) r) .3
+size-few (b ∷ bs) r zero = omega (arith, job-in-range b (both-left (jobInRange b) (all jobInRange bs) r))
 size-few (b ∷ bs) r (suc q) = size-few bs (both-right (jobInRange b) (all jobInRange bs) r) q
-
-pub record InRange (p : Plan) : Type 0 where
-  pub some-job : 1 ≤ length p
-  pub jobs : length p ≤ 256
-  pub each : T (all jobInRange p)
-  pub actions : work p ≤ 2048
-
-pub in-range : (p : Plan) → T (inRange p) → InRange p
-unfolding inRange
-in-range p t =
-    let count = both (leb 1 (length p)) (leb (length p) 256) in
-    let rest = both (all jobInRange p) (leb (work p) 2048) in
-    let c = both-left count rest t in
-    let r = both-right count rest t in
-    record {
-      some-job = leb→le 1 (length p) (both-left (leb 1 (length p)) (leb (length p) 256) c);
-      jobs = leb→le (length p) 256 (both-right (leb 1 (length p)) (leb (length p) 256) c);
-      each = both-left (all jobInRange p) (leb (work p) 2048) r;
-      actions = leb→le (work p) 2048 (both-right (all jobInRange p) (leb (work p) 2048) r);
-    }
 
 spawn-small : (jobs : ℕ) (a : Placed) → jobs ≤ 256 → T (spawnFits jobs a) → a .spawn ≤ 256
 spawn-small jobs a h t = go (a .spawn) t
@@ -136,10 +105,10 @@ join-small p a h t = go (a .join) t
 
 pub plan-fits : (p : Plan) → T (inRange p) → T (spawnRules p) → T (joinRules p) → Fits p
 unfolding spawnRules joinRules
-plan-fits p r s j = jobs-fit 0 p (i .each) (all-by placedSmall (placed p) noPlaced small)
+plan-fits p r s j = jobs-fit 0 p each (all-by placedSmall (placed p) noPlaced small)
   where
-    i : InRange p
-    i = in-range p r
+    each : T (all jobInRange p)
+    each = each-in-range p r
 
     small : (k : ℕ) → k < length (placed p) → T (placedSmall (getD (placed p) k noPlaced))
     small k h =
@@ -147,5 +116,5 @@ plan-fits p r s j = jobs-fit 0 p (i .each) (all-by placedSmall (placed p) noPlac
         let x = all-at (spawnFits (length p)) (placed p) (both-left (all (spawnFits (length p)) (placed p)) (all (spawnedOnce p) (below (length p))) s) noPlaced k h in
         let y = all-at (λ a. both (joinFits p a) (both (fewEnter p a) (lastSends p a))) (placed p) j noPlaced k h in
         both-intro (leb (a .spawn) 256) (leb (a .join) 256)
-        (le→leb (a .spawn) 256 (spawn-small (length p) a (i .jobs) x))
-        (le→leb (a .join) 256 (join-small p a (size-few p (i .each)) (both-left (joinFits p a) (both (fewEnter p a) (lastSends p a)) y)))
+        (le→leb (a .spawn) 256 (spawn-small (length p) a (jobs-in-range p r .1) x))
+        (le→leb (a .join) 256 (join-small p a (size-few p each) (both-left (joinFits p a) (both (fewEnter p a) (lastSends p a)) y)))

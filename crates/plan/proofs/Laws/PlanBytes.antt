@@ -20,7 +20,8 @@ use Rattle.plan.specs.Writer.{numberBits, actionsBits, jobsBits, planBit
 use Rattle.plan.proofs.Laws.Lists.{both-intro, both-left, both-right}
 use Rattle.plan.proofs.Laws.Readings.{then-went-on, unless-went-on, when-went-on, then-goes-on, unless-goes-on}
 use Rattle.plan.proofs.Laws.Outcomes.{passes}
-use Rattle.plan.proofs.Laws.Fits.{Small, Fits, InRange, in-range, plan-fits}
+use Rattle.plan.proofs.Laws.Fits.{Small, Fits, plan-fits}
+use Rattle.plan.proofs.Laws.Spawning.{jobs-in-range, work-in-range}
 use Rattle.plan.proofs.Laws.Bits.{
   Binary,
   append-binary,
@@ -262,15 +263,15 @@ jobs-found s (b ∷ bs) k n c h few r use-it =
     then-goes-on (fieldAt s 8 (n + 16)) _ (g .0) (unless-goes-on (either (eqb (length l) 0) (ltb 2048 (k + length l))) 3 _ (ap₂ either y z) (
     then-goes-on (actionsAt s (length l) (n + 16 + 8)) _ e (then-goes-on (jobsAt s (length bs) (k + length l) m) _ e₁ refl)))))) r₂
 
-plan-found : {P : Type 0} (s : List ℕ) (p : Plan) (c : List ℕ) → InRange p → Fits p → bits s ≡ planBits p ++ c
+plan-found : {P : Type 0} (s : List ℕ) (p : Plan) (c : List ℕ) → T (inRange p) → Fits p → bits s ≡ planBits p ++ c
     → ((m : ℕ) → planAt s ≡ step p m → Rest s m c → P) → P
 unfolding planAt planBits
 plan-found s p c i h b use-it =
     let f = field-found s 8 1 0 (bitsOf 9 (length p) ++ (jobsBits p ++ c)) (omega arith) (record { within = omega arith; bits = simp append-assoc at b }) in
-    let g = field-found s 9 (length p) 8 (jobsBits p ++ c) (omega (arith, i .jobs)) (f .1) in
-    let x : eqb (length p) 0 ≡ false = ne-eqb (length p) 0 (λ e. omega (arith, i .some-job)) in
-    let y : ltb 256 (length p) ≡ false = le-ltb 256 (length p) (i .jobs) in
-    jobs-found s p 0 17 c h (omega (arith, i .actions)) (g .1) λ m e r.
+    let g = field-found s 9 (length p) 8 (jobsBits p ++ c) (omega (arith, jobs-in-range p i)) (f .1) in
+    let x : eqb (length p) 0 ≡ false = ne-eqb (length p) 0 (λ e. omega (arith, jobs-in-range p i)) in
+    let y : ltb 256 (length p) ≡ false = le-ltb 256 (length p) (jobs-in-range p i .1) in
+    jobs-found s p 0 17 c h (omega (arith, work-in-range p i)) (g .1) λ m e r.
     use-it m (
     then-goes-on (fieldAt s 8 0) _ (f .0) (
     then-goes-on (fieldAt s 9 8) _ (g .0) (unless-goes-on (either (eqb (length p) 0) (ltb 256 (length p))) 3 _ (ap₂ either x y) e))) r
@@ -290,6 +291,6 @@ pub write-read : (p : Plan) → T (inRange p) → T (spawnRules p) → T (joinRu
 unfolding readPlan
 write-read p i s j =
     let k = 8 * ((length (planBits p) + 7) / 8) - length (planBits p) in
-    plan-found (planBytes p) p (replicate k 0) (in-range p i) (plan-fits p i s j) (planBytes-bits p) λ m e r.
+    plan-found (planBytes p) p (replicate k 0) i (plan-fits p i s j) (planBytes-bits p) λ m e r.
     ap (judged (planBytes p)) e
     ∙ passes 6 (fills (planBytes p) m) (spawnRules p) (joinRules p) p (fills-rest (planBytes p) m k (omega arith) r) s j

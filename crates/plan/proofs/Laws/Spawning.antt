@@ -9,7 +9,7 @@ use native.Mathlib.Nat.{not-suc-le-zero}
 use lib.Dec.{T, leb, ltb, eqb, leb→le, ltb→lt, eqb→eq, eqb-refl}
 use lib.ListN.{length, getD}
 use Rattle.plan.specs.Test.{both, either, all, count, below}
-use Rattle.plan.specs.Plan.{Plan, Placed, job, size, action, work, placed, noJob, noPlaced, spawnerIn, spawner, parent, spawnAt}
+use Rattle.plan.specs.Plan.{Job, Plan, Placed, job, size, action, work, placed, noJob, noPlaced, spawnerIn, spawner, parent, spawnAt}
 use Rattle.plan.specs.Rules.{jobInRange, inRange, spawnFits, spawnedOnce, spawnRules}
 use Rattle.plan.specs.Kept.{spawning}
 use Rattle.plan.proofs.Laws.Lists.{both-left, both-right, true-of, false-of, all-at}
@@ -20,6 +20,14 @@ use Rattle.plan.proofs.Laws.Placed.{start, placed-length, placed-at, pl
 range-test : (low high n : ℕ) → T (both (leb low n) (leb n high)) → (low ≤ n) × (n ≤ high)
 range-test low high n t =
     (leb→le low n (both-left (leb low n) (leb n high) t), leb→le n high (both-right (leb low n) (leb n high) t))
+
+pub job-in-range : (b : Job) → T (jobInRange b) → (1 ≤ b .frame) × (b .frame ≤ 65535) × (1 ≤ length (b .actions)) × (length (b .actions) ≤ 255)
+job-in-range b t =
+    let frames = both (leb 1 (b .frame)) (leb (b .frame) 65535) in
+    let sizes = both (leb 1 (length (b .actions))) (leb (length (b .actions)) 255) in
+    let f = range-test 1 65535 (b .frame) (both-left frames sizes t) in
+    let s = range-test 1 255 (length (b .actions)) (both-right frames sizes t) in
+    (f .0, f .1, s .0, s .1)
 
 module _ (p : Plan) (r : T (inRange p)) where
   rest-test : T (both (all jobInRange p) (leb (work p) 2048))
@@ -32,18 +40,18 @@ module _ (p : Plan) (r : T (inRange p)) where
       range-test 1 256 (length p)
       (both-left (both (leb 1 (length p)) (leb (length p) 256)) (both (all jobInRange p) (leb (work p) 2048)) r)
 
+  pub each-in-range : T (all jobInRange p)
+  each-in-range = both-left (all jobInRange p) (leb (work p) 2048) rest-test
+
   module _ (j : ℕ) (h : j < length p) where
     job-test : T (jobInRange (job p j))
-    job-test = all-at jobInRange p (both-left (all jobInRange p) (leb (work p) 2048) rest-test) noJob j h
+    job-test = all-at jobInRange p each-in-range noJob j h
 
     pub size-in-range : (1 ≤ size p j) × (size p j ≤ 255)
-    size-in-range =
-        range-test 1 255 (size p j) (both-right (both (leb 1 (job p j .frame)) (leb (job p j .frame) 65535)) _ job-test)
+    size-in-range = let r = job-in-range (job p j) job-test in (r .2, r .3)
 
     pub frame-in-range : (1 ≤ job p j .frame) × (job p j .frame ≤ 65535)
-    frame-in-range =
-        range-test 1 65535 (job p j .frame)
-        (both-left (both (leb 1 (job p j .frame)) (leb (job p j .frame) 65535)) (both (leb 1 (size p j)) (leb (size p j) 255)) job-test)
+    frame-in-range = let r = job-in-range (job p j) job-test in (r .0, r .1)
 
   pub work-in-range : (1 ≤ work p) × (work p ≤ 2048)
   work-in-range =

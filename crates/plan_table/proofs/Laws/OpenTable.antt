@@ -31,7 +31,8 @@ use Rattle.plan_table.specs.Table.{
 use Rattle.plan.proofs.Laws.Lists.{both-intro, both-left, both-right, true-of}
 use Rattle.plan.proofs.Laws.Counts.{either-left, either-right}
 use Rattle.plan.proofs.Laws.Outcomes.{refused-accepted, passes, passed}
-use Rattle.plan.proofs.Laws.Fits.{Small, Fits, plan-fits, in-range}
+use Rattle.plan.proofs.Laws.Fits.{Small, Fits, plan-fits}
+use Rattle.plan.proofs.Laws.Spawning.{jobs-in-range}
 use Rattle.plan_table.proofs.Laws.Rows.{rowOf, rowsIn, rowsFrom, table-rows, table-length, plan-rows}
 
 -- what an accepted table passed
@@ -205,7 +206,7 @@ table-write-read p i s j =
     let whole : length (tableOf p) % 4 ≡ 0 = omega (arith, table-length p) in
     let rules : T (both (eqb (length (tableOf p) % 4) 0) (rowRules (rowsOf (tableOf p))))
     = both-intro (eqb (length (tableOf p) % 4) 0) (rowRules (rowsOf (tableOf p))) (rw whole (eqb-refl 0))
-    (rw rows (rowsFrom-rules p (in-range p i .some-job) fits)) in
+    (rw rows (rowsFrom-rules p (jobs-in-range p i .0) fits)) in
     chosen-true (both (eqb (length (tableOf p) % 4) 0) (rowRules (rowsOf (tableOf p)))) (ruled (planOf (rowsOf (tableOf p)))) (refused 10)
     (true-of (both (eqb (length (tableOf p) % 4) 0) (rowRules (rowsOf (tableOf p)))) rules)
     ∙ ap ruled (ap planOf rows ∙ planOf-rowsFrom 0 p fits)
