@@ -20,7 +20,6 @@ use Rattle.checker.specs.Rows.{RowsAt}
 pub record WellFormed (s : List ℕ) (n workers : ℕ) : Type 0 where
   pub rows : List Row
   pub read : readSchedule s n ≡ accepted (record { workers = workers; rows = rows })
-  pub most : workers ≤ 16
   pub bytes : RowsAt rows s
   pub all : length rows ≡ n
 
@@ -30,7 +29,7 @@ pub record Formed (s : List ℕ) (n r : ℕ) : Type 0 where
 
 pub record Headed (s : List ℕ) (n r : ℕ) : Type 0 where
   pub broken : r ≡ 0 → (k : ℕ) × (writtenAt s n ≡ stop k)
-  pub kept : 1 ≤ r → (r ≤ 16) × (writtenAt s n ≡ then (rowsAt s n 32) (λ rows at. step (record { workers = r; rows = rows }) at))
+  pub kept : 1 ≤ r → writtenAt s n ≡ then (rowsAt s n 32) (λ rows at. step (record { workers = r; rows = rows }) at)
 
 -- of a row, the round is all but the last four bits of this number, and the worker those four
 abbrev pub word : List ℕ → ℕ → ℕ

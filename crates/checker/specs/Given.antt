@@ -11,10 +11,9 @@ use Rattle.plan.specs.Flat.{Firsts, Spawns, Joins}
 use Rattle.runs.specs.State.{Row}
 use Rattle.checker.specs.Rows.{RowsAt}
 
-pub record RulesGiven (p : Plan) (rows : List Row) (workers jobs : ℕ) (schedule firstOf spawnOf joinOf parentOf : List ℕ) : Type 0 where
+pub record RulesGiven (p : Plan) (rows : List Row) (jobs : ℕ) (schedule firstOf spawnOf joinOf parentOf : List ℕ) : Type 0 where
   pub plan : Accepted p
   pub count : jobs ≡ length p
-  pub crew : workers ≤ 16
   pub bytes : RowsAt rows schedule
   pub all : length rows ≡ work p
   pub firsts : Firsts p firstOf

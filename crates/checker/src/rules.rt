@@ -31,8 +31,8 @@ fn followed(
     join: &[u16; 2048],
     parent: &[u8; 256],
 ) -> bool
-    requires { ⌜ ((p : Plan) × (rows : List Row) × (workers : ℕ) × (jobs : ℕ) × RulesGiven p rows workers jobs (now schedule) (now first) (now spawn) (now join) (now parent) × JobPlace p j k end × (k < end)) ⌝ }
-    ensures { λ r. ⌜ ((p : Plan) (rows : List Row) (workers jobs : ℕ) → RulesGiven p rows workers jobs (now (schedule .entry)) (now (first .entry)) (now (spawn .entry)) (now (join .entry)) (now (parent .entry)) → JobPlace p j k end → k < end → Told p (word (now (schedule .entry))) k r) ⌝ }
+    requires { ⌜ ((p : Plan) × (rows : List Row) × (jobs : ℕ) × RulesGiven p rows jobs (now schedule) (now first) (now spawn) (now join) (now parent) × JobPlace p j k end × (k < end)) ⌝ }
+    ensures { λ r. ⌜ ((p : Plan) (rows : List Row) (jobs : ℕ) → RulesGiven p rows jobs (now (schedule .entry)) (now (first .entry)) (now (spawn .entry)) (now (join .entry)) (now (parent .entry)) → JobPlace p j k end → k < end → Told p (word (now (schedule .entry))) k r) ⌝ }
 {
     let round = row_at(schedule, k) / 16;
     if k + 1 < end {
@@ -69,8 +69,8 @@ pub fn rules_kept<'a>(
     join: &'a [u16; 2048],
     parent: &'a [u8; 256],
 ) -> bool
-    requires { ⌜ ((p : Plan) × (rows : List Row) × RulesGiven p rows workers jobs (now schedule) (now first) (now spawn) (now join) (now parent)) ⌝ }
-    ensures { λ r. ⌜ ((p : Plan) (rows : List Row) → RulesGiven p rows workers jobs (now (schedule .entry)) (now (first .entry)) (now (spawn .entry)) (now (join .entry)) (now (parent .entry)) → r ≡ keeps p workers rows) ⌝ }
+    requires { ⌜ ((p : Plan) × (rows : List Row) × RulesGiven p rows jobs (now schedule) (now first) (now spawn) (now join) (now parent)) ⌝ }
+    ensures { λ r. ⌜ ((p : Plan) (rows : List Row) → RulesGiven p rows jobs (now (schedule .entry)) (now (first .entry)) (now (spawn .entry)) (now (join .entry)) (now (parent .entry)) → r ≡ keeps p workers rows) ⌝ }
 {
     let mut last = [0u16; 4096];
     let mut earlier = [0u16; 2048];

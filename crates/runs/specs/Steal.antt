@@ -2,8 +2,9 @@
 --   lay, lays       == worker w lays a request, if it held nothing when the round began and has none; the workers below k
 --   oldest v k ws   == which of the workers below k has the request that victim v serves: the worker's number plus 1, or 0
 --   serve, serves   == victim v serves one request; the victims below k
+--   waiting k ws    == how many requests wait, of the workers below k
 -- Assumes nothing.
-use Prim.Native.Nat.{ℕ, zero, suc, _%_}
+use Prim.Native.Nat.{ℕ, zero, suc, _+_, _%_}
 use mathlib.Core.Bool.{Bool, true, false}
 use mathlib.Core.List.{List, [], _∷_}
 use lib.ListN.{length, getD, set}
@@ -124,3 +125,13 @@ unfoldable pub serves : ℕ → ℕ → State → State
 unfolding serve oldest
 serves n zero s = s
 serves n (suc k) s = let t = serves n k s in serve k (oldest k n (t .workers) .who) t
+
+-- "requests still waiting": a worker has at most one
+abbrev pub waits : Worker → ℕ
+waits Idle = 0
+waits (Holding j) = 0
+waits (Waiting v l) = 1
+
+abbrev pub waiting : ℕ → List Worker → ℕ
+waiting zero ws = 0
+waiting (suc k) ws = waiting k ws + waits (getD ws k Idle)

@@ -72,8 +72,8 @@ told-broken : (p : Plan) (row : ℕ → ℕ) (k : ℕ) → (Followed p row k →
 told-broken p row k f = record { kept = λ t. absurd t; broken = λ n. f }
 
 -- the same over the arrays
-module _ (p : Plan) (rows : List Row) (workers jobs : ℕ) (s firstOf spawnOf joinOf parentOf : List ℕ)
-    (g : RulesGiven p rows workers jobs s firstOf spawnOf joinOf parentOf) where
+module _ (p : Plan) (rows : List Row) (jobs : ℕ) (s firstOf spawnOf joinOf parentOf : List ℕ)
+    (g : RulesGiven p rows jobs s firstOf spawnOf joinOf parentOf) where
   -- a row's bytes are there
   pub row-within : (x : ℕ) → x < work p → 5 + 2 * x < length s
   row-within x h = omega (arith, g .bytes .long, g .all)

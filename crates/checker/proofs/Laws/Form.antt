@@ -35,7 +35,7 @@ module _ (s : List ℕ) (n : ℕ) where
 
     module _ (workers : ℕ) (some : 1 ≤ workers) (head : Headed s n workers) where
       pub wrong-round : (k : ℕ) → k < n → word s (4 + 2 * k) < 16 → Formed s n 0
-      wrong-round k b none = stopped 11 (rw (head .kept some .1, rows-stop s n 4 k (omega arith) b none))
+      wrong-round k b none = stopped 11 (rw (head .kept some, rows-stop s n 4 k (omega arith) b none))
 
       pub well-formed : ((k : ℕ) → getD s k 0 < 256) → ((k : ℕ) → k < n → 16 ≤ word s (4 + 2 * k)) → Formed s n workers
       unfolding readSchedule
@@ -46,8 +46,7 @@ module _ (s : List ℕ) (n : ℕ) where
             kept = λ _.
                 record {
                   rows = rowsFrom s 4 n;
-                  read = rw (right-length, head .kept some .1, e, readSchedule);
-                  most = head .kept some .0;
+                  read = rw (right-length, head .kept some, e, readSchedule);
                   bytes = rows-held s n long;
                   all = rows-length s n 4;
                 };

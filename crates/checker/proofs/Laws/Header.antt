@@ -90,5 +90,5 @@ module _ (s : List ℕ) (n form workers actions zeros : ℕ) (r : HeaderRead s f
         broken = λ w. headed-not (λ _ some _ _ _. omega arith) .broken refl;
         kept = λ some.
             let tests : sound ≡ true = rw (eq-eqb form 1 one, le-leb 1 workers some, le-leb workers 16 most, eq-eqb actions n all, eq-eqb zeros 0 none) in
-            (most, rw (r .form-is, r .workers-are, r .actions-are, r .zeros-are, tests, place, then));
+            rw (r .form-is, r .workers-are, r .actions-are, r .zeros-are, tests, place, then);
       }

@@ -27,12 +27,11 @@ module _ (bytes s : List ℕ) where
     judges-form e = sym (by-schedule ∙ ap (ruled (g .plan)) e)
 
     module _ (workers : ℕ) (w : WellFormed s (f .actions) workers) where
-      pub rules-given : RulesGiven (g .plan) (w .rows) workers (f .jobs) s (f .first) (f .spawn) (f .join) (f .parent)
+      pub rules-given : RulesGiven (g .plan) (w .rows) (f .jobs) s (f .first) (f .spawn) (f .join) (f .parent)
       rules-given =
           record {
             plan = g .kept;
             count = g .holds .jobs;
-            crew = w .most;
             bytes = w .bytes;
             all = w .all ∙ g .holds .actions;
             firsts = g .holds .firsts;

@@ -131,7 +131,7 @@ module _ (p : Plan) (m : ℕ) (rows : List Row) (s : List ℕ) (long : length ro
 
 -- what the test of the rules tells
 module _ (p : Plan) (rows : List Row) (m jobs : ℕ) (s firstOf spawnOf joinOf parentOf : List ℕ)
-    (g : RulesGiven p rows m jobs s firstOf spawnOf joinOf parentOf) where
+    (g : RulesGiven p rows jobs s firstOf spawnOf joinOf parentOf) where
   pub all-keep : (j : ℕ) (last earlier : ℕ → ℕ) → j ≡ jobs → Seen p m (work (take j p)) (work (take j p)) (word s) last earlier → true ≡ keeps p m rows
   all-keep j last earlier e f =
       let z : work (take j p) ≡ work p = ap (λ n. work (take n p)) (e ∙ g .count) ∙ start-all p in

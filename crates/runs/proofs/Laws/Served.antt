@@ -19,13 +19,13 @@ use Rattle.runs.specs.declared.worker.Worker.the-variants.{Idle, Holding
 use Rattle.plan.specs.Plan.{Plan}
 use Rattle.runs.specs.State.{State, workerOf, dequeOf, start}
 use Rattle.runs.specs.Turn.{turn, idled, turnOf}
-use Rattle.runs.specs.Steal.{laid as laidBy, lay, oldest, topOf, given, serve}
+use Rattle.runs.specs.Steal.{laid as laidBy, lay, oldest, topOf, given, serve, waits}
 use Rattle.runs.specs.Run.{choicesFit}
 use Rattle.runs.proofs.Lines.Sum.{sum, sum-le, sum-bound, only, only-yes}
 use Rattle.plan.specs.Rules.{Accepted}
 use Rattle.runs.specs.Trace.{Stage, turning, laying, serving, Trace, begins, turned, goes-on, laid, all-laid, served, next-round}
 use Rattle.runs.proofs.Laws.Sound.{trace-sound}
-use Rattle.runs.proofs.Laws.Waits.{waits, start-calm, seated, seated-waits}
+use Rattle.runs.proofs.Laws.Waits.{start-calm, seated, seated-waits}
 use Rattle.runs.proofs.Laws.Victims.{victim-below}
 use Rattle.runs.proofs.Laws.Least.{rank, Best, oldest-best}
 

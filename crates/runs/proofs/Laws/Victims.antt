@@ -16,7 +16,7 @@ use Rattle.runs.specs.declared.worker.Worker.the-variants.{Idle, Holding
 use Rattle.plan.specs.Plan.{Plan}
 use Rattle.runs.specs.State.{State, workerOf, dequeOf, start}
 use Rattle.runs.specs.Turn.{turn, idled, turnOf}
-use Rattle.runs.specs.Steal.{laid as laidBy, lay, oldest, topOf, given, serve}
+use Rattle.runs.specs.Steal.{laid as laidBy, lay, oldest, topOf, given, serve, waits}
 use Rattle.runs.specs.Run.{choicesFit}
 use Rattle.runs.proofs.Lines.Sum.{sum-term}
 use Rattle.plan.proofs.Laws.Lists.{both-left, both-right, all-at}
@@ -24,7 +24,7 @@ use Rattle.plan.specs.Rules.{Accepted}
 use Rattle.runs.specs.Trace.{Stage, Trace, begins, turned, goes-on, laid, all-laid, served, next-round}
 use Rattle.runs.proofs.Laws.Sound.{trace-sound}
 use Rattle.runs.proofs.Laws.Tallies.{lone-holds, lone-requests}
-use Rattle.runs.proofs.Laws.Waits.{waits, waiting-sum, start-calm, seated, seated-waits}
+use Rattle.runs.proofs.Laws.Waits.{waiting-sum, start-calm, seated, seated-waits}
 use Rattle.runs.proofs.Laws.Waiting.{Unheld, requests-sum}
 
 -- what stands at a place after a store, there or elsewhere

@@ -14,11 +14,11 @@ use Rattle.runs.specs.declared.worker.Worker.the-variants.{Idle, Holding
 use Rattle.plan.specs.Plan.{Plan}
 use Rattle.runs.specs.State.{State, workerOf, dequeOf, start}
 use Rattle.runs.specs.Turn.{turn, idled, turnOf}
-use Rattle.runs.specs.Steal.{laid as laidBy, lay, oldest, topOf, given, serve}
+use Rattle.runs.specs.Steal.{laid as laidBy, lay, oldest, topOf, given, serve, waits, waiting}
 use Rattle.plan.specs.Rules.{Accepted}
 use Rattle.runs.specs.Trace.{Stage, turning, laying, serving, Trace, begins, turned, goes-on, laid, all-laid, served, next-round}
 use Rattle.runs.proofs.Laws.Sound.{trace-sound, trace-began}
-use Rattle.runs.proofs.Laws.Waits.{waits, waiting, waiting-none, start-calm, waiting-kept, waiting-more, waiting-less, seated, seated-waits, oldest-waits}
+use Rattle.runs.proofs.Laws.Waits.{waiting-none, start-calm, waiting-kept, waiting-more, waiting-less, seated, seated-waits, oldest-waits}
 
 abbrev pub Unheld : Worker → Type 0
 Unheld x = (j : ℕ) → x ≡ Holding j → ⊥

@@ -1,6 +1,4 @@
 -- Workers that wait with a request: how many there are, and which of them a victim serves.
---   waits x      == 1 where the worker x waits, 0 where it does not
---   waiting n ws == how many of the workers below n wait
 -- Assumes nothing.
 use Prim.Native.Nat.{ℕ, zero, suc, _+_, _<_}
 use mathlib.Core.Path.{_≡_, refl, sym, ap, _∙_}
@@ -19,18 +17,9 @@ use Rattle.runs.specs.declared.worker.Worker.the-variants.{Idle, Holding
 use Rattle.plan.specs.Plan.{Plan, size, action, parent}
 use Rattle.runs.specs.State.{State, nextOf, workerOf, dequeOf, start}
 use Rattle.runs.specs.Turn.{ready, takeBottom, seatAfter, wakes, woken}
-use Rattle.runs.specs.Steal.{Pick, older, oldest}
+use Rattle.runs.specs.Steal.{Pick, older, oldest, waits, waiting}
 use Rattle.runs.proofs.Lines.Sum.{sum, sum-suc}
 use Rattle.runs.proofs.Laws.Done.{sum-same}
-
-abbrev pub waits : Worker → ℕ
-waits Idle = 0
-waits (Holding j) = 0
-waits (Waiting v l) = 1
-
-abbrev pub waiting : ℕ → List Worker → ℕ
-waiting zero ws = 0
-waiting (suc k) ws = waiting k ws + waits (getD ws k Idle)
 
 pub waiting-sum : (k : ℕ) (ws : List Worker) → waiting k ws ≡ sum k (λ w. waits (getD ws w Idle))
 unfolding sum

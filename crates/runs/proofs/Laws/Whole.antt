@@ -12,7 +12,7 @@ use Rattle.runs.specs.declared.worker.Worker.{Worker}
 use Rattle.plan.specs.Plan.{Plan, size, work}
 use Rattle.runs.specs.State.{State, nextOf, start}
 use Rattle.runs.specs.Turn.{turns}
-use Rattle.runs.specs.Steal.{lays, serves}
+use Rattle.runs.specs.Steal.{lays, serves, waiting}
 use Rattle.runs.specs.Run.{ended, round, rounds, run}
 use Rattle.plan.specs.Rules.{Accepted}
 use Rattle.plan.proofs.Laws.Valid.{work-range}
@@ -21,7 +21,6 @@ use Rattle.runs.proofs.Laws.Sound.{trace-sound, all-done}
 use Rattle.runs.proofs.Laws.Done.{sum-same, sizes-sum, actions-done, actions-most}
 use Rattle.runs.proofs.Laws.Rounds.{rounds-known, numbered-late, numbered-most, not-ended, began-busy, rounds-act}
 use Rattle.runs.proofs.Laws.Tallies.{turns-sum, turns-most, requests-most, lone-idle}
-use Rattle.runs.proofs.Laws.Waits.{waiting}
 use Rattle.runs.proofs.Laws.Waiting.{requests-sum}
 
 abbrev pub Finished : Plan → ℕ → List ℕ → State → Type 0

@@ -13,13 +13,13 @@ use Rattle.runs.specs.declared.worker.Worker.{Worker}
 use Rattle.runs.specs.declared.worker.Worker.the-variants.{Idle, Holding, Waiting}
 use Rattle.runs.specs.State.{State, workerOf, dequeOf, start}
 use Rattle.runs.specs.Turn.{turn, idled, turnOf, turns}
-use Rattle.runs.specs.Steal.{laid, lay, oldest, topOf, given, serve}
+use Rattle.runs.specs.Steal.{laid, lay, oldest, topOf, given, serve, waits}
 use Rattle.runs.specs.Trace.{turning, laying, serving}
 use Rattle.scheduler.specs.Machine.{InRun}
 use Rattle.scheduler.specs.Requests.{Calm, Queued, Serving}
 use Rattle.runs.proofs.Laws.ServeSound.{oldest-waits}
 use Rattle.runs.proofs.Laws.Sound.{trace-began, laying-idle}
-use Rattle.runs.proofs.Laws.Waits.{waits, start-calm, seated, seated-waits}
+use Rattle.runs.proofs.Laws.Waits.{start-calm, seated, seated-waits}
 use Rattle.scheduler.proofs.Laws.Running.{run-sound, run-turns}
 use Rattle.scheduler.proofs.Laws.Queues.{queue-first, queued-calm}
 

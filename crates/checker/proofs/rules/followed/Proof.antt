@@ -23,8 +23,8 @@ use Rattle.checker.proofs.rules.followed.Tie as tie
 
 row-at-requires : tie.Need-row-at-requires
 row-at-requires c κs =
-    let (p, rows, m, n, g, at, h) = c .before .pre in
-    row-within p rows m n _ _ _ _ _ g _ (place-within p rows m n _ _ _ _ _ g _ _ _ at h .0)
+    let (p, rows, n, g, at, h) = c .before .pre in
+    row-within p rows n _ _ _ _ _ g _ (place-within p rows n _ _ _ _ _ g _ _ _ at h .0)
 
 add-if1 : tie.Need-add-if1
 add-if1 c = search needs
@@ -34,13 +34,13 @@ add-row-at c = search needs
 
 row-at-requires-2 : tie.Need-row-at-requires-2
 row-at-requires-2 c κs =
-    let (p, rows, m, n, g, at, h) = c .before .before .before .pre in
-    row-within p rows m n _ _ _ _ _ g _ (next-within p rows m n _ _ _ _ _ g _ _ _ at h (c .if1 .taken))
+    let (p, rows, n, g, at, h) = c .before .before .before .pre in
+    row-within p rows n _ _ _ _ _ g _ (next-within p rows n _ _ _ _ _ g _ _ _ at h (c .if1 .taken))
 
 returns : tie.Need-returns
-returns c = λ p rows m n g at h.
+returns c = λ p rows n g at h.
     let r = c .before .before .before in
-    told-next p rows m n _ _ _ _ _ g _ _ _ at h (c .before .before .if1 .taken)
+    told-next p rows n _ _ _ _ _ g _ _ _ at h (c .before .before .if1 .taken)
     (omega (arith, c .if2 .taken, c .before .row-at2 .ensures .0, r .row-at .ensures .0))
 
 -- the first test was passed
@@ -50,13 +50,13 @@ next-later c h =
 
 mul-wide16 : tie.Need-mul-wide16
 mul-wide16 c =
-    let (p, rows, m, n, g, at, h) = c .before .before .before .pre in
-    omega (arith, place-within p rows m n _ _ _ _ _ g _ _ _ at h)
+    let (p, rows, n, g, at, h) = c .before .before .before .pre in
+    omega (arith, place-within p rows n _ _ _ _ _ g _ _ _ at h)
 
 element-copy-out-wide16 : tie.Need-element-copy-out-wide16
 element-copy-out-wide16 c =
-    let (p, rows, m, n, g, at, h) = c .before .before .before .pre in
-    place-within p rows m n _ _ _ _ _ g _ _ _ at h .1
+    let (p, rows, n, g, at, h) = c .before .before .before .pre in
+    place-within p rows n _ _ _ _ _ g _ _ _ at h .1
 
 wide16-requires : tie.Need-wide16-requires
 wide16-requires c κs = search needs
@@ -70,8 +70,8 @@ mul-wide16-2 c = search needs
 element-copy-out-wide16-2 : tie.Need-element-copy-out-wide16-2
 element-copy-out-wide16-2 c =
     let w = c .before in
-    let (p, rows, m, n, g, at, h) = w .before .before .before .before .before .pre in
-    child-small p rows m n _ _ _ _ _ g _ _ _ at h _ (w .wide16 .ensures .0) (omega arith)
+    let (p, rows, n, g, at, h) = w .before .before .before .before .before .pre in
+    child-small p rows n _ _ _ _ _ g _ _ _ at h _ (w .wide16 .ensures .0) (omega arith)
 
 wide16-requires-2 : tie.Need-wide16-requires-2
 wide16-requires-2 c κs = search needs
@@ -80,15 +80,15 @@ row-at-requires-3 : tie.Need-row-at-requires-3
 row-at-requires-3 c κs =
     let t = c .before .before in
     let w = t .before in
-    let (p, rows, m, n, g, at, h) = w .before .before .before .before .before .pre in
-    row-within p rows m n _ _ _ _ _ g _
-    (child-within p rows m n _ _ _ _ _ g _ _ _ at h _ (w .wide16 .ensures .0) (omega arith) _ (c .wide162 .ensures .0))
+    let (p, rows, n, g, at, h) = w .before .before .before .before .before .pre in
+    row-within p rows n _ _ _ _ _ g _
+    (child-within p rows n _ _ _ _ _ g _ _ _ at h _ (w .wide16 .ensures .0) (omega arith) _ (c .wide162 .ensures .0))
 
 returns-2 : tie.Need-returns-2
-returns-2 c = λ p rows m n g at h.
+returns-2 c = λ p rows n g at h.
     let t = c .before .before .before .before in
     let w = t .before in
-    told-child p rows m n _ _ _ _ _ g _ _ _ at h _ (w .wide16 .ensures .0) (omega arith) _ (c .before .before .wide162 .ensures .0)
+    told-child p rows n _ _ _ _ _ g _ _ _ at h _ (w .wide16 .ensures .0) (omega arith) _ (c .before .before .wide162 .ensures .0)
     (omega (arith, c .if4 .taken, c .before .row-at3 .ensures .0, w .before .before .before .row-at .ensures .0))
 
 -- and the second
@@ -102,21 +102,21 @@ child-later c some =
 
 mul-wide16-3 : tie.Need-mul-wide16-3
 mul-wide16-3 c =
-    let (p, rows, m, n, g, at, h) = c .before .before .before .before .before .before .pre in
-    omega (arith, place-within p rows m n _ _ _ _ _ g _ _ _ at h)
+    let (p, rows, n, g, at, h) = c .before .before .before .before .before .before .pre in
+    omega (arith, place-within p rows n _ _ _ _ _ g _ _ _ at h)
 
 element-copy-out-wide16-3 : tie.Need-element-copy-out-wide16-3
 element-copy-out-wide16-3 c =
-    let (p, rows, m, n, g, at, h) = c .before .before .before .before .before .before .pre in
-    place-within p rows m n _ _ _ _ _ g _ _ _ at h .1
+    let (p, rows, n, g, at, h) = c .before .before .before .before .before .before .pre in
+    place-within p rows n _ _ _ _ _ g _ _ _ at h .1
 
 wide16-requires-3 : tie.Need-wide16-requires-3
 wide16-requires-3 c κs = search needs
 
 element-copy-out-wide8 : tie.Need-element-copy-out-wide8
 element-copy-out-wide8 c =
-    let (p, rows, m, n, g, at, h) = c .before .before .before .before .before .before .before .before .before .pre in
-    place-within p rows m n _ _ _ _ _ g _ _ _ at h .2
+    let (p, rows, n, g, at, h) = c .before .before .before .before .before .before .before .before .before .pre in
+    place-within p rows n _ _ _ _ _ g _ _ _ at h .2
 
 wide8-requires : tie.Need-wide8-requires
 wide8-requires c κs = search needs
@@ -140,33 +140,33 @@ row-at-requires-4 : tie.Need-row-at-requires-4
 row-at-requires-4 c κs =
     let q = c .before .before in
     let t = q .before .before in
-    let (p, rows, m, n, g, at, h) = t .before .before .before .before .before .before .before .before .before .pre in
-    row-within p rows m n _ _ _ _ _ g _
-    (target-within p rows m n _ _ _ _ _ g _ _ _ at h _ (t .before .wide163 .ensures .0) (omega arith) _ (q .wide8 .ensures .0) _ (c .wide164 .ensures .0))
+    let (p, rows, n, g, at, h) = t .before .before .before .before .before .before .before .before .before .pre in
+    row-within p rows n _ _ _ _ _ g _
+    (target-within p rows n _ _ _ _ _ g _ _ _ at h _ (t .before .wide163 .ensures .0) (omega arith) _ (q .wide8 .ensures .0) _ (c .wide164 .ensures .0))
 
 returns-3 : tie.Need-returns-3
-returns-3 c = λ p rows m n g at h.
+returns-3 c = λ p rows n g at h.
     let f = c .before .before in
     let q = f .before .before in
     let t = q .before .before in
-    told-target p rows m n _ _ _ _ _ g _ _ _ at h _ (t .before .wide163 .ensures .0) (omega arith) _ (q .wide8 .ensures .0) _ (f .wide164 .ensures .0)
+    told-target p rows n _ _ _ _ _ g _ _ _ at h _ (t .before .wide163 .ensures .0) (omega arith) _ (q .wide8 .ensures .0) _ (f .wide164 .ensures .0)
     (omega (arith, c .if6 .taken, c .before .row-at4 .ensures .0, t .before .before .before .before .before .before .before .row-at .ensures .0))
 
 returns-4 : tie.Need-returns-4
-returns-4 c = λ p rows m n g at h.
+returns-4 c = λ p rows n g at h.
     let f = c .before .before in
     let q = f .before .before in
     let s = q .before .before .before in
     let d = s .before .before in
-    told-kept p rows m n _ _ _ _ _ g _ _ _ at h (next-later (d .before .before .before)) _ (d .before .wide16 .ensures .0) (child-later d) _ (s .wide163 .ensures .0)
+    told-kept p rows n _ _ _ _ _ g _ _ _ at h (next-later (d .before .before .before)) _ (d .before .wide16 .ensures .0) (child-later d) _ (s .wide163 .ensures .0)
     (λ _. rw (← (q .wide8 .ensures .0), ← (f .wide164 .ensures .0))
     (omega (arith, c .if6 .left, c .before .row-at4 .ensures .0, d .before .before .before .before .row-at .ensures .0)))
 
 returns-5 : tie.Need-returns-5
-returns-5 c = λ p rows m n g at h.
+returns-5 c = λ p rows n g at h.
     let s = c .before in
     let d = s .before .before in
-    told-kept p rows m n _ _ _ _ _ g _ _ _ at h (next-later (d .before .before .before)) _ (d .before .wide16 .ensures .0) (child-later d) _ (s .wide163 .ensures .0)
+    told-kept p rows n _ _ _ _ _ g _ _ _ at h (next-later (d .before .before .before)) _ (d .before .wide16 .ensures .0) (child-later d) _ (s .wide163 .ensures .0)
     (λ some. omega arith)
 
 pub followed-spec : {M : Type 1} → statement M

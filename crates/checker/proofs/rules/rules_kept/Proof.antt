@@ -23,7 +23,7 @@ use Rattle.checker.proofs.rules.rules_kept.Tie as tie
 abbrev Inv-clashes : tie.InvT-clashes
 Inv-clashes schedule workers jobs first spawn join parent last earlier kept₀ j end k row bucket at₀ kept at =
     (kept ≡ true) × (at ≤ k)
-    × ((p : Plan) (rows : List Row) → RulesGiven p rows workers jobs schedule first spawn join parent
+    × ((p : Plan) (rows : List Row) → RulesGiven p rows jobs schedule first spawn join parent
     → Looking p workers k at (word schedule) (entry last) (entry earlier))
 
 abbrev μ-clashes : tie.MeasureT-clashes
@@ -32,7 +32,7 @@ abbrev μ-clashes : tie.MeasureT-clashes
 abbrev Inv-actions : tie.InvT-actions
 Inv-actions schedule workers jobs first spawn join parent last₀ earlier₀ kept₀ j end k₀ last earlier kept k =
     (kept ≡ true) × (length last ≡ 4096) × (length earlier ≡ 2048) × (end ≤ 2048) × (4 + 2 * end ≤ length schedule)
-    × ((p : Plan) (rows : List Row) → RulesGiven p rows workers jobs schedule first spawn join parent
+    × ((p : Plan) (rows : List Row) → RulesGiven p rows jobs schedule first spawn join parent
     → JobPlace p j k end × Seen p workers k k (word schedule) (entry last) (entry earlier))
 
 abbrev μ-actions : tie.MeasureT-actions
@@ -41,7 +41,7 @@ abbrev μ-actions : tie.MeasureT-actions
 abbrev Inv-jobs : tie.InvT-jobs
 Inv-jobs schedule workers jobs first spawn join parent last₀ earlier₀ kept₀ j₀ last earlier kept j =
     (kept ≡ true) × (length last ≡ 4096) × (length earlier ≡ 2048) × (jobs ≤ 256) × (j ≤ jobs)
-    × ((p : Plan) (rows : List Row) → RulesGiven p rows workers jobs schedule first spawn join parent
+    × ((p : Plan) (rows : List Row) → RulesGiven p rows jobs schedule first spawn join parent
     → Seen p workers (work (take j p)) (work (take j p)) (word schedule) (entry last) (entry earlier))
 
 abbrev μ-jobs : tie.MeasureT-jobs
@@ -50,7 +50,7 @@ abbrev μ-jobs : tie.MeasureT-jobs
 jobs-holds : tie.Need-jobs-holds Inv-clashes μ-clashes Inv-actions μ-actions Inv-jobs μ-jobs
 jobs-holds c =
     let (q, qs, d) = c .before .pre in
-    (refl, refl, refl, omega (arith, jobs-few q qs _ _ _ _ _ _ _ d), omega arith, λ p rows g. seen-none p _ _ _ _ (λ b h. getD-replicate 4096 b 0 0 h))
+    (refl, refl, refl, omega (arith, jobs-few q qs _ _ _ _ _ _ d), omega arith, λ p rows g. seen-none p _ _ _ _ (λ b h. getD-replicate 4096 b 0 0 h))
 
 add-wide16 : tie.Need-add-wide16 Inv-clashes μ-clashes Inv-actions μ-actions Inv-jobs μ-jobs
 add-wide16 c = omega arith
@@ -78,14 +78,14 @@ actions-holds c =
     let j = c .before .before .before .before in
     let i = j .before .jobs .inv in
     let (q, qs, d) = j .before .before .before .pre in
-    let z = job-room q qs _ _ _ _ _ _ _ d _ _ (j .jobs-test .taken) (c .before .before .wide16 .ensures .0) in (
+    let z = job-room q qs _ _ _ _ _ _ d _ _ (j .jobs-test .taken) (c .before .before .wide16 .ensures .0) in (
       i .0,
       i .1,
       i .2,
       z .0,
       z .1,
       λ p rows g.
-          let s = job-starts p rows _ _ _ _ _ _ _ g _ _ _ (j .jobs-test .taken) (c .wide162 .ensures .0) (c .before .before .wide16 .ensures .0) in
+          let s = job-starts p rows _ _ _ _ _ _ g _ _ _ (j .jobs-test .taken) (c .wide162 .ensures .0) (c .before .before .wide16 .ensures .0) in
           (s .0, rw (s .1) (i .5 p rows g)),
     )
 
@@ -96,7 +96,7 @@ followed-requires : tie.Need-followed-requires Inv-clashes μ-clashes Inv-action
 followed-requires c κs =
     let l = c .before .before in
     let (p, rows, g) = l .before .before .before .before .before .before .before .before .before .pre in
-    (p, rows, _, _, g, l .before .actions .inv .5 p rows g .0, l .actions-test .taken)
+    (p, rows, _, g, l .before .actions .inv .5 p rows g .0, l .actions-test .taken)
 
 mul-bucket : tie.Need-mul-bucket Inv-clashes μ-clashes Inv-actions μ-actions Inv-jobs μ-jobs
 mul-bucket c = omega arith
@@ -155,7 +155,7 @@ clashes-holds c =
           (getD-set-same (v .last) _ _ 0 (omega (arith, v .inv .1))) (λ b n. getD-set-other (v .last) _ b _ 0 n)
           (getD-set-same (v .earlier) _ _ 0 (omega (arith, v .inv .2))) (λ i n. getD-set-other (v .earlier) _ i _ 0 n)
           p _ _ (c .wide163 .ensures .0) f′ man
-          (f .followed .ensures p rows _ _ g at (l .actions-test .taken) .kept (passed (f .followed .result) (c .before .if2 .left))),
+          (f .followed .ensures p rows _ g at (l .actions-test .taken) .kept (passed (f .followed .result) (c .before .if2 .left))),
     )
 
 sub-row-at : tie.Need-sub-row-at Inv-clashes μ-clashes Inv-actions μ-actions Inv-jobs μ-jobs
@@ -213,7 +213,7 @@ actions-again c =
       i .3,
       i .4,
       λ p rows g. (
-        job-goes p rows _ _ _ _ _ _ _ g _ _ _ (i .5 p rows g .0) (l .actions-test .taken),
+        job-goes p rows _ _ _ _ _ _ g _ _ _ (i .5 p rows g .0) (l .actions-test .taken),
         look-done p _ _ _ _ _ _ (c .before .clashes .inv .2 p rows g) (omega arith),
       ),
     )
@@ -234,7 +234,7 @@ jobs-again c =
       omega arith,
       λ p rows g.
           let (at, s) = i .5 p rows g in
-          rw (job-ends p rows _ _ _ _ _ _ _ g _ _ _ at (c .actions-test .left)) at s,
+          rw (job-ends p rows _ _ _ _ _ _ g _ _ _ at (c .actions-test .left)) at s,
     )
 
 returns : tie.Need-returns Inv-clashes μ-clashes Inv-actions μ-actions Inv-jobs μ-jobs
@@ -246,21 +246,21 @@ returns-2 : tie.Need-returns-2 Inv-clashes μ-clashes Inv-actions μ-actions Inv
 returns-2 c = λ p rows g.
     let r = c .before in
     let l = r .before in
-    not-manned p rows _ _ _ _ _ _ _ g _ (place-within p rows _ _ _ _ _ _ _ g _ _ _ (l .before .actions .inv .5 p rows g .0) (l .actions-test .taken) .0) (omega (arith, c .if1 .taken, r .row-at .ensures .0))
+    not-manned p rows _ _ _ _ _ _ _ g _ (place-within p rows _ _ _ _ _ _ g _ _ _ (l .before .actions .inv .5 p rows g .0) (l .actions-test .taken) .0) (omega (arith, c .if1 .taken, r .row-at .ensures .0))
 
 returns-3 : tie.Need-returns-3 Inv-clashes μ-clashes Inv-actions μ-actions Inv-jobs μ-jobs
 returns-3 c = λ p rows g.
     let f = c .before in
     let l = f .before .before .before in
-    not-followed p rows _ _ _ _ _ _ _ g _ (place-within p rows _ _ _ _ _ _ _ g _ _ _ (l .before .actions .inv .5 p rows g .0) (l .actions-test .taken) .0)
-    (f .followed .ensures p rows _ _ g (l .before .actions .inv .5 p rows g .0) (l .actions-test .taken) .broken (not-passed (f .followed .result) (c .if2 .taken)))
+    not-followed p rows _ _ _ _ _ _ _ g _ (place-within p rows _ _ _ _ _ _ g _ _ _ (l .before .actions .inv .5 p rows g .0) (l .actions-test .taken) .0)
+    (f .followed .ensures p rows _ g (l .before .actions .inv .5 p rows g .0) (l .actions-test .taken) .broken (not-passed (f .followed .result) (c .if2 .taken)))
 
 returns-4 : tie.Need-returns-4 Inv-clashes μ-clashes Inv-actions μ-actions Inv-jobs μ-jobs
 returns-4 c = λ p rows g.
     let t = c .before .before in
     let r = t .before .before .before .before .before .before in
     let l = r .before in
-    not-apart p rows _ _ _ _ _ _ _ g _ _ (omega (arith, t .before .clashes .inv .1)) (place-within p rows _ _ _ _ _ _ _ g _ _ _ (l .before .actions .inv .5 p rows g .0) (l .actions-test .taken) .0)
+    not-apart p rows _ _ _ _ _ _ _ g _ _ (omega (arith, t .before .clashes .inv .1)) (place-within p rows _ _ _ _ _ _ g _ _ _ (l .before .actions .inv .5 p rows g .0) (l .actions-test .taken) .0)
     (sym (c .before .row-at2 .ensures .0) ∙ c .if3 .taken ∙ r .row-at .ensures .0)
 
 pub rules-kept-spec : {M : Type 1} → statement M
