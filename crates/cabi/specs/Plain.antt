@@ -6,15 +6,12 @@
 use Prim.Native.Nat.{ℕ}
 use mathlib.Core.Path.{_≡_}
 use mathlib.Core.List.{List}
-use lib.ListN.{length, take}
 use Rattle.plan.specs.Refusal.{Outcome, refused, accepted}
 use Rattle.plan.specs.Plan.{Plan}
 use Rattle.plan.specs.Reader.{readPlan}
 use Rattle.plan_measure.specs.declared.Measures.{Measures}
 use Rattle.runs.specs.declared.tally.Tally.{Tally}
-use Rattle.runs.specs.State.{Row}
-use Rattle.runs.specs.Schedule.{scheduleBytes}
-use Rattle.runs.specs.Claim.{Bounds}
+use Rattle.runs.specs.Claim.{Bounded}
 use Rattle.cabi.specs.declared.DwCount.{DwCount}
 use Rattle.cabi.specs.declared.DwMeasures.{DwMeasures}
 use Rattle.cabi.specs.declared.DwTally.{DwTally}
@@ -45,8 +42,7 @@ abbrev pub checkOf : Outcome ℕ → ℕ
 checkOf (refused k) = k
 checkOf (accepted n) = 0
 
--- where nothing is refused, the schedule begins with the bytes of rows of which, with the tally, the claim holds
+-- where nothing is refused, the plan was accepted, and the claim holds of the rows read off the schedule, with the tally
 abbrev pub Claimed : List ℕ → ℕ → DwTally → List ℕ → Type 0
 Claimed plan n r schedule =
-    r .refused ≡ 0 → (p : Plan) × (rows : List Row) × (t : Tally) × (readPlan plan ≡ accepted p) × (r ≡ tallyOf (accepted t))
-    × Bounds p n rows t × (take (length (scheduleBytes n rows)) schedule ≡ scheduleBytes n rows)
+    r .refused ≡ 0 → (p : Plan) × (t : Tally) × (readPlan plan ≡ accepted p) × (r ≡ tallyOf (accepted t)) × Bounded p n schedule t

@@ -1,10 +1,12 @@
 -- Demand 3, one claim about a whole run from its start to its end.
---   Bounds p n rows t == of the rows and the tally of a run of n workers on the plan p
---   Demand3           == for all accepted plan bytes, all worker counts 1 to 16 and all accepted lists of choices
+--   Bounds p n rows t   == of the rows and the tally of a run of n workers on the plan p
+--   Bounded p n bytes t == of a schedule's bytes, read for the plan p, and a tally
+--   Demand3             == for all accepted plan bytes, all worker counts 1 to 16 and all accepted lists of choices
 -- Assumes nothing.
-use Prim.Native.Nat.{ℕ, _*_, _≤_}
+use Prim.Native.Nat.{ℕ, _+_, _*_, _≤_}
 use mathlib.Core.Path.{_≡_}
 use mathlib.Core.List.{List}
+use lib.ListN.{take}
 use lib.Dec.{T}
 use Rattle.plan.specs.Refusal.{Outcome, accepted}
 use Rattle.plan.specs.Plan.{Plan, work}
@@ -13,6 +15,7 @@ use Rattle.plan_measure.specs.Measure.{longest, heaviest}
 use Rattle.runs.specs.declared.tally.Tally.{Tally}
 use Rattle.runs.specs.State.{Row, State}
 use Rattle.runs.specs.Run.{run, workersFit, choicesFit}
+use Rattle.runs.specs.Schedule.{readSchedule}
 use Rattle.runs.specs.Living.{weightAfter, peakOf, lastRound}
 
 pub record Bounds (p : Plan) (n : ℕ) (rows : List Row) (t : Tally) : Type 0 where
@@ -27,6 +30,12 @@ pub record Bounds (p : Plan) (n : ℕ) (rows : List Row) (t : Tally) : Type 0 wh
   -- the peak is the largest of those weights, the rounds the last round in the rows
   pub peak : t .peak ≡ peakOf p rows
   pub rounds : t .rounds ≡ lastRound rows
+
+-- the first 4 + 2 × T1 bytes are a schedule of n workers for the plan, and the bounds hold of its rows with the tally
+pub record Bounded (p : Plan) (n : ℕ) (schedule : List ℕ) (t : Tally) : Type 0 where
+  pub rows : List Row
+  pub read : readSchedule (take (4 + 2 * work p) schedule) (work p) ≡ accepted (record { workers = n; rows = rows })
+  pub bounds : Bounds p n rows t
 
 abbrev pub Demand3 : Type 0
 Demand3 =

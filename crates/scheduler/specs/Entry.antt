@@ -7,7 +7,7 @@ use Prim.Native.Nat.{ℕ}
 use mathlib.Core.Path.{_≡_}
 use mathlib.Core.Bool.{Bool, true, false}
 use mathlib.Core.List.{List, _++_}
-use lib.ListN.{length, take, drop}
+use lib.ListN.{length, drop}
 use lib.Dec.{leb}
 use Rattle.plan.specs.Refusal.{Outcome, refused, accepted, numberOf}
 use Rattle.plan.specs.Plan.{Plan}
@@ -15,10 +15,10 @@ use Rattle.plan.specs.Reader.{readPlan}
 use Rattle.runs.specs.declared.tally.Tally.{Tally}
 use Rattle.scheduler.specs.declared.run.Ran.{Ran}
 use Rattle.scheduler.specs.declared.run.Ran.the-variants.{Refused, Done}
-use Rattle.runs.specs.State.{Row, State}
+use Rattle.runs.specs.State.{State}
 use Rattle.runs.specs.Run.{runOf}
 use Rattle.runs.specs.Schedule.{scheduleBytes}
-use Rattle.runs.specs.Claim.{Bounds}
+use Rattle.runs.specs.Claim.{Bounded}
 
 pub record Result : Type 0 where
   pub answer : Outcome Tally
@@ -45,8 +45,7 @@ abbrev pub ranOf : Ran → Outcome Tally
 ranOf (Refused cause) = refused (numberOf cause)
 ranOf (Done t) = accepted t
 
--- the schedule begins with the bytes of rows of which, with the tally, the claim holds
+-- the plan was accepted, and the claim holds of the rows read off the schedule, with the tally
 abbrev pub Claimed : List ℕ → ℕ → Ran → List ℕ → Type 0
 Claimed plan n r schedule =
-    (t : Tally) → r ≡ Done t → (p : Plan) × (rows : List Row) × (readPlan plan ≡ accepted p) × Bounds p n rows t
-    × (take (length (scheduleBytes n rows)) schedule ≡ scheduleBytes n rows)
+    (t : Tally) → r ≡ Done t → (p : Plan) × (readPlan plan ≡ accepted p) × Bounded p n schedule t

@@ -7,15 +7,13 @@
 use Prim.Native.Nat.{ℕ}
 use mathlib.Core.Path.{_≡_}
 use mathlib.Core.List.{List}
-use lib.ListN.{length, take}
+use lib.ListN.{length}
 use Rattle.plan.specs.Refusal.{accepted}
 use Rattle.plan.specs.Plan.{Plan, work}
 use Rattle.plan.specs.Flat.{Entered}
 use Rattle.runs.specs.declared.tally.Tally.{Tally}
-use Rattle.runs.specs.State.{Row}
 use Rattle.runs.specs.Run.{admitted}
-use Rattle.runs.specs.Schedule.{scheduleBytes}
-use Rattle.runs.specs.Claim.{Bounds}
+use Rattle.runs.specs.Claim.{Bounded}
 use Rattle.scheduler.specs.declared.run.Ran.{Ran}
 use Rattle.scheduler.specs.declared.run.Ran.the-variants.{Done}
 use Rattle.scheduler.specs.Entry.{Result, resulted, ranOf}
@@ -30,4 +28,4 @@ pub record Loaded (p : Plan) (actions : ℕ) (frame first spawn join parent miss
 abbrev pub Answered : Plan → ℕ → List ℕ → List ℕ → Ran → List ℕ → Type 0
 Answered p n choices before r after =
     (_≡_ {A = Result} (record { answer = ranOf r; schedule = after }) (resulted (admitted (accepted p) n choices) n before))
-    × ((t : Tally) → r ≡ Done t → (rows : List Row) × Bounds p n rows t × (take (length (scheduleBytes n rows)) after ≡ scheduleBytes n rows))
+    × ((t : Tally) → r ≡ Done t → Bounded p n after t)

@@ -85,7 +85,7 @@ module _
   pub tally-accepted : (t : Tally) → r ≡ Done t
       → ((tallyOf (accepted t) ≡ tallyOf (runInto bytes n choices lent .answer)) × (l ≡ runInto bytes n choices lent .schedule)) × Claimed bytes n (tallyOf (accepted t)) l
   tally-accepted t e =
-      (rw (← ensures, e) (refl, refl), λ z. let b = claim t e in (b .0, b .1, t, b .2, refl, b .3, b .4))
+      (rw (← ensures, e) (refl, refl), λ z. let (p, read, bounded) = claim t e in (p, t, read, refl, bounded))
 
 module _ (o : Outcome ℕ) (r : Judged) (ensures : judgedOf r ≡ o) where
   pub check-refused : (cause : Refusal) (k : ℕ) → r ≡ NotKept cause → k ≡ numberOf cause → k ≡ checkOf o

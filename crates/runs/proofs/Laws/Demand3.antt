@@ -1,22 +1,28 @@
--- Demand 3, whole: the claim of specs/Claim.antt about every run.
+-- Demand 3, whole: the claim of specs/Claim.antt about every run, and about the schedule that it writes.
 -- Assumes nothing.
-use Prim.Native.Nat.{ℕ, _≤_}
-use mathlib.Core.Path.{_≡_, sym, _∙_}
-use mathlib.Core.List.{List}
+use Prim.Native.Nat.{ℕ, _+_, _*_, _≤_}
+use mathlib.Core.Path.{_≡_, sym, ap, _∙_}
+use mathlib.Core.List.{List, _++_}
 use native.Mathlib.Omega.{arith}
+use lib.ListN.{length}
+use lib.Seq.{take-at}
 use lib.Dec.{T, leb, leb→le}
 use Rattle.plan.specs.Test.{both}
 use Rattle.plan.specs.Refusal.{accepted}
-use Rattle.plan.specs.Plan.{Plan}
+use Rattle.plan.specs.Plan.{Plan, work}
 use Rattle.plan.specs.Reader.{readPlan}
 use Rattle.runs.specs.Run.{run, workersFit, choicesFit}
-use Rattle.runs.specs.Claim.{Bounds, Demand3}
+use Rattle.runs.specs.Schedule.{scheduleBytes, readSchedule}
+use Rattle.runs.specs.Claim.{Bounds, Bounded, Demand3}
 use Rattle.plan.proofs.Laws.Lists.{both-left, both-right}
 use Rattle.plan.specs.Rules.{Accepted}
 use Rattle.plan.proofs.Laws.Accepted.{accepted-kept}
-use Rattle.runs.proofs.Laws.Whole.{run-trace, rounds-most, lone-rounds}
+use Rattle.plan.proofs.Laws.Valid.{work-range}
+use Rattle.runs.proofs.Laws.Whole.{run-trace, round-most, rounds-most, lone-rounds}
 use Rattle.runs.proofs.Laws.Rounds.{began-busy}
+use Rattle.runs.proofs.Laws.Rows.{rows-length}
 use Rattle.runs.proofs.Laws.Order.{last-round, least-rounds}
+use Rattle.runs.proofs.Laws.OwnSchedule.{schedule-length, run-schedule}
 use Rattle.runs.proofs.Laws.Peak.{run-space, run-peak, lone-peak}
 
 workers-range : (n : ℕ) → T (workersFit n) → (1 ≤ n) × (n ≤ 16)
@@ -35,6 +41,20 @@ run-bounds p ok n some most choices =
       lone-rounds = lone-rounds p ok n some most choices;
       peak = run-peak p ok n some most choices t e;
       rounds = q ∙ sym (last-round p ok n some most choices t e w j h i);
+    }
+
+-- of bytes that begin with a run's schedule
+pub run-bounded : (p : Plan) → Accepted p → (n : ℕ) → 1 ≤ n → n ≤ 16 → (choices rest : List ℕ)
+    → Bounded p n (scheduleBytes n (run p n choices .rows) ++ rest) (run p n choices .tally)
+run-bounded p ok n some most choices rest =
+    let out = scheduleBytes n (run p n choices .rows) in
+    let (r, b, t, e, q) = run-trace p ok n some most choices in
+    let few : r ≤ 4095 = omega (arith, round-most p ok n some most choices t, work-range p ok) in
+    let long : length out ≡ 4 + 2 * work p = schedule-length n (run p n choices .rows) ∙ ap (λ k. 4 + 2 * k) (rows-length p ok n some most choices t) in
+    record {
+      rows = run p n choices .rows;
+      read = ap (λ l. readSchedule l (work p)) (take-at out rest (4 + 2 * work p) long) ∙ run-schedule p ok n some most choices t e few;
+      bounds = run-bounds p ok n some most choices;
     }
 
 pub demand3 : Demand3

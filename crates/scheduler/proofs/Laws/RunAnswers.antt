@@ -6,7 +6,7 @@ use mathlib.Core.Bool.{true, false}
 use mathlib.Core.List.{List, [], _++_, append-nil}
 use native.Mathlib.Omega.{arith}
 use lib.ListN.{length, take, drop, length-drop}
-use lib.Seq.{take-at, take-all, drop-length}
+use lib.Seq.{take-all, drop-length}
 use lib.Dec.{leb, leb→le, le→leb}
 use borrow.Author.Tests.{le-leb, lt-leb}
 use Rattle.plan.specs.declared.refusal.Refusal.{Refusal}
@@ -27,7 +27,7 @@ use Rattle.scheduler.specs.Entry.{Result, resulted, runInto, ranOf, Clai
 use Rattle.scheduler.specs.Machine.{RunGiven, Printed, Kept as RowsKept}
 use Rattle.scheduler.specs.Loaded.{Loaded, Answered}
 use Rattle.scheduler.specs.Header.{headerBytes}
-use Rattle.runs.proofs.Laws.Demand3.{run-bounds}
+use Rattle.runs.proofs.Laws.Demand3.{run-bounded}
 use Rattle.scheduler.proofs.Laws.RunBytes.{run-fits, run-written}
 
 -- the arrays that were read are those that the run is given
@@ -65,7 +65,7 @@ module _ (bytes : List ℕ) (n : ℕ) (choices schedule : List ℕ) where
       → Answers bytes n choices schedule r after
   unfolding runInto runOf
   answers-read p r after e (a, claimed) =
-      (a ∙ ap (λ o. resulted (admitted o n choices) n schedule) (sym e), λ t q. let (rows, b, w) = claimed t q in (p, rows, e, b, w))
+      (a ∙ ap (λ o. resulted (admitted o n choices) n schedule) (sym e), λ t q. (p, e, claimed t q))
 
 module _ (p : Plan) (actions : ℕ) (frame first spawn join parent missing : List ℕ) (g : Loaded p actions frame first spawn join parent missing) where
   pub loaded-few : actions ≤ 2048
@@ -154,10 +154,5 @@ module _ (p : Plan) (actions : ℕ) (frame first spawn join parent missing : Lis
               ap₂ _++_ (ap (take 4) e) (ap (λ l. rows ++ l) behind ∙ append-nil rows)
               ∙ (ap (λ a. headerBytes n a ++ rows) (g .all) ∙ run-written p ok n some most choices schedule rows printed (rw part at kept)) in (
                 rw (q, x, ran, resulted, le-leb _ _ fit),
-                λ u v.
-                    let same : u ≡ s .tally = cc in (
-                      s .rows,
-                      rw same (run-bounds p ok n some most choices),
-                      rw x (take-at out (drop (length out) schedule) (length out) refl),
-                    ),
+                λ u v. let same : u ≡ s .tally = cc in rw (same, x) (run-bounded p ok n some most choices (drop (length out) schedule)),
               )
