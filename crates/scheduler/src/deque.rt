@@ -2,7 +2,7 @@
 // place `top[w]` on: its top job is the first of them and its bottom job the last.
 ghost use mathlib.Core.Path.{_≡_};
 ghost use mathlib.Core.List.{List, [], _∷_};
-ghost use Prim.Native.Nat.{ℕ, _<_};
+ghost use Prim.Native.Nat.{ℕ, _+_, _-_, _*_, _≤_, _<_};
 ghost use lib.ListN.{getD, set};
 ghost use Rattle.runs.specs.Turn.{takeBottom};
 ghost use Rattle.scheduler.specs.Machine.{Dequed, Given};
@@ -25,6 +25,21 @@ pub fn push(slots: &mut [u8; 4096], top: &mut [u16; 16], len: &mut [u16; 16], w:
     len[w] = (n + 1) as u16;
 }
 
+// Where the two ends of deque w stand, which has n jobs from its place `at` on.
+fn top_place(w: usize, at: usize, n: usize) -> usize
+    requires { ⌜ (w < 16) × (0 < n) × (at + n ≤ 256) ⌝ }
+    ensures { λ r. ⌜ r ≡ w * 256 + at ⌝ }
+{
+    w * 256 + at
+}
+
+fn bottom_place(w: usize, at: usize, n: usize) -> usize
+    requires { ⌜ (w < 16) × (0 < n) × (at + n ≤ 256) ⌝ }
+    ensures { λ r. ⌜ r ≡ w * 256 + (at + (n - 1)) ⌝ }
+{
+    w * 256 + (at + (n - 1))
+}
+
 // Takes the bottom job of deque w: the worker that then holds it, or has none.
 pub fn take_bottom(slots: &[u8; 4096], top: &[u16; 16], len: &mut [u16; 16], w: usize) -> Worker
     requires { ⌜ ((ds : List (List ℕ)) × Dequed ds (now slots) (now top) (now len) × (w < 16)) ⌝ }
@@ -35,7 +50,7 @@ pub fn take_bottom(slots: &[u8; 4096], top: &[u16; 16], len: &mut [u16; 16], w: 
         return Worker::Idle;
     }
     len[w] = (n - 1) as u16;
-    Worker::Holding(slots[w * 256 + (wide16(top[w]) + (n - 1))])
+    Worker::Holding(slots[bottom_place(w, wide16(top[w]), n)])
 }
 
 // Takes the top job of deque v: the worker that then holds it, or has none.
@@ -50,5 +65,5 @@ pub fn take_top(slots: &[u8; 4096], top: &mut [u16; 16], len: &mut [u16; 16], v:
     let at = wide16(top[v]);
     top[v] = (at + 1) as u16;
     len[v] = (n - 1) as u16;
-    Worker::Holding(slots[v * 256 + at])
+    Worker::Holding(slots[top_place(v, at, n)])
 }

@@ -4,6 +4,7 @@ use Prim.Native.Nat.{ℕ, zero, suc, _+_, _-_, _*_, _≤_, _<_}
 use mathlib.Core.Path.{_≡_, refl, ap, sym, _∙_}
 use mathlib.Core.Logic.{_≢_, by-cases}
 use mathlib.Core.List.{List, [], _∷_}
+use native.Mathlib.Numerals.{add-one}
 use native.Mathlib.Omega.{arith}
 use native.Mathlib.Decide.{ℕ-discrete}
 use lib.ListN.{length, getD, set, length-set}
@@ -126,12 +127,12 @@ module _ {ds : List (List ℕ)} {slots top len : List ℕ} (q : Dequed ds slots 
       rw z (refl, q)
 
   pub top-taken : (n : ℕ) → n ≡ getD len w 0 → n ≢ 0
-      → Given ds w (getD ds w []) (Holding (getD slots (w * 256 + getD top w 0) 0)) slots (set top w (suc (getD top w 0))) (set len w (n - 1))
+      → Given ds w (getD ds w []) (Holding (getD slots (w * 256 + getD top w 0) 0)) slots (set top w (getD top w 0 + 1)) (set len w (n - 1))
   top-taken zero e f = absurd (f refl)
   top-taken (suc m) e f =
       let t = getD top w 0 in
       let z : suc m - 1 ≡ m = omega arith in
-      rw (z, ← deque-of (suc m) e) (
+      rw (z, add-one, ← deque-of (suc m) e) (
         ap Holding (sym (deque-top slots w t m)),
         deque-changed slots (suc t) m (dropTop (dequeAt slots w t (suc m))) (q .long .0)
             (λ v i g l. refl) (sym (deque-drop slots w t m)) (λ i l. next i (omega arith)) (omega (arith, q .room w h)),

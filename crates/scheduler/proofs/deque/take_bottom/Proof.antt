@@ -30,9 +30,6 @@ mul-len c = search needs
 element-write-len : tie.Need-element-write-len
 element-write-len c = search needs
 
-mul-t6 : tie.Need-mul-t6
-mul-t6 c = search needs
-
 mul-wide16-2 : tie.Need-mul-wide16-2
 mul-wide16-2 c = search needs
 
@@ -42,24 +39,22 @@ element-copy-out-wide16-2 c = search needs
 wide16-requires-2 : tie.Need-wide16-requires-2
 wide16-requires-2 c κs = search needs
 
-sub-t17 : tie.Need-sub-t17
-sub-t17 c = search needs
+bottom-place-requires : tie.Need-bottom-place-requires
+bottom-place-requires c κs =
+    let a = c .before .before .before .before .before in
+    (a .pre .2, omega arith, omega (arith, a .pre .1 .room (a .args .w) (a .pre .2)))
 
-add-t18 : tie.Need-add-t18
-add-t18 c = search needs
-
-add-t19 : tie.Need-add-t19
-add-t19 c = search needs
-
-element-copy-out-t22 : tie.Need-element-copy-out-t22
-element-copy-out-t22 c = let a = c .before .before .before .before .before in omega (arith, a .pre .1 .room (a .args .w) (a .pre .2))
+element-copy-out-t19 : tie.Need-element-copy-out-t19
+element-copy-out-t19 c =
+    let a = c .before .before .before .before .before .before in
+    omega (arith, c .bottom-place .ensures, a .pre .1 .room (a .args .w) (a .pre .2))
 
 returns-2 : tie.Need-returns-2
 returns-2 c ds q =
-    let a = c .before .before .before .before .before .before in
-    rw (c .before .wide162 .ensures .0)
-    (bottom-taken q (a .args .w) (a .pre .2) (c .before .before .before .before .wide16 .result) (c .before .before .before .before .wide16 .ensures .0)
-    (c .before .before .before .if1 .left))
+    let a = c .before .before .before .before .before .before .before in
+    let n = c .before .before .before .before .before .wide16 in
+    rw (c .before .bottom-place .ensures, c .before .before .wide162 .ensures .0)
+    (bottom-taken q (a .args .w) (a .pre .2) (n .result) (n .ensures .0) (c .before .before .before .before .if1 .left))
 
 pub take-bottom-spec : {M : Type 1} → statement M
 take-bottom-spec =
@@ -73,12 +68,9 @@ take-bottom-spec =
     cast-len
     mul-len
     element-write-len
-    mul-t6
     mul-wide16-2
     element-copy-out-wide16-2
     wide16-requires-2
-    sub-t17
-    add-t18
-    add-t19
-    element-copy-out-t22
+    bottom-place-requires
+    element-copy-out-t19
     returns-2)

@@ -1,6 +1,5 @@
 -- `scheduler::deque::take_top` meets its contract. Assumes nothing.
 use mathlib.Core.Path.{sym, _∙_}
-use native.Mathlib.Numerals.{add-one}
 use native.Mathlib.Omega.{arith}
 use Rattle.scheduler.proofs.Laws.FlatDeques.{top-none, top-taken}
 use borrow.Author.Needs.{needs}
@@ -52,21 +51,22 @@ mul-len c = search needs
 element-write-len : tie.Need-element-write-len
 element-write-len c = search needs
 
-mul-t7 : tie.Need-mul-t7
-mul-t7 c = search needs
-
-add-t14 : tie.Need-add-t14
-add-t14 c = search needs
+top-place-requires : tie.Need-top-place-requires
+top-place-requires c κs =
+    let a = c .before .before .before .before .before in
+    (a .pre .2, omega arith, omega (arith, a .pre .1 .room (a .args .v) (a .pre .2)))
 
 element-copy-out-t21 : tie.Need-element-copy-out-t21
-element-copy-out-t21 c = let a = c .before .before .before .before .before in omega (arith, a .pre .1 .room (a .args .v) (a .pre .2))
+element-copy-out-t21 c =
+    let a = c .before .before .before .before .before .before in
+    omega (arith, c .top-place .ensures, a .pre .1 .room (a .args .v) (a .pre .2))
 
 returns-2 : tie.Need-returns-2
 returns-2 c ds q =
-    let a = c .before .before .before .before .before .before in
-    rw (add-one, c .before .wide162 .ensures .0)
-    (top-taken q (a .args .v) (a .pre .2) (c .before .before .before .before .wide16 .result) (c .before .before .before .before .wide16 .ensures .0)
-    (c .before .before .before .if1 .left))
+    let a = c .before .before .before .before .before .before .before in
+    let n = c .before .before .before .before .before .wide16 in
+    rw (c .before .top-place .ensures, c .before .before .wide162 .ensures .0)
+    (top-taken q (a .args .v) (a .pre .2) (n .result) (n .ensures .0) (c .before .before .before .before .if1 .left))
 
 pub take-top-spec : {M : Type 1} → statement M
 take-top-spec =
@@ -87,7 +87,6 @@ take-top-spec =
     cast-len
     mul-len
     element-write-len
-    mul-t7
-    add-t14
+    top-place-requires
     element-copy-out-t21
     returns-2)
