@@ -86,9 +86,10 @@ fn settle(
 {
     if k + 1 == wide16(first[j + 1]) {
         let worker = take_bottom(slots, top, len, w);
+        let lighter = weight - units(frame[j]);
         return Turned {
             worker,
-            weight: weight - units(frame[j]),
+            weight: lighter,
         };
     }
     if missing[k + 1] == 0 {
@@ -126,9 +127,11 @@ pub fn act(
     let child = wide16(spawn[k]);
     if child != 0 {
         push(slots, top, len, w, narrow(j));
+        let worker = Worker::Holding(narrow(child - 1));
+        let heavier = weight + units(frame[child - 1]);
         return Turned {
-            worker: Worker::Holding(narrow(child - 1)),
-            weight: weight + units(frame[child - 1]),
+            worker,
+            weight: heavier,
         };
     }
     settle(k, j, w, weight, frame, first, missing, slots, top, len)

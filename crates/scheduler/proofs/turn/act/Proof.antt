@@ -83,8 +83,8 @@ element-copy-out-units c = search needs
 units-requires : tie.Need-units-requires
 units-requires c κs = search needs
 
-add-t48 : tie.Need-add-t48
-add-t48 c =
+add-heavier : tie.Need-add-heavier
+add-heavier c =
     let t = c .before .before .before .before .before .before .before .before in
     let a = t .before .before .before .before .before .before .before .before .before .before .before .before .pre .6 in
     omega (arith, c .units .ensures, acting-heavier a _ _ (t .before .wide162 .ensures .0) (omega (arith, t .if1 .taken)) refl)
@@ -139,7 +139,7 @@ act-spec =
     mul-units
     element-copy-out-units
     units-requires
-    add-t48
+    add-heavier
     returns
     settle-requires
     returns-2)

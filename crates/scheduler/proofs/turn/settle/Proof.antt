@@ -38,8 +38,8 @@ element-copy-out-units c = acting-room (c .before .before .before .before .befor
 units-requires : tie.Need-units-requires
 units-requires c κs = search needs
 
-sub-t27 : tie.Need-sub-t27
-sub-t27 c =
+sub-lighter : tie.Need-sub-lighter
+sub-lighter c =
     let t = c .before .before .before .before in
     omega (arith, c .units .ensures, settle-lighter (c .before .before .before .before .before .before .before .pre .7) (t .if1 .taken ∙ t .before .wide16 .ensures .0))
 
@@ -86,7 +86,7 @@ settle-spec =
     mul-units
     element-copy-out-units
     units-requires
-    sub-t27
+    sub-lighter
     returns
     add-if2
     element-copy-out-if2
