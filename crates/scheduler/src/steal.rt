@@ -82,6 +82,14 @@ fn idle_at(code: u16) -> bool
     }
 }
 
+// The choice of the request whose place among the choices is `at`, whichever worker lays it.
+fn choice_at(at: usize, choices: &[u8]) -> u8
+    requires { ⌜ at < length (now choices) ⌝ }
+    ensures { λ r. ⌜ r ≡ getD (now (choices .entry)) at 0 ⌝ }
+{
+    choices[at]
+}
+
 // Worker w, which was idle as the round began, lays a request.
 fn lay(
     account: Account,
@@ -97,7 +105,7 @@ fn lay(
     ensures { λ a. ⌜ ((p : Plan) (n : ℕ) (b : List Worker) (s : State) → InRun p n (now (choices .entry)) round b (laying w) s → Manned p s account (now (seats .entry)) → getD b w Idle ≡ Idle → Pointed (now (choices .entry)) s (now (cursor .entry)) → Queued (round * 16 + w) (s .workers) (now (after .entry)) (now (last .entry)) → w < n → Manned p (layOf (now (choices .entry)) round w (getD b w Idle) s) a (now (seats .exit)) × Pointed (now (choices .entry)) (layOf (now (choices .entry)) round w (getD b w Idle) s) (now (cursor .exit)) × Queued (suc (round * 16 + w)) (layOf (now (choices .entry)) round w (getD b w Idle) s .workers) (now (after .exit)) (now (last .exit))) ⌝ }
 {
     let at = *cursor;
-    let victim = choices[at];
+    let victim = choice_at(at, choices);
     let worker = Worker::Waiting {
         victim,
         laid: round as u16,
@@ -230,6 +238,14 @@ fn give(
     }
 }
 
+// The first in line at victim v: its worker's number plus 1, or 0 where nobody asks.
+fn first_at(v: usize, after: &[u8; 32]) -> usize
+    requires { ⌜ v < 16 ⌝ }
+    ensures { λ r. ⌜ (r ≡ getD (now (after .entry)) (16 + v) 0) × (r < 256) ⌝ }
+{
+    wide8(after[16 + v])
+}
+
 fn serve(
     account: Account,
     v: usize,
@@ -243,7 +259,7 @@ fn serve(
     requires { ⌜ ((p : Plan) × (n : ℕ) × (choices : List ℕ) × (r : ℕ) × (b : List Worker) × (hi : ℕ) × (s : State) × InRun p n choices r b (serving v) s × (v < n) × Manned p s account (now seats) × Queued hi (s .workers) (now after) (now last) × Dequed (s .deques) (now slots) (now top) (now len)) ⌝ }
     ensures { λ a. ⌜ ((p : Plan) (n : ℕ) (choices : List ℕ) (r : ℕ) (b : List Worker) (hi : ℕ) (s : State) → InRun p n choices r b (serving v) s → (v < n) → Manned p s account (now (seats .entry)) → Queued hi (s .workers) (now (after .entry)) (now (last .entry)) → Dequed (s .deques) (now (slots .entry)) (now (top .entry)) (now (len .entry)) → Manned p (serveOf v (oldest v n (s .workers) .who) s) a (now (seats .exit)) × Queued hi (serveOf v (oldest v n (s .workers) .who) s .workers) (now (after .exit)) (now (last .exit)) × Dequed (serveOf v (oldest v n (s .workers) .who) s .deques) (now (slots .entry)) (now (top .exit)) (now (len .exit))) × ((u : ℕ) → u ≢ v → getD (now (after .exit)) (16 + u) 0 ≡ getD (now (after .entry)) (16 + u) 0) ⌝ }
 {
-    let who = wide8(after[16 + v]);
+    let who = first_at(v, after);
     if who == 0 {
         return account;
     }

@@ -1,12 +1,14 @@
 // A worker's turn (document 01, "Worker and round", rules 1 to 3).
 ghost use mathlib.Core.Path.{_≡_};
-ghost use mathlib.Core.List.{List};
+ghost use mathlib.Core.Logic.{_≢_};
+ghost use mathlib.Core.List.{List, [], _∷_};
 ghost use Prim.Native.Nat.{ℕ, _<_};
+ghost use lib.ListN.{getD, set};
 ghost use Rattle.plan.specs.Plan.{Plan};
 ghost use Rattle.runs.specs.declared.worker.Worker.{Worker};
 ghost use Rattle.runs.specs.State.{State};
 ghost use Rattle.runs.specs.Turn.{turn};
-ghost use Rattle.scheduler.specs.Machine.{Acting, Acted};
+ghost use Rattle.scheduler.specs.Machine.{Dequed, Acting, Acted};
 ghost use Rattle.scheduler.specs.TurnParts.{Sending, Sent, Settling};
 use crate::deque::push;
 use crate::deque::take_bottom;
@@ -68,6 +70,24 @@ fn send(
     push(slots, top, len, w, parent[j]);
 }
 
+// 2. The action spawned `child` less 1, or none where that is 0: job j, which spawned, goes on the bottom of deque w.
+fn leave(
+    child: usize,
+    j: usize,
+    w: usize,
+    slots: &mut [u8; 4096],
+    top: &mut [u16; 16],
+    len: &mut [u16; 16],
+)
+    requires { ⌜ ((ds : List (List ℕ)) × Dequed ds (now slots) (now top) (now len) × (w < 16) × (j < 256) × ((x : ℕ) (d : List ℕ) → getD ds w [] ≡ x ∷ d → x < j)) ⌝ }
+    ensures { λ _. ⌜ ((ds : List (List ℕ)) → Dequed ds (now (slots .entry)) (now (top .entry)) (now (len .entry)) → (child ≡ 0 → Dequed ds (now (slots .exit)) (now (top .exit)) (now (len .exit))) × (child ≢ 0 → Dequed (set ds w (j ∷ getD ds w [])) (now (slots .exit)) (now (top .exit)) (now (len .exit)))) ⌝ }
+{
+    if child == 0 {
+        return;
+    }
+    push(slots, top, len, w, narrow(j));
+}
+
 // 3, where the action did not spawn: the job goes on, or the worker takes the bottom job of its own deque, or has none.
 fn settle(
     k: usize,
@@ -123,10 +143,10 @@ pub fn act(
     ensures { λ a. ⌜ ((p : Plan) (n : ℕ) (choices : List ℕ) (r : ℕ) (b : List Worker) (s : State) → Acting p n choices r b s k j w weight (now (frame .entry)) (now (first .entry)) (now (spawn .entry)) (now (join .entry)) (now (parent .entry)) (now (next .entry)) (now (missing .entry)) (now (slots .entry)) (now (top .entry)) (now (len .entry)) → Acted p (turn p r w j s) w a (now (next .exit)) (now (missing .exit)) (now (slots .exit)) (now (top .exit)) (now (len .exit))) ⌝ }
 {
     next[j] = narrow(k - wide16(first[j]) + 1);
-    send(k, j, w, first, join, parent, next, missing, slots, top, len);
     let child = wide16(spawn[k]);
+    send(k, j, w, first, join, parent, next, missing, slots, top, len);
+    leave(child, j, w, slots, top, len);
     if child != 0 {
-        push(slots, top, len, w, narrow(j));
         let worker = Worker::Holding(narrow(child - 1));
         let heavier = weight + units(frame[child - 1]);
         return Turned {

@@ -53,20 +53,23 @@ module _ {p : Plan} {n : ℕ} {choices : List ℕ} {r : ℕ} {b : List Worker} {
         dequed = rw e d;
       }
 
-  -- the bottom job of the worker's deque after rule 1 is of smaller number than the job that acts
+  -- the bottom job of the worker's deque is of smaller number than the job that acts
+  pub found-low : (x : ℕ) (d : List ℕ) → dequeOf s w ≡ x ∷ d → x < j
+  found-low x d e =
+      let c : Chain (shape p) (j ∷ (x ∷ d)) = rw e at (sound-chain p ok n s (acting-sound a) w j (a .holding)) in
+      omega (arith, c .1, older p ok j (c .0) (acting-job a .0))
+
+  -- and after rule 1 too
   pub above-low : (x : ℕ) (d : List ℕ) → getD (set (s .deques) w (aboveOf p s w j)) w [] ≡ x ∷ d → x < j
   above-low x d e = go (wakes p (s .next) (afterOf s j) j (nextOf s j)) refl (sym (getD-set-same (s .deques) w (aboveOf p s w j) [] stored) ∙ e)
     where
-      below : 1 ≤ j → parentOf p j ≡ x → x < j
-      below o q = omega (arith, older p ok j o (acting-job a .0))
-
       go : (v : Bool) → wakes p (s .next) (afterOf s j) j (nextOf s j) ≡ v → woken v (parentOf p j) (dequeOf s w) ≡ x ∷ d → x < j
       go true y q =
           let k = wakes-is p ok n (a .run .most) s (acting-sound a) w j (a .holding) (rw y tt) in
-          below (join-target p ok j (nextOf s j) (nextOf s (parentOf p j)) (acting-job a .0) (acting-job a .1) (k .sends) .0) (cc)
-      go false y q =
-          let c : Chain (shape p) (j ∷ (x ∷ d)) = rw q at (sound-chain p ok n s (acting-sound a) w j (a .holding)) in
-          below (c .0) (c .1)
+          let o = join-target p ok j (nextOf s j) (nextOf s (parentOf p j)) (acting-job a .0) (acting-job a .1) (k .sends) .0 in
+          let e : parentOf p j ≡ x = cc in
+          omega (arith, older p ok j o (acting-job a .0))
+      go false y q = found-low x d q
 
   -- the action is counted, and rule 1 comes next
   pub acting-sends : (f v : ℕ) → f ≡ getD first j 0 → v ≡ k - f + 1 → Sending p n choices r b s k j w first join parent (set next j v) missing slots top len
@@ -107,11 +110,11 @@ module _ {p : Plan} {n : ℕ} {choices : List ℕ} {r : ℕ} {b : List Worker} {
         let z = acting-child .0 in
         omega (arith, a .weighed, weight-small p ok (s .next), frame-at p frame (a .planned .frames) c z, frame-range p ok c z)
 
-    pub acting-spawns : (t : Turned) (y : ℕ) {next′ missing′ slots′ top′ len′ : List ℕ} → t .worker ≡ Holding c → t .weight ≡ weighs + getD frame c 0 → y ≡ j
+    pub acting-spawns : (t : Turned) {next′ missing′ slots′ top′ len′ : List ℕ} → t .worker ≡ Holding c → t .weight ≡ weighs + getD frame c 0
         → Progressed p (afterOf s j) next′ missing′
-        → Dequed (set (set (s .deques) w (aboveOf p s w j)) w (y ∷ getD (set (s .deques) w (aboveOf p s w j)) w [])) slots′ top′ len′
+        → Dequed (set (set (s .deques) w (aboveOf p s w j)) w (j ∷ getD (set (s .deques) w (aboveOf p s w j)) w [])) slots′ top′ len′
         → Acted p (turn p r w j s) w t next′ missing′ slots′ top′ len′
-    acting-spawns t y h z q g d =
+    acting-spawns t h z g d =
         seated (record { worker = Holding c; deque = j ∷ aboveOf p s w j })
         (seat-spawn p (afterOf s j) j (nextOf s j) (aboveOf p s w j) c spawns) t h
         (omega (
@@ -120,7 +123,7 @@ module _ {p : Plan} {n : ℕ} {choices : List ℕ} {r : ℕ} {b : List Worker} {
           frame-at p frame (a .planned .frames) c (acting-child .0),
           weight-spawn (a .run) w j (a .holding) c spawns,
         ))
-        g (rw (set-set, getD-set-same (s .deques) w (aboveOf p s w j) [] stored, q) at d)
+        g (rw (set-set, getD-set-same (s .deques) w (aboveOf p s w j) [] stored) at d)
 
 -- 3. it spawns none
 module _ {p : Plan} {n : ℕ} {choices : List ℕ} {r : ℕ} {b : List Worker} {s : State} {k j w weighs : ℕ} {frame first next missing slots top len : List ℕ}

@@ -20,8 +20,8 @@ chooses c =
     let (p, n, b, s, run, manned, idle, pointed, queued, h) = c .pre in
     rw pointed (mod-lt (s .tally .requests) (run-choices run (c .args .w) h idle))
 
-shared-slice-read-victim : tie.Need-shared-slice-read-victim
-shared-slice-read-victim c = chooses (c .before .before .before)
+choice-at-requires : tie.Need-choice-at-requires
+choice-at-requires c κs = chooses (c .before .before)
 
 cast-seats : tie.Need-cast-seats
 cast-seats c = omega (arith, run-counts (c .before .before .before .pre .4))
@@ -30,7 +30,7 @@ code-of-requires : tie.Need-code-of-requires
 code-of-requires c κs =
     let o = c .before .before .before in
     let (p, n, b, s, run, manned, idle, pointed, queued, h) = o .pre in
-    rw pointed (laid-fits (o .args .w) run h idle manned)
+    rw (c .choice-at .ensures, pointed) (laid-fits (o .args .w) run h idle manned)
 
 mul-seats : tie.Need-mul-seats
 mul-seats c = omega (arith, below (c .before .before .before .before))
@@ -46,7 +46,7 @@ line-up-requires c κs =
     let o = c .before .before .before .before .before .before .before in
     let (p, n, b, s, run, manned, idle, pointed, queued, h) = o .pre in
     let fits = laid-fits (o .args .w) run h idle manned in
-    (_, s .workers, queued, rw (c .before .before .wide8 .ensures .0, pointed) (fits .0), below o)
+    (_, s .workers, queued, rw (c .before .before .wide8 .ensures .0, c .before .before .before .before .choice-at .ensures, pointed) (fits .0), below o)
 
 onward-requires : tie.Need-onward-requires
 onward-requires c κs = (chooses (c .before .before .before .before .before .before .before .before), run-few (c .before .before .before .before .before .before .before .before .pre .4))
@@ -62,19 +62,20 @@ returns c =
     λ p n b s run manned idle pointed queued h.
     let there = below o in
     let sixteen = run-sound run .workers in
+    let chosen = c .before .before .before .before .before .before .before .choice-at .ensures in
     let lined = c .before .before .line-up .ensures _ (s .workers) (o .args .round) queued sixteen (laying-calm (o .args .w) run idle) (le-refl _) in
     rw (idle, c .before .before .before .before .before .before .code-of .ensures) (
-      rw pointed (laid-manned p s (o .args .account) _ sixteen manned (o .args .w) there (o .args .choices .now) (o .args .round) _ (c .asked .ensures)),
+      rw (chosen, pointed) (laid-manned p s (o .args .account) _ sixteen manned (o .args .w) there (o .args .choices .now) (o .args .round) _ (c .asked .ensures)),
       laid-pointed p s (o .args .account) _ sixteen manned (o .args .w) there (o .args .choices .now) (o .args .round) _
           (c .before .onward .ensures (s .tally .requests) pointed),
-      lay-queued (o .args .choices .now) (o .args .round) (o .args .w) _ s _ _ (rw (c .before .before .before .before .before .wide8 .ensures .0, pointed) at lined),
+      lay-queued (o .args .choices .now) (o .args .round) (o .args .w) _ s _ _ (rw (c .before .before .before .before .before .wide8 .ensures .0, chosen, pointed) at lined),
     )
 
 pub lay-spec : {M : Type 1} → statement M
 lay-spec =
     tie.close
     (tie.spec
-    shared-slice-read-victim
+    choice-at-requires
     cast-seats
     code-of-requires
     mul-seats

@@ -3,7 +3,6 @@ use Prim.Native.Nat.{ℕ, suc, _-_, _<_}
 use mathlib.Core.Path.{_≡_, refl, sym, _∙_}
 use mathlib.Core.List.{List}
 use native.Mathlib.Omega.{arith}
-use borrow.Author.Needs.{needs}
 use Rattle.plan.specs.Plan.{Plan}
 use Rattle.runs.specs.declared.worker.Worker.{Worker}
 use Rattle.runs.specs.State.{State}
@@ -17,21 +16,15 @@ use Rattle.scheduler.proofs.Laws.Picks.{first-oldest, serve-queued}
 use Rattle.scheduler.proofs.steal.serve.Statement.{statement}
 use Rattle.scheduler.proofs.steal.serve.Tie as tie
 
-add-wide8 : tie.Need-add-wide8
-add-wide8 c = omega (arith, c .pre .7 .most, c .pre .8)
-
-element-copy-out-wide8 : tie.Need-element-copy-out-wide8
-element-copy-out-wide8 c = omega (arith, c .pre .7 .most, c .pre .8)
-
-wide8-requires : tie.Need-wide8-requires
-wide8-requires c κs = search needs
+first-at-requires : tie.Need-first-at-requires
+first-at-requires c κs = omega (arith, c .before .pre .7 .most, c .before .pre .8)
 
 -- what was read is the pick
-reads : (c : tie.After-wide8) (p : Plan) (n : ℕ) (choices : List ℕ) (r : ℕ) (b : List Worker) (hi : ℕ) (s : State)
+reads : (c : tie.After-first-at) (p : Plan) (n : ℕ) (choices : List ℕ) (r : ℕ) (b : List Worker) (hi : ℕ) (s : State)
     → InRun p n choices r b (serving (c .before .before .args .v)) s → c .before .before .args .v < n
     → Queued hi (s .workers) (c .before .before .args .after .now) (c .before .before .args .last .now)
-    → c .wide8 .result ≡ oldest (c .before .before .args .v) n (s .workers) .who
-reads c p n choices r b hi s run known queued = c .wide8 .ensures .0 ∙ first-oldest run known queued
+    → c .first-at .result ≡ oldest (c .before .before .args .v) n (s .workers) .who
+reads c p n choices r b hi s run known queued = c .first-at .ensures .0 ∙ first-oldest run known queued
 
 returns : tie.Need-returns
 unfolding serve
@@ -44,7 +37,7 @@ returns c = (
 picks : (c : tie.Else1) (p : Plan) (n : ℕ) (choices : List ℕ) (r : ℕ) (b : List Worker) (hi : ℕ) (s : State)
     → InRun p n choices r b (serving (c .before .before .before .args .v)) s → c .before .before .before .args .v < n
     → Queued hi (s .workers) (c .before .before .before .args .after .now) (c .before .before .before .args .last .now)
-    → suc (c .before .wide8 .result - 1) ≡ oldest (c .before .before .before .args .v) n (s .workers) .who
+    → suc (c .before .first-at .result - 1) ≡ oldest (c .before .before .before .args .v) n (s .workers) .who
 picks c p n choices r b hi s run known queued =
     let e = reads (c .before) p n choices r b hi s run known queued in omega (arith, c .if1 .left)
 
@@ -101,9 +94,7 @@ pub serve-spec : {M : Type 1} → statement M
 serve-spec =
     tie.close
     (tie.spec
-    add-wide8
-    element-copy-out-wide8
-    wide8-requires
+    first-at-requires
     returns
     sub-step-up
     step-up-requires

@@ -11,6 +11,25 @@ use Rattle.scheduler.proofs.Laws.Settling.{above-low, acting-sends, act
 use Rattle.scheduler.proofs.turn.act.Statement.{statement}
 use Rattle.scheduler.proofs.turn.act.Tie as tie
 
+-- where the turn stood before rules 1 and 2, and after each
+abbrev reads : tie.After-send → tie.After-wide162
+reads c = c .before .before .before .before .before .before
+
+abbrev counts : tie.After-send → tie.After-narrow
+counts c = reads c .before .before
+
+abbrev sends : tie.Then1 → tie.After-send
+sends c = c .before .before .before .before .before
+
+abbrev leaves : tie.Then1 → tie.After-leave
+leaves c = c .before
+
+abbrev sends-only : tie.Else1 → tie.After-send
+sends-only c = c .before .before .before .before .before
+
+abbrev leaves-none : tie.Else1 → tie.After-leave
+leaves-none c = c .before
+
 mul-wide16 : tie.Need-mul-wide16
 mul-wide16 c = omega (arith, acting-room (c .pre .6))
 
@@ -32,44 +51,38 @@ narrow-requires c κs = omega (arith, c .wide16 .ensures, acting-first (c .befor
 element-write-next : tie.Need-element-write-next
 element-write-next c = omega (arith, acting-room (c .before .before .before .pre .6))
 
-send-requires : tie.Need-send-requires
-send-requires c κs =
-    let m = c .before .before .before .before .before in
-    let (p, n, choices, r, b, s, a) = m .before .before .before .pre in
-    (p, n, choices, r, b, s, acting-sends a _ _ (m .before .wide16 .ensures .0) (m .narrow .ensures))
-
 mul-wide16-2 : tie.Need-mul-wide16-2
 mul-wide16-2 c = search needs
 
 element-copy-out-wide16-2 : tie.Need-element-copy-out-wide16-2
-element-copy-out-wide16-2 c = acting-room (c .before .before .before .before .before .before .before .before .before .pre .6) .2
+element-copy-out-wide16-2 c = acting-room (c .before .before .before .pre .6) .2
 
 wide16-requires-2 : tie.Need-wide16-requires-2
 wide16-requires-2 c κs = search needs
 
-narrow-requires-2 : tie.Need-narrow-requires-2
-narrow-requires-2 c κs = acting-room (c .before .before .before .before .before .before .before .before .before .before .before .before .before .before .before .pre .6) .0
+-- 1. `send` is given the deque that the turn found
+send-requires : tie.Need-send-requires
+send-requires c κs =
+    let m = c .before .before .before .before .before .before .before in
+    let (p, n, choices, r, b, s, a) = m .before .before .before .pre in
+    (p, n, choices, r, b, s, acting-sends a _ _ (m .before .wide16 .ensures .0) (m .narrow .ensures))
 
-push-requires : tie.Need-push-requires
-push-requires c κs =
-    let u = c .before .before .before .before .before .before .before in
-    let m = u .before .before .before .before .before .before in
+-- 2. and `leave` the one that rule 1 left
+leave-requires : tie.Need-leave-requires
+leave-requires c κs =
+    let m = counts (c .before .before .before) in
     let l = m .before .before .before in
     let (p, n, choices, r, b, s, a) = l .pre in
-    let sent = u .send .ensures p n choices r b s (acting-sends a _ _ (m .before .wide16 .ensures .0) (m .narrow .ensures)) in (
-      set (s .deques) (l .args .w) (aboveOf p s (l .args .w) (l .args .j)),
-      sent .dequed,
-      acting-room a .4,
-      λ x d e. omega (arith, c .narrow2 .ensures, above-low a x d e),
-    )
+    let sent = c .before .before .before .send .ensures p n choices r b s (acting-sends a _ _ (m .before .wide16 .ensures .0) (m .narrow .ensures)) in
+    (set (s .deques) (l .args .w) (aboveOf p s (l .args .w) (l .args .j)), sent .dequed, acting-room a .4, acting-room a .0, above-low a)
 
 sub-narrow-2 : tie.Need-sub-narrow-2
 sub-narrow-2 c = search needs
 
-narrow-requires-3 : tie.Need-narrow-requires-3
-narrow-requires-3 c κs =
-    let t = c .before .before .before .before .before in
-    acting-child (t .before .before .before .before .before .before .before .before .before .before .before .before .pre .6) _ _ (t .before .wide162 .ensures .0) (omega (arith, t .if1 .taken)) refl .1
+narrow-requires-2 : tie.Need-narrow-requires-2
+narrow-requires-2 c κs =
+    let u = sends c in
+    acting-child (counts u .before .before .before .pre .6) _ _ (reads u .wide162 .ensures .0) (omega (arith, c .if1 .taken)) refl .1
 
 sub-units : tie.Need-sub-units
 sub-units c = search needs
@@ -85,36 +98,40 @@ units-requires c κs = search needs
 
 add-heavier : tie.Need-add-heavier
 add-heavier c =
-    let t = c .before .before .before .before .before .before .before .before in
-    let a = t .before .before .before .before .before .before .before .before .before .before .before .before .pre .6 in
-    omega (arith, c .units .ensures, acting-heavier a _ _ (t .before .wide162 .ensures .0) (omega (arith, t .if1 .taken)) refl)
+    let t = c .before .before .before in
+    let u = sends t in
+    let a = counts u .before .before .before .pre .6 in
+    omega (arith, c .units .ensures, acting-heavier a _ _ (reads u .wide162 .ensures .0) (omega (arith, t .if1 .taken)) refl)
 
 returns : tie.Need-returns
 returns c p n choices r b s a =
-    let u = c .before .before .before .before .before .before .before .before .before .before .before in
-    let m = u .before .before .before .before .before .before in
+    let t = c .before .before .before in
+    let u = sends t in
+    let m = counts u in
     let sent = u .send .ensures p n choices r b s (acting-sends a _ _ (m .before .wide16 .ensures .0) (m .narrow .ensures)) in
-    let t = c .before .before .before .before .before .before .before .before in
-    acting-spawns a _ _ (t .before .wide162 .ensures .0) (omega (arith, t .if1 .taken)) refl _ _
-    (ap Holding (c .before .before .narrow3 .ensures)) (omega (arith, c .units .ensures))
-    (c .before .before .before .before .narrow2 .ensures) (sent .progressed) (c .before .before .before .push .ensures _ (sent .dequed))
+    acting-spawns a _ _ (reads u .wide162 .ensures .0) (omega (arith, t .if1 .taken)) refl _
+    (ap Holding (c .before .before .narrow2 .ensures)) (omega (arith, c .units .ensures))
+    (sent .progressed) (leaves t .leave .ensures _ (sent .dequed) .1 (omega (arith, t .if1 .taken)))
 
 settle-requires : tie.Need-settle-requires
 settle-requires c κs =
     let t = c .before .before .before .before in
-    let u = t .before .before .before in
-    let m = u .before .before .before .before .before .before in
+    let u = sends-only t in
+    let m = counts u in
     let (p, n, choices, r, b, s, a) = m .before .before .before .pre in
     let sent = u .send .ensures p n choices r b s (acting-sends a _ _ (m .before .wide16 .ensures .0) (m .narrow .ensures)) in
-    (p, n, choices, r, b, s, _, acting-settles a (omega (arith, t .before .wide162 .ensures, t .if1 .left)) sent)
+    let dequed = leaves-none t .leave .ensures _ (sent .dequed) .0 (omega (arith, t .if1 .left)) in
+    (p, n, choices, r, b, s, _, acting-settles a (omega (arith, reads u .wide162 .ensures, t .if1 .left)) (record { progressed = sent .progressed; dequed = dequed }))
 
 returns-2 : tie.Need-returns-2
 returns-2 c p n choices r b s a =
     let t = c .before .before .before .before .before in
-    let u = t .before .before .before in
-    let m = u .before .before .before .before .before .before in
+    let u = sends-only t in
+    let m = counts u in
     let sent = u .send .ensures p n choices r b s (acting-sends a _ _ (m .before .wide16 .ensures .0) (m .narrow .ensures)) in
-    c .settle .ensures p n choices r b s _ (acting-settles a (omega (arith, t .before .wide162 .ensures, t .if1 .left)) sent)
+    let dequed = leaves-none t .leave .ensures _ (sent .dequed) .0 (omega (arith, t .if1 .left)) in
+    c .settle .ensures p n choices r b s _
+    (acting-settles a (omega (arith, reads u .wide162 .ensures, t .if1 .left)) (record { progressed = sent .progressed; dequed = dequed }))
 
 pub act-spec : {M : Type 1} → statement M
 act-spec =
@@ -127,14 +144,13 @@ act-spec =
     add-narrow
     narrow-requires
     element-write-next
-    send-requires
     mul-wide16-2
     element-copy-out-wide16-2
     wide16-requires-2
-    narrow-requires-2
-    push-requires
+    send-requires
+    leave-requires
     sub-narrow-2
-    narrow-requires-3
+    narrow-requires-2
     sub-units
     mul-units
     element-copy-out-units
