@@ -70,7 +70,7 @@ fn send(
     push(slots, top, len, w, parent[j]);
 }
 
-// 2. The action spawned `child` less 1, or none where that is 0: job j, which spawned, goes on the bottom of deque w.
+// 2. Where the action of job j spawned, j goes on the bottom of deque w. `child` is the number of the spawned job plus 1, or 0.
 fn leave(
     child: usize,
     j: usize,

@@ -15,8 +15,8 @@ use Rattle.runs.specs.declared.worker.Worker.{Worker}
 use Rattle.runs.specs.declared.worker.Worker.the-variants.{Idle, Holding, Waiting}
 use Rattle.runs.specs.State.{State, workerOf, dequeOf}
 use Rattle.runs.specs.Steal.{laid, lay, topOf, given, serve}
-use Rattle.runs.specs.Trace.{laying, laid as laidOn, served}
-use Rattle.scheduler.specs.Machine.{codeOf, Fitting, isIdle, InRun, Seated, Manned, Dequed, Given}
+use Rattle.runs.specs.Trace.{served}
+use Rattle.scheduler.specs.Machine.{codeOf, Fitting, isIdle, Seated, Manned, Dequed, Given}
 use Rattle.scheduler.specs.Requests.{Pointed, Serving}
 use Rattle.scheduler.proofs.Laws.Codes.{seated-set}
 use Rattle.scheduler.proofs.Laws.Running.{run-sound, run-seats, run-at}
@@ -74,11 +74,6 @@ module _ (p : Plan) (s : State) (c : Account) (seats : List ℕ) (sixteen : leng
     abbrev pub asker : Worker
     asker = Waiting (getD choices ((s .tally .requests) % length choices) 0) r
 
-    pub asker-waits : workerOf (lay choices r w Idle s) w ≡ asker
-    unfolding lay laid
-    asker-waits =
-        getD-set-same (s .workers) w _ Idle (omega arith)
-
     pub laid-manned : (t : Tally) → t ≡ asked (c .tally) → Manned p (lay choices r w Idle s) (record { weight = c .weight; tally = t }) (set seats w (codeOf asker))
     unfolding lay laid
     laid-manned t e =
@@ -118,14 +113,7 @@ module _ (p : Plan) (s : State) (c : Account) (seats : List ℕ) (sixteen : leng
         go [] (i, q) = (rw (i, f, m .counts) (record { seated = reseated _; weighs = m .weighs; counts = refl }), q)
         go (y ∷ d) (i, q) = absurd (g (topOf y d) i)
 
--- the worker that has asked, and the one that is served, as their seats then have them
-pub laid-fits : {p : Plan} {n : ℕ} {choices : List ℕ} {r : ℕ} {b : List Worker} {s : State} {c : Account} {seats : List ℕ} (w : ℕ)
-    → InRun p n choices r b (laying w) s → w < n → getD b w Idle ≡ Idle → Manned p s c seats
-    → Fitting (Waiting (getD choices ((s .tally .requests) % length choices) 0) r)
-laid-fits {p} {n} {choices} {r} {b} {s} {c} {seats} w run h e m =
-    rw (e, asker-waits p s c seats (run-sound run .workers) m w (omega (arith, run .most)) choices r) at
-    (run-seats (run-at run (laidOn (run .trace) h)) w)
-
+-- the worker that is served, as its seat then has it
 pub given-fits : {p : Plan} {n : ℕ} {choices : List ℕ} {r : ℕ} {b : List Worker} {s : State} {v w : ℕ} {c : Account} {seats slots top len : List ℕ}
     → Serving p n choices r b s v (suc w) c seats slots top len → (x : Worker) (top′ len′ : List ℕ)
     → Given (s .deques) v (dequeOf s v) x slots top′ len′ → Fitting x

@@ -5,9 +5,9 @@ use mathlib.Core.Path.{_≡_, refl}
 use mathlib.Core.List.{List}
 use native.Mathlib.Omega.{arith}
 use lib.ListN.{length, getD}
-use lib.Dec.{leb, ltb, leb→le}
+use lib.Dec.{leb, ltb, leb→le, ltb→lt}
 use Rattle.plan.specs.Test.{all}
-use Rattle.plan.proofs.Laws.Lists.{both-left, both-right}
+use Rattle.plan.proofs.Laws.Lists.{both-left, both-right, all-at}
 use Rattle.runs.specs.Run.{choicesFit}
 use Rattle.plan.specs.Plan.{Plan}
 use Rattle.plan.proofs.Laws.Valid.{jobs-range}
@@ -56,6 +56,12 @@ module _ {p : Plan} {n : ℕ} {choices : List ℕ} {r : ℕ} {b : List Worker} {
   run-few =
       leb→le (length choices) 4096
       (both-left (leb (length choices) 4096) _ (both-right (all (λ c. ltb c n) choices) _ (run .fit)))
+
+  -- every choice is a worker that there is
+  pub run-chosen : (i : ℕ) → i < length choices → getD choices i 0 < n
+  unfolding choicesFit
+  run-chosen i h =
+      ltb→lt (getD choices i 0) n (all-at (λ c. ltb c n) choices (both-left (all (λ c. ltb c n) choices) _ (run .fit)) 0 i h)
 
   -- the numbers of the workers tell them apart
   pub run-seats : Fits (s .workers)
