@@ -49,6 +49,15 @@ struct Tally {
     peak: u32,
 }
 
+/// What a run changes. The bottom of a deque is the end of its list; `last` has who did a job's last action.
+struct State {
+    next: Vec<usize>,
+    workers: Vec<Worker>,
+    deques: Vec<Vec<usize>>,
+    last: Vec<usize>,
+    t: Tally,
+}
+
 impl Plan {
     fn spawner(&self, c: usize) -> Option<(usize, usize)> {
         for (q, actions) in self.actions.iter().enumerate() {
@@ -135,121 +144,121 @@ impl Plan {
             .unwrap()
     }
 
+    /// Worker w takes a turn with job j. `next_began` has the jobs' positions as the round began.
+    fn turn(&self, s: &mut State, next_began: &[usize], w: usize, j: usize, slip: Slip) {
+        let (spawn, join) = self.actions[j][s.next[j]];
+        let mut woken = None;
+        let parent = self.spawner(j).map(|s| s.0);
+        let was = parent.map_or(true, |q| self.ready(&s.next, q));
+        s.next[j] += 1;
+        s.last[j] = w;
+        s.t.actions += 1;
+        if join > 0 && !was && self.ready(&s.next, parent.unwrap()) {
+            woken = parent;
+        }
+        let home = woken.map_or(w, |q| if slip == Slip::ParentToItsFormerWorker { s.last[q] } else { w });
+        if slip == Slip::SpawnBeforeJoin && spawn > 0 {
+            s.deques[w].push(j);
+            if let Some(q) = woken {
+                s.deques[home].push(q);
+            }
+        } else {
+            if let Some(q) = woken {
+                s.deques[home].push(q);
+            }
+            if spawn > 0 {
+                s.deques[w].push(j);
+            }
+        }
+        let mut judged = s.next.clone();
+        if slip == Slip::StallsThoughTheJoinCame {
+            judged = next_began.to_vec();
+            judged[j] = s.next[j];
+        }
+        s.workers[w] = if spawn > 0 {
+            Worker::Holding(spawn - 1)
+        } else if s.next[j] < self.actions[j].len() && self.ready(&judged, j) {
+            Worker::Holding(j)
+        } else {
+            s.deques[w].pop().map_or(Worker::Idle, Worker::Holding)
+        };
+        if slip != Slip::PeakOnceARound {
+            s.t.peak = s.t.peak.max(self.weight(&s.next));
+        }
+    }
+
     fn run(&self, n: usize, choices: &[u8], slip: Slip) -> Tally {
-        let mut next = vec![0; self.frames.len()];
-        let mut workers = vec![Worker::Idle; n];
-        workers[0] = Worker::Holding(0);
-        // the bottom of a deque is the end of its list
-        let mut deques: Vec<Vec<usize>> = vec![vec![]; n];
-        let mut last = vec![0; self.frames.len()];
-        let mut t = Tally { peak: self.frames[0], ..Tally::default() };
+        let mut s = State {
+            next: vec![0; self.frames.len()],
+            workers: vec![Worker::Idle; n],
+            deques: vec![vec![]; n],
+            last: vec![0; self.frames.len()],
+            t: Tally { peak: self.frames[0], ..Tally::default() },
+        };
+        s.workers[0] = Worker::Holding(0);
         let mut laid_by = vec![0; n];
-        while next[0] < self.actions[0].len() {
-            t.rounds += 1;
-            if t.rounds > 5000 {
+        while s.next[0] < self.actions[0].len() {
+            s.t.rounds += 1;
+            if s.t.rounds > 5000 {
                 break;
             }
-            let began = workers.clone();
-            let next_began = next.clone();
+            let began = s.workers.clone();
+            let next_began = s.next.clone();
             for w in 0..n {
-                let Worker::Holding(j) = began[w] else {
-                    t.idle += 1;
-                    continue;
-                };
-                let i = next[j];
-                let (spawn, join) = self.actions[j][i];
-                let mut woken = None;
-                let parent = self.spawner(j).map(|s| s.0);
-                let was = parent.map_or(true, |q| self.ready(&next, q));
-                next[j] += 1;
-                last[j] = w;
-                t.actions += 1;
-                if join > 0 && !was && self.ready(&next, parent.unwrap()) {
-                    woken = parent;
-                }
-                let home = woken.map_or(w, |q| if slip == Slip::ParentToItsFormerWorker { last[q] } else { w });
-                if slip == Slip::SpawnBeforeJoin && spawn > 0 {
-                    deques[w].push(j);
-                    if let Some(q) = woken {
-                        deques[home].push(q);
-                    }
+                if let Worker::Holding(j) = began[w] {
+                    self.turn(&mut s, &next_began, w, j, slip);
                 } else {
-                    if let Some(q) = woken {
-                        deques[home].push(q);
-                    }
-                    if spawn > 0 {
-                        deques[w].push(j);
-                    }
-                }
-                let judged = if slip == Slip::StallsThoughTheJoinCame {
-                    let mut seen = next_began.clone();
-                    seen[j] = next[j];
-                    seen
-                } else {
-                    next.clone()
-                };
-                workers[w] = if spawn > 0 {
-                    Worker::Holding(spawn - 1)
-                } else if next[j] < self.actions[j].len() && self.ready(&judged, j) {
-                    Worker::Holding(j)
-                } else {
-                    deques[w].pop().map_or(Worker::Idle, Worker::Holding)
-                };
-                if slip != Slip::PeakOnceARound {
-                    t.peak = t.peak.max(self.weight(&next));
+                    s.t.idle += 1;
                 }
             }
-            t.peak = t.peak.max(self.weight(&next));
-            if next[0] == self.actions[0].len() {
+            s.t.peak = s.t.peak.max(self.weight(&s.next));
+            if s.next[0] == self.actions[0].len() {
                 break;
             }
             for w in 0..n {
-                let free = if slip == Slip::LaysAtOnce { workers[w] } else { began[w] };
+                let free = if slip == Slip::LaysAtOnce { s.workers[w] } else { began[w] };
                 if free == Worker::Idle {
-                    let k = if slip == Slip::RequestsCountedByWorker { laid_by[w] } else { t.requests };
-                    workers[w] = Worker::Waiting(choices[k % choices.len()] as usize, t.rounds);
+                    let k = if slip == Slip::RequestsCountedByWorker { laid_by[w] } else { s.t.requests };
+                    s.workers[w] = Worker::Waiting(choices[k % choices.len()] as usize, s.t.rounds);
                     laid_by[w] += 1;
-                    t.requests += 1;
+                    s.t.requests += 1;
                 }
             }
             let mut stolen = vec![];
             for v in 0..n {
-                let waiting = (0..n).filter_map(|w| match workers[w] {
+                let waiting = (0..n).filter_map(|w| match s.workers[w] {
                     Worker::Waiting(u, laid) if u == v => Some((laid, w)),
                     _ => None,
                 });
                 let pick = if slip == Slip::LowestWorkerFirst { waiting.min_by_key(|&(_, w)| w) } else { waiting.min() };
                 let Some((_, w)) = pick else { continue };
-                let job = if deques[v].is_empty() {
+                let job = if s.deques[v].is_empty() {
                     None
                 } else if slip == Slip::StealsTheBottom {
-                    deques[v].pop()
+                    s.deques[v].pop()
                 } else {
-                    Some(deques[v].remove(0))
+                    Some(s.deques[v].remove(0))
                 };
                 match job {
                     Some(j) => {
-                        workers[w] = Worker::Holding(j);
-                        t.steals += 1;
+                        s.workers[w] = Worker::Holding(j);
+                        s.t.steals += 1;
                         stolen.push((w, j));
                     }
                     None => {
-                        workers[w] = Worker::Idle;
-                        t.misses += 1;
+                        s.workers[w] = Worker::Idle;
+                        s.t.misses += 1;
                     }
                 }
             }
             if slip == Slip::ActsInTheRoundOfItsSteal {
+                stolen.sort();
                 for (w, j) in stolen {
-                    if self.ready(&next, j) && next[j] + 1 < self.actions[j].len() && self.actions[j][next[j]] == (0, 0) {
-                        next[j] += 1;
-                        t.actions += 1;
-                        last[j] = w;
-                    }
+                    self.turn(&mut s, &next_began, w, j, slip);
                 }
             }
         }
-        t
+        s.t
     }
 
     fn bytes(&self) -> Vec<u8> {
@@ -359,7 +368,7 @@ fn main() {
     for (i, slip) in slips.iter().enumerate() {
         let told = cases.iter().filter(|(_, p, n, c)| p.run(*n, c, *slip) != p.run(*n, c, Slip::None)).count();
         println!("slip {i}: told apart by {told} cases");
-        assert!(told > 0, "no case tells slip {i} apart");
+        assert!(told > 0, "no case tells slip {} apart", i);
     }
     let mut calls: Vec<String> = vec![];
     let mut expected = String::new();
