@@ -1,4 +1,5 @@
-//! Plans for the writers of cases: jobs, their actions, and their bytes (document 01, "Plan").
+//! Plans for `plan_cases.rs` and `check_cases.rs`: jobs, their actions, and their bytes (document 01, "Plan"). `run_cases.rs` has
+//! its own.
 
 /// An action: the child's number plus 1 or 0, the join's target plus 1 or 0.
 pub type Action = (u32, u32);

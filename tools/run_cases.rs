@@ -49,7 +49,7 @@ struct Tally {
     peak: u32,
 }
 
-/// What a run changes. The bottom of a deque is the end of its list; `last` has who did a job's last action.
+/// What a run changes. The bottom of a deque is the end of its list; `last` has who did a job's latest action.
 struct State {
     next: Vec<usize>,
     workers: Vec<Worker>,

@@ -2,6 +2,7 @@
 --   lay, lays       == worker w lays a request, if it held nothing when the round began and has none; the workers below k
 --   oldest v k ws   == which of the workers below k has the request that victim v serves: the worker's number plus 1, or 0
 --   serve, serves   == victim v serves one request; the victims below k
+--   waits x         == 1 where the worker x waits with a request, or 0
 --   waiting k ws    == how many requests wait, of the workers below k
 -- Assumes nothing.
 use Prim.Native.Nat.{ℕ, zero, suc, _+_, _%_}

@@ -45,7 +45,7 @@ abbrev pub ranOf : Ran → Outcome Tally
 ranOf (Refused cause) = refused (numberOf cause)
 ranOf (Done t) = accepted t
 
--- the plan was accepted, and the claim holds of the rows read off the schedule, with the tally
+-- where the run was done, the plan was accepted, and the claim holds of the rows read off the schedule, with the tally
 abbrev pub Claimed : List ℕ → ℕ → Ran → List ℕ → Type 0
 Claimed plan n r schedule =
     (t : Tally) → r ≡ Done t → (p : Plan) × (readPlan plan ≡ accepted p) × Bounded p n schedule t

@@ -25,7 +25,7 @@ pub fn push(slots: &mut [u8; 4096], top: &mut [u16; 16], len: &mut [u16; 16], w:
     len[w] = (n + 1) as u16;
 }
 
-// Where the two ends of deque w stand, which has n jobs from its place `at` on.
+// Where the two ends of deque w stand; it has n jobs, at least one, from its place `at` on.
 fn top_place(w: usize, at: usize, n: usize) -> usize
     requires { ⌜ (w < 16) × (0 < n) × (at + n ≤ 256) ⌝ }
     ensures { λ r. ⌜ r ≡ w * 256 + at ⌝ }

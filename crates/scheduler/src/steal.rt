@@ -82,7 +82,7 @@ fn idle_at(code: u16) -> bool
     }
 }
 
-// The choice of the request whose place among the choices is `at`, whichever worker lays it.
+// The entry at place `at` of the choices: the victim of the request that reads it.
 fn choice_at(at: usize, choices: &[u8]) -> u8
     requires { ⌜ at < length (now choices) ⌝ }
     ensures { λ r. ⌜ r ≡ getD (now (choices .entry)) at 0 ⌝ }
@@ -239,7 +239,7 @@ fn give(
 }
 
 // The first in line at victim v: its worker's number plus 1, or 0 where nobody asks.
-fn first_at(v: usize, after: &[u8; 32]) -> usize
+fn first_in_line(v: usize, after: &[u8; 32]) -> usize
     requires { ⌜ v < 16 ⌝ }
     ensures { λ r. ⌜ (r ≡ getD (now (after .entry)) (16 + v) 0) × (r < 256) ⌝ }
 {
@@ -259,7 +259,7 @@ fn serve(
     requires { ⌜ ((p : Plan) × (n : ℕ) × (choices : List ℕ) × (r : ℕ) × (b : List Worker) × (hi : ℕ) × (s : State) × InRun p n choices r b (serving v) s × (v < n) × Manned p s account (now seats) × Queued hi (s .workers) (now after) (now last) × Dequed (s .deques) (now slots) (now top) (now len)) ⌝ }
     ensures { λ a. ⌜ ((p : Plan) (n : ℕ) (choices : List ℕ) (r : ℕ) (b : List Worker) (hi : ℕ) (s : State) → InRun p n choices r b (serving v) s → (v < n) → Manned p s account (now (seats .entry)) → Queued hi (s .workers) (now (after .entry)) (now (last .entry)) → Dequed (s .deques) (now (slots .entry)) (now (top .entry)) (now (len .entry)) → Manned p (serveOf v (oldest v n (s .workers) .who) s) a (now (seats .exit)) × Queued hi (serveOf v (oldest v n (s .workers) .who) s .workers) (now (after .exit)) (now (last .exit)) × Dequed (serveOf v (oldest v n (s .workers) .who) s .deques) (now (slots .entry)) (now (top .exit)) (now (len .exit))) × ((u : ℕ) → u ≢ v → getD (now (after .exit)) (16 + u) 0 ≡ getD (now (after .entry)) (16 + u) 0) ⌝ }
 {
-    let who = first_at(v, after);
+    let who = first_in_line(v, after);
     if who == 0 {
         return account;
     }

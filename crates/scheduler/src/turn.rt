@@ -70,7 +70,8 @@ fn send(
     push(slots, top, len, w, parent[j]);
 }
 
-// 2. Where the action of job j spawned, j goes on the bottom of deque w. `child` is the number of the spawned job plus 1, or 0.
+// 2, the spawner: where the action of job j spawned, j goes on the bottom of deque w. `child` is the spawned job's number plus 1,
+// or 0.
 fn leave(
     child: usize,
     j: usize,
@@ -146,6 +147,7 @@ pub fn act(
     let child = wide16(spawn[k]);
     send(k, j, w, first, join, parent, next, missing, slots, top, len);
     leave(child, j, w, slots, top, len);
+    // 2, the worker: it holds the child.
     if child != 0 {
         let worker = Worker::Holding(narrow(child - 1));
         let heavier = weight + units(frame[child - 1]);

@@ -16,15 +16,15 @@ use Rattle.scheduler.proofs.Laws.Picks.{first-oldest, serve-queued}
 use Rattle.scheduler.proofs.steal.serve.Statement.{statement}
 use Rattle.scheduler.proofs.steal.serve.Tie as tie
 
-first-at-requires : tie.Need-first-at-requires
-first-at-requires c κs = omega (arith, c .before .pre .7 .most, c .before .pre .8)
+first-in-line-requires : tie.Need-first-in-line-requires
+first-in-line-requires c κs = omega (arith, c .before .pre .7 .most, c .before .pre .8)
 
 -- what was read is the pick
-reads : (c : tie.After-first-at) (p : Plan) (n : ℕ) (choices : List ℕ) (r : ℕ) (b : List Worker) (hi : ℕ) (s : State)
+reads : (c : tie.After-first-in-line) (p : Plan) (n : ℕ) (choices : List ℕ) (r : ℕ) (b : List Worker) (hi : ℕ) (s : State)
     → InRun p n choices r b (serving (c .before .before .args .v)) s → c .before .before .args .v < n
     → Queued hi (s .workers) (c .before .before .args .after .now) (c .before .before .args .last .now)
-    → c .first-at .result ≡ oldest (c .before .before .args .v) n (s .workers) .who
-reads c p n choices r b hi s run known queued = c .first-at .ensures .0 ∙ first-oldest run known queued
+    → c .first-in-line .result ≡ oldest (c .before .before .args .v) n (s .workers) .who
+reads c p n choices r b hi s run known queued = c .first-in-line .ensures .0 ∙ first-oldest run known queued
 
 returns : tie.Need-returns
 unfolding serve
@@ -37,7 +37,7 @@ returns c = (
 picks : (c : tie.Else1) (p : Plan) (n : ℕ) (choices : List ℕ) (r : ℕ) (b : List Worker) (hi : ℕ) (s : State)
     → InRun p n choices r b (serving (c .before .before .before .args .v)) s → c .before .before .before .args .v < n
     → Queued hi (s .workers) (c .before .before .before .args .after .now) (c .before .before .before .args .last .now)
-    → suc (c .before .first-at .result - 1) ≡ oldest (c .before .before .before .args .v) n (s .workers) .who
+    → suc (c .before .first-in-line .result - 1) ≡ oldest (c .before .before .before .args .v) n (s .workers) .who
 picks c p n choices r b hi s run known queued =
     let e = reads (c .before) p n choices r b hi s run known queued in omega (arith, c .if1 .left)
 
@@ -94,7 +94,7 @@ pub serve-spec : {M : Type 1} → statement M
 serve-spec =
     tie.close
     (tie.spec
-    first-at-requires
+    first-in-line-requires
     returns
     sub-step-up
     step-up-requires
