@@ -9,6 +9,7 @@ pub mod Deques
 pub mod Rests
 pub mod Done
 pub mod Rounds
+pub mod Coursed
 pub mod Tallies
 pub mod Waits
 pub mod Waiting
@@ -16,11 +17,6 @@ pub mod Victims
 pub mod Whole
 pub mod Least
 pub mod Served
-pub mod Rows
-pub mod Order
 pub mod OwnSchedule
-pub mod History
-pub mod Peak
 pub mod Demand3
 pub mod Starred
-pub mod Contrasts

@@ -7,6 +7,9 @@ pub mod Progress
 pub mod Turn
 pub mod Steal
 pub mod Start
+pub mod Leaves
+pub mod Move
+pub mod Pool
 pub mod Cover
 pub mod Sum
 pub mod Weight

@@ -15,7 +15,7 @@ use Rattle.runs.specs.State.{Row, noRow}
 use Rattle.runs.specs.Schedule.{rowOf, clash, alone, inOrder, keeps}
 use Rattle.plan.proofs.Laws.Lists.{both-intro, both-left, both-right, true-of, false-of, all-at, all-by}
 use Rattle.plan.proofs.Laws.Placed.{placed-of, placed-length, start-all}
-use Rattle.runs.proofs.Laws.Order.{alone-by, unless}
+use Rattle.runs.proofs.Courses.Order.{alone-by, unless}
 use Rattle.checker.specs.Rows.{RowsAt}
 use Rattle.checker.specs.Judging.{word, Followed, Seen}
 use Rattle.checker.specs.Given.{RulesGiven}

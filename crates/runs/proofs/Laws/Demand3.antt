@@ -19,11 +19,8 @@ use Rattle.plan.specs.Rules.{Accepted}
 use Rattle.plan.proofs.Laws.Accepted.{accepted-kept}
 use Rattle.plan.proofs.Laws.Valid.{work-range}
 use Rattle.runs.proofs.Laws.Whole.{run-trace, round-most, rounds-most, lone-rounds}
-use Rattle.runs.proofs.Laws.Rounds.{began-busy}
-use Rattle.runs.proofs.Laws.Rows.{rows-length}
-use Rattle.runs.proofs.Laws.Order.{last-round, least-rounds}
+use Rattle.runs.proofs.Laws.Coursed.{rows-length, last-round, least-rounds, run-space, run-peak, lone-peak}
 use Rattle.runs.proofs.Laws.OwnSchedule.{schedule-length, run-schedule}
-use Rattle.runs.proofs.Laws.Peak.{run-space, run-peak, lone-peak}
 
 workers-range : (n : ℕ) → T (workersFit n) → (1 ≤ n) × (n ≤ 16)
 unfolding workersFit
@@ -32,7 +29,6 @@ workers-range n t = (leb→le 1 n (both-left (leb 1 n) (leb n 16) t), leb→le n
 pub run-bounds : (p : Plan) → Accepted p → (n : ℕ) → 1 ≤ n → n ≤ 16 → (choices : List ℕ) → Bounds p n (run p n choices .rows) (run p n choices .tally)
 run-bounds p ok n some most choices =
     let (r, b, t, e, q) = run-trace p ok n some most choices in
-    let (w, j, h, i) = began-busy p ok n some most choices t in
     record {
       space = run-space p ok n some most choices t e;
       most-rounds = rounds-most p ok n some most choices;
@@ -40,7 +36,7 @@ run-bounds p ok n some most choices =
       lone-peak = lone-peak p ok n some most choices t e;
       lone-rounds = lone-rounds p ok n some most choices;
       peak = run-peak p ok n some most choices t e;
-      rounds = q ∙ sym (last-round p ok n some most choices t e w j h i);
+      rounds = q ∙ sym (last-round p ok n some most choices t e);
     }
 
 -- of bytes that begin with a run's schedule

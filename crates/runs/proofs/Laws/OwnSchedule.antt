@@ -37,8 +37,7 @@ use Rattle.plan.proofs.Laws.Bits.{Binary, append-binary, bitsOf-binary, bitsOf-
 use Rattle.plan.specs.Rules.{Accepted}
 use Rattle.plan.proofs.Laws.Valid.{work-range}
 use Rattle.runs.specs.Trace.{turning, Trace}
-use Rattle.runs.proofs.Laws.Rows.{rows-length}
-use Rattle.runs.proofs.Laws.Order.{run-row, run-keeps}
+use Rattle.runs.proofs.Laws.Coursed.{rows-length, run-row, run-keeps}
 
 -- a reading goes on
 when-goes-on : {B : Type 0} {r : Step B} (c : Bool) (k : ℕ) (m : Step B) → c ≡ true → m ≡ r

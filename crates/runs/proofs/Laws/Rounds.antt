@@ -1,11 +1,10 @@
--- The rounds of a run: how they are counted, and that each begins with a worker that holds a job and does an action.
+-- The rounds of a run: how they are counted, and that each begins with a worker that holds a job.
 -- Assumes nothing.
 use Prim.Native.Nat.{ℕ, zero, suc, _≤_, _<_}
-use mathlib.Core.Path.{_≡_, refl, sym, ap, _∙_}
-use mathlib.Core.Logic.{_⊎_, inl, inr}
+use mathlib.Core.Path.{_≡_, refl, ap, _∙_}
 use mathlib.Core.Bool.{false}
 use mathlib.Core.List.{List}
-use native.Mathlib.Nat.{not-suc-le-zero, le-of-suc-le-suc, eq-or-lt-of-le}
+use native.Mathlib.Nat.{not-suc-le-zero}
 use native.Mathlib.Omega.{arith}
 use lib.Dec.{leb}
 use lib.ListN.{getD}
@@ -51,12 +50,6 @@ Going p (serving k) s = ended p s ≡ false
 ended-rests : (p : Plan) {s t : State} → Rests s t → ended p s ≡ false → ended p t ≡ false
 ended-rests p q i = ap (λ l. leb (size p 0) (getD l 0 0)) (q .next) ∙ i
 
--- a round has an action as soon as a worker that held a job has had its turn
-abbrev pub Acted : Stage → ℕ → List Worker → ℕ → Type 0
-Acted (turning k) r b a = (r ≤ suc a) × ((w j : ℕ) → w < k → getD b w Idle ≡ Holding j → r ≤ a)
-Acted (laying k) r b a = r ≤ a
-Acted (serving k) r b a = r ≤ a
-
 module _ (p : Plan) (ok : Accepted p) (n : ℕ) (some : 1 ≤ n) (most : n ≤ 16) (choices : List ℕ) where
   -- the tally counts the rounds
   pub rounds-known : {r : ℕ} {b : List Worker} {g : Stage} {s : State} → Trace p n choices r b g s → Numbered g r (s .tally .rounds)
@@ -96,28 +89,3 @@ module _ (p : Plan) (ok : Accepted p) (n : ℕ) (some : 1 ≤ n) (most : n ≤ 1
   began-busy (all-laid t) = began-busy t
   began-busy (served t h) = began-busy t
   began-busy (next-round {r} {b} {s} t) = busy p ok n some most s (trace-sound p ok n some most choices t) (not-ended t)
-
-  -- each round has an action
-  pub rounds-act : {r : ℕ} {b : List Worker} {g : Stage} {s : State} → Trace p n choices r b g s → Acted g r b (s .tally .actions)
-  unfolding turnOf turn idled start
-  rounds-act begins = (omega arith, λ w j h. absurd (not-suc-le-zero h))
-  rounds-act (turned {r} {k} {b} {s} t h) = go (getD b k Idle) refl (rounds-act t)
-    where
-      idles : (x : Worker) → getD b k Idle ≡ x → ((j : ℕ) → x ≡ Holding j → ⊥) → Acted (turning k) r b (s .tally .actions)
-          → Acted (turning (suc k)) r b (s .tally .actions)
-      idles x e free i = (i .0, λ w j l f. held w j f (eq-or-lt-of-le (le-of-suc-le-suc l)))
-        where
-          held : (w j : ℕ) → getD b w Idle ≡ Holding j → (w ≡ k) ⊎ (w < k) → r ≤ s .tally .actions
-          held w j f (inl q) = absurd (free j (sym e ∙ (ap (λ v. getD b v Idle) (sym q) ∙ f)))
-          held w j f (inr l) = i .1 w j l f
-
-      go : (x : Worker) → getD b k Idle ≡ x → Acted (turning k) r b (s .tally .actions)
-          → Acted (turning (suc k)) r b (turnOf p r k x s .tally .actions)
-      go Idle e i = idles Idle e (λ j f. let z : _≡_ {A = ℕ} 0 1 = cc in omega arith) i
-      go (Waiting v l) e i = idles (Waiting v l) e (λ j f. let z : _≡_ {A = ℕ} 0 1 = cc in omega arith) i
-      go (Holding j) e i = (omega (arith, i .0), λ w j l f. i .0)
-  rounds-act (goes-on t e) = let (w, j, h, f) = began-busy t in rounds-act t .1 w j h f
-  rounds-act (laid {r} {k} {b} {s} t h) = rw (lay-rests choices r k (getD b k Idle) s .actions) (rounds-act t)
-  rounds-act (all-laid t) = rounds-act t
-  rounds-act (served {r} {k} {b} {s} t h) = rw (serve-rests k (oldest k n (s .workers) .who) s .actions) (rounds-act t)
-  rounds-act (next-round {r} {b} {s} t) = (omega (arith, rounds-act t), λ w j h. absurd (not-suc-le-zero h))

@@ -6,9 +6,9 @@
 -- Assumes nothing.
 use Prim.Native.Nat.{ℕ, zero, suc, _+_, _≤_, _<_, _%_, zero-le}
 use mathlib.Core.Path.{_≡_, refl, sym, ap, _∙_}
-use mathlib.Core.Logic.{_⊎_, inl, inr, _≢_, by-cases}
+use mathlib.Core.Logic.{_≢_, by-cases}
 use mathlib.Core.List.{List, [], _∷_}
-use native.Mathlib.Nat.{not-suc-le-zero, le-of-suc-le-suc, eq-or-lt-of-le, le-refl}
+use native.Mathlib.Nat.{not-suc-le-zero}
 use native.Mathlib.Omega.{arith}
 use native.Mathlib.Decide.{ℕ-discrete, decLt}
 use lib.Dec.{T}
@@ -21,23 +21,13 @@ use Rattle.runs.specs.State.{State, workerOf, dequeOf, start}
 use Rattle.runs.specs.Turn.{turn, idled, turnOf}
 use Rattle.runs.specs.Steal.{laid as laidBy, lay, oldest, topOf, given, serve, waits}
 use Rattle.runs.specs.Run.{choicesFit}
-use Rattle.runs.proofs.Lines.Sum.{sum, sum-le, sum-bound, only, only-yes}
+use Rattle.runs.proofs.Lines.Sum.{sum, sum-le, sum-less, sum-bound, only, only-yes}
 use Rattle.plan.specs.Rules.{Accepted}
 use Rattle.runs.specs.Trace.{Stage, turning, laying, serving, Trace, begins, turned, goes-on, laid, all-laid, served, next-round}
 use Rattle.runs.proofs.Laws.Sound.{trace-sound}
 use Rattle.runs.proofs.Laws.Waits.{start-calm, seated, seated-waits}
 use Rattle.runs.proofs.Laws.Victims.{victim-below}
 use Rattle.runs.proofs.Laws.Least.{rank, Best, oldest-best}
-
--- terms that are no greater, and one that is less
-sum-less : (n : ℕ) (f g : ℕ → ℕ) → ((i : ℕ) → i < n → f i ≤ g i) → (j : ℕ) → j < n → f j < g j → sum n f < sum n g
-unfolding sum
-sum-less zero f g h j b l = absurd (not-suc-le-zero b)
-sum-less (suc n) f g h j b l = go (sum-less n f g (λ i c. h i (omega arith)) j) (eq-or-lt-of-le (le-of-suc-le-suc b))
-  where
-    go : (j < n → f j < g j → sum n f < sum n g) → (j ≡ n) ⊎ (j < n) → sum n f + f n < sum n g + g n
-    go rec (inl q) = omega (arith, ap f q, ap g q, sum-le n f g (λ i c. h i (omega arith)))
-    go rec (inr c) = omega (arith, rec c l, h n (le-refl (suc n)))
 
 ahead : ℕ → ℕ → ℕ → Worker → ℕ
 ahead v a u Idle = 0

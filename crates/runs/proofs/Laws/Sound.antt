@@ -6,26 +6,28 @@ use mathlib.Core.Logic.{_≢_, by-cases}
 use mathlib.Core.Bool.{true, false}
 use mathlib.Core.List.{List, []}
 use native.Mathlib.Omega.{arith}
-use native.Mathlib.Nat.{le-refl}
+use native.Mathlib.Nat.{le-refl, le-trans, mul-le-mul}
 use native.Mathlib.Decide.{ℕ-discrete}
 use lib.ListN.{length, getD, replicate, length-replicate}
 use lib.Dec.{leb→le, nleb→lt}
 use Rattle.runs.specs.declared.worker.Worker.{Worker}
 use Rattle.runs.specs.declared.worker.Worker.the-variants.{Idle, Holding}
-use Rattle.plan.specs.Plan.{Plan, size, action, work, parent, spawnAt}
-use Rattle.plan_measure.specs.Measure.{path, heaviest}
+use Rattle.plan.specs.Plan.{Plan, size, work, parent, spawnAt}
+use Rattle.plan_measure.specs.Measure.{heaviest}
 use Rattle.runs.specs.State.{State, noRow, nextOf, workerOf, dequeOf, start}
 use Rattle.runs.specs.Turn.{weight}
 use Rattle.runs.specs.Run.{ended}
-use Rattle.runs.proofs.Lines.Shape.{Living}
+use Rattle.runs.proofs.Lines.Shape.{Living, Leaves}
 use Rattle.runs.proofs.Lines.Start.{start-good}
+use Rattle.runs.proofs.Lines.Leaves.{good-leaves}
 use Rattle.runs.proofs.Lines.Cover
 use Rattle.runs.proofs.Lines.Progress
-use Rattle.runs.proofs.Lines.Weight
+use Rattle.runs.proofs.Lines.Weight.{filled-most}
+use Rattle.runs.proofs.Courses.Space.{leaves-space}
 use Rattle.plan.specs.Rules.{Accepted}
 use Rattle.plan.proofs.Laws.Valid.{jobs-range}
 use Rattle.runs.specs.Trace.{Stage, turning, laying, Trace, begins, turned, goes-on, laid, all-laid, served, next-round}
-use Rattle.runs.proofs.Laws.PlanShape.{shape-valid, weight-held, path-same, path-most}
+use Rattle.runs.proofs.Laws.PlanShape.{shape-valid}
 use Rattle.runs.proofs.Laws.Lined.{line-of, held-in, line-held, held-below}
 use Rattle.runs.proofs.Laws.TurnSound.{turn-others, turn-still, turnOf-sound}
 use Rattle.runs.proofs.Laws.ServeSound.{lay-others, lay-sound, serve-sound}
@@ -97,12 +99,14 @@ module _ (p : Plan) (ok : Accepted p) (n : ℕ) (some : 1 ≤ n) (most : n ≤ 1
   trace-sound choices (next-round t) = trace-sound choices t
 
   module _ (s : State) (sound : Sound p n s) where
+    leaves : Leaves (shape p) (nextOf s) (lineOf s)
+    leaves = good-leaves (shape p) (shape-valid p ok) (nextOf s) (lineOf s) (sound .good)
+
     -- the living frames weigh at most the number of workers times the heaviest path
     pub space : weight p (s .next) ≤ n * heaviest p
     space =
-        rw (weight-held p (s .next))
-        (Weight.space (shape p) (shape-valid p ok) (nextOf s) (lineOf s) (sound .good) n
-        (λ w h. line-of s w Idle (sound .absent w h)) (heaviest p) (λ j h. rw (path-same p ok j h) at (path-most p j h)))
+        le-trans (leaves-space p ok (s .next) (lineOf s) leaves n (λ w h. line-of s w Idle (sound .absent w h)))
+        (mul-le-mul (filled-most n (lineOf s)) (le-refl (heaviest p)))
 
     -- until job 0 has ended some worker holds a job
     pub busy : ended p s ≡ false → (w : ℕ) × (j : ℕ) × (w < n) × (workerOf s w ≡ Holding j)
@@ -112,32 +116,22 @@ module _ (p : Plan) (ok : Accepted p) (n : ℕ) (some : 1 ≤ n) (most : n ≤ 1
           begun = λ o. absurd (omega arith);
           left = nleb→lt (size p 0) (nextOf s 0) (rw e tt);
         } in
-        let (w, h, l, i) = Cover.busy (shape p) (shape-valid p ok) (nextOf s) (lineOf s) (sound .good) root in
+        let (w, h, l, i) = Cover.busy (shape p) (shape-valid p ok) (nextOf s) (lineOf s) leaves root in
         let q = line-held (workerOf s w) (dequeOf s w) h l i .0 in
         (w, h, held-below p n s sound w h q, q)
 
     -- when job 0 has ended every action is done
     pub all-done : ended p s ≡ true → (j : ℕ) → j < length p → nextOf s j ≡ size p j
     all-done e =
-        Progress.all-done (shape p) (shape-valid p ok) (nextOf s) (lineOf s) (sound .good) (leb→le (size p 0) (nextOf s 0) (rw e tt))
+        Progress.all-done (shape p) (shape-valid p ok) (nextOf s) (sound .good .closed) (leb→le (size p 0) (nextOf s 0) (rw e tt))
 
     pub next-bound : (j : ℕ) → j < length p → nextOf s j ≤ size p j
-    next-bound = sound .good .bound
+    next-bound = sound .good .closed .bound
 
-    -- the job that a worker holds: its next action is there, its spawner is done and so are all senders of joins into it
+    -- the job that a worker holds: its next action is there, and its spawner is done
     pub held-job : (w j : ℕ) → workerOf s w ≡ Holding j → (j < length p) × (nextOf s j < size p j) × (1 ≤ j → spawnAt p j < nextOf s (parent p j))
     held-job w j e = let a = sound .good .here w j (held-in s w j e) .0 in (a .below, a .left, a .begun)
-
-    pub held-ready : (w j : ℕ) → workerOf s w ≡ Holding j → (k a : ℕ) → 1 ≤ k → k < length p → a < size p k → parent p k ≡ j
-        → action p k a .join ≡ suc (nextOf s j) → a < nextOf s k
-    held-ready w j e k a o h b q i = sound .good .here w j (held-in s w j e) .1 k h a b q i
 
     -- no job is held by two workers
     pub held-once : (v w j : ℕ) → workerOf s v ≡ Holding j → workerOf s w ≡ Holding j → v ≡ w
     held-once v w j e f = sound .good .apart v w j (held-in s v j e) (held-in s w j f)
-
-    -- the path of a living job is no heavier than all living frames
-    pub path-living : (j : ℕ) → j < length p → (1 ≤ j → spawnAt p j < nextOf s (parent p j)) → nextOf s j < size p j → path p j ≤ weight p (s .next)
-    path-living j h b l =
-        rw (weight-held p (s .next), path-same p ok j h)
-        (Weight.path-held (shape p) (shape-valid p ok) (nextOf s) (lineOf s) (sound .good) j (record { below = h; begun = b; left = l }))

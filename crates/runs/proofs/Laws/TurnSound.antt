@@ -121,7 +121,7 @@ module _ (p : Plan) (ok : Accepted p) (n : ℕ) (most : n ≤ 16) (s : State) (s
       go (suc x) e t =
           let o = join-target p ok j (nextOf s j) x (me .0 .below) (me .0 .left) e .0 in
           let b = parent-begun o in
-          wakes-iff (shape p) (shape-valid p ok) (nextOf s) (lineOf s) (sound .good) w j (dequeOf s w) is next′ acted others o .1 (
+          wakes-iff (shape p) (shape-valid p ok) (nextOf s) (sound .good .closed) j (me .0) (me .1) next′ acted others o .1 (
             λ r. T-not before (both-left (not before) _ t) (ready-by p (s .next) ok (parent p j) r (λ z. absurd (omega arith))),
             ready-is p (afterOf s j) ok (parent p j) (both-right (not before) _ t),
           )
@@ -131,7 +131,7 @@ module _ (p : Plan) (ok : Accepted p) (n : ℕ) (most : n ≤ 16) (s : State) (s
   wakes-by k =
       let o = join-target p ok j (nextOf s j) (nextOf s (parent p j)) (me .0 .below) (me .0 .left) (k .sends) .0 in
       let b = parent-begun o in
-      let t = wakes-iff (shape p) (shape-valid p ok) (nextOf s) (lineOf s) (sound .good) w j (dequeOf s w) is next′ acted others o .0 k in
+      let t = wakes-iff (shape p) (shape-valid p ok) (nextOf s) (sound .good .closed) j (me .0) (me .1) next′ acted others o .0 k in
       let before = ready p (s .next) (parent p j) in
       rw (wakes, k .sends) (both-intro (not before) _ (not-T before (λ x. t .0 (ready-is p (s .next) ok (parent p j) x)))
       (ready-by p (afterOf s j) ok (parent p j) (t .1) (λ z. absurd (omega arith))))
@@ -145,7 +145,7 @@ module _ (p : Plan) (ok : Accepted p) (n : ℕ) (most : n ≤ 16) (s : State) (s
       go (y ∷ d) e =
           let k = wakes-is t in
           let o = join-target p ok j (nextOf s j) (nextOf s (parent p j)) (me .0 .below) (me .0 .left) (k .sends) .0 in
-          let stalled = wakes-iff (shape p) (shape-valid p ok) (nextOf s) (lineOf s) (sound .good) w j (dequeOf s w) is next′ acted others o .0 k .0 in
+          let stalled = wakes-iff (shape p) (shape-valid p ok) (nextOf s) (sound .good .closed) j (me .0) (me .1) next′ acted others o .0 k .0 in
           let c : Chain (shape p) (j ∷ (y ∷ d)) = rw (is, e) at (sound .good .chain w) in
           absurd (stalled (sound .good .here w (parent p j) (rw (is, e) (inr (inl (c .1)))) .1))
 
@@ -197,8 +197,8 @@ module _ (p : Plan) (ok : Accepted p) (n : ℕ) (most : n ≤ 16) (s : State) (s
         workers = length-set (s .workers) w (seat .worker) ∙ sound .workers;
         deques = length-set (s .deques) w (seat .deque) ∙ sound .deques;
         rows = length-set (s .rows) _ _ ∙ sound .rows;
-        good = turn-good (shape p) (shape-valid p ok) (nextOf s) (lineOf s) (sound .good) w j (dequeOf s w) is next′ acted others
-            (lineOf (turn p r w j s)) (mine ∙ seat-line) rest;
+        good = turn-good (shape p) (shape-valid p ok) (nextOf s) (sound .good .closed) j (me .0) (me .1) next′ acted others
+            (lineOf s) (sound .good) w (dequeOf s w) is (lineOf (turn p r w j s)) (mine ∙ seat-line) rest;
         empty = λ v e. by-cases (ℕ-discrete v w)
             (λ q. rw q (getD-set-same (s .deques) w (seat .deque) [] hd
             ∙ seat-empty p (afterOf s j) j (nextOf s j) (aboveOf p s w j) (sym mine ∙ rw q at e)))

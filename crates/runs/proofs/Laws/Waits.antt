@@ -19,7 +19,7 @@ use Rattle.runs.specs.State.{State, nextOf, workerOf, dequeOf, start}
 use Rattle.runs.specs.Turn.{ready, takeBottom, seatAfter, wakes, woken}
 use Rattle.runs.specs.Steal.{Pick, older, oldest, waits, waiting}
 use Rattle.runs.proofs.Lines.Sum.{sum, sum-suc}
-use Rattle.runs.proofs.Laws.Done.{sum-same}
+use Rattle.runs.proofs.Lines.Sum.{sum-same}
 
 pub waiting-sum : (k : ℕ) (ws : List Worker) → waiting k ws ≡ sum k (λ w. waits (getD ws w Idle))
 unfolding sum

@@ -2,7 +2,7 @@
 --   Finished p n choices s == s is the state in which a run ends: all turns of a round are taken, and job 0 has ended
 -- Assumes nothing.
 use Prim.Native.Nat.{ℕ, zero, suc, _+_, _*_, _≤_, _<_}
-use mathlib.Core.Path.{_≡_, refl, ap, _∙_}
+use mathlib.Core.Path.{_≡_, refl, ap}
 use mathlib.Core.Bool.{Bool, true, false}
 use mathlib.Core.List.{List}
 use native.Mathlib.Nat.{le-refl, one-mul, mul-le-mul}
@@ -18,8 +18,9 @@ use Rattle.plan.specs.Rules.{Accepted}
 use Rattle.plan.proofs.Laws.Valid.{work-range}
 use Rattle.runs.specs.Trace.{Stage, turning, laying, serving, Trace, begins, turned, goes-on, laid, all-laid, served, next-round}
 use Rattle.runs.proofs.Laws.Sound.{trace-sound, all-done}
-use Rattle.runs.proofs.Laws.Done.{sum-same, sizes-sum, actions-done, actions-most}
-use Rattle.runs.proofs.Laws.Rounds.{rounds-known, numbered-late, numbered-most, not-ended, began-busy, rounds-act}
+use Rattle.runs.proofs.Laws.Rounds.{rounds-known, numbered-late, numbered-most, not-ended}
+use Rattle.runs.proofs.Laws.Coursed.{actions-most, actions-all}
+pub use Rattle.runs.proofs.Laws.Coursed.{round-most}
 use Rattle.runs.proofs.Laws.Tallies.{turns-sum, turns-most, requests-most, lone-idle}
 use Rattle.runs.proofs.Laws.Waiting.{requests-sum}
 
@@ -72,28 +73,12 @@ module _ (p : Plan) (n : ℕ) (choices : List ℕ) where
   rounds-on k s e = rw (rounds, e)
 
 module _ (p : Plan) (ok : Accepted p) (n : ℕ) (some : 1 ≤ n) (most : n ≤ 16) (choices : List ℕ) where
-  begun-most : {r : ℕ} {b : List Worker} {s : State} → Trace p n choices r b (turning 0) s → r ≤ work p
-  begun-most t =
-      let h = turns-trace p n choices t n (le-refl n) in
-      let (w, j, l, f) = began-busy p ok n some most choices t in
-      omega (arith, rounds-act p ok n some most choices h .1 w j l f, actions-most p ok n some most choices h)
-
-  -- no round comes after round T1, for each that begins does an action
-  pub round-most : {r : ℕ} {b : List Worker} {g : Stage} {s : State} → Trace p n choices r b g s → r ≤ work p
-  round-most begins = begun-most begins
-  round-most (turned t h) = round-most t
-  round-most (goes-on t e) = round-most t
-  round-most (laid t h) = round-most t
-  round-most (all-laid t) = round-most t
-  round-most (served t h) = round-most t
-  round-most (next-round t) = begun-most (next-round t)
-
   -- so every count but the peak stays small
   pub counts-small : {r : ℕ} {b : List Worker} {g : Stage} {s : State} → Trace p n choices r b g s
       → (r ≤ 2048) × (s .tally .rounds ≤ r) × (s .tally .actions ≤ 2048) × (s .tally .idle ≤ 32768) × (s .tally .requests ≤ 32768)
       × (s .tally .steals ≤ 32768) × (s .tally .misses ≤ 32768)
   counts-small {r} {g = g} {s} t =
-      let few : r ≤ 2048 = omega (arith, round-most t, work-range p ok) in
+      let few : r ≤ 2048 = omega (arith, round-most p ok n some most choices t, work-range p ok) in
       let all : n * r ≤ 16 * 2048 = mul-le-mul most few in
       let requests : s .tally .requests ≤ 32768 = omega (arith, requests-most p ok n some most choices t) in
       let settled = requests-sum p ok n some most choices t in (
@@ -108,7 +93,7 @@ module _ (p : Plan) (ok : Accepted p) (n : ℕ) (some : 1 ≤ n) (most : n ≤ 1
 
   -- fuel for the rounds that are left of T1 is enough
   pub rounds-finish : (k r : ℕ) (s : State) → Trace p n choices r (s .workers) (turning 0) s → work p < k + r → Finished p n choices (rounds k p n choices s)
-  rounds-finish zero r s t h = absurd (omega (arith, round-most t))
+  rounds-finish zero r s t h = absurd (omega (arith, round-most p ok n some most choices t))
   rounds-finish (suc k) r s t h = rw (rounds-on p n choices k s (not-ended p ok n some most choices t)) (go (ended p half) refl (rounds-finish k))
     where
       half : State
@@ -136,7 +121,7 @@ module _ (p : Plan) (ok : Accepted p) (n : ℕ) (some : 1 ≤ n) (most : n ≤ 1
   run-trace = rounds-finish (work p) 1 (start p) begins (omega arith)
 
   pub rounds-most : run p n choices .tally .rounds ≤ work p
-  rounds-most = let (r, b, t, e, q) = run-trace in omega (arith, round-most t)
+  rounds-most = let (r, b, t, e, q) = run-trace in omega (arith, round-most p ok n some most choices t)
 
   -- every action is done
   pub run-done : (j : ℕ) → j < length p → nextOf (run p n choices) j ≡ size p j
@@ -146,7 +131,7 @@ module _ (p : Plan) (ok : Accepted p) (n : ℕ) (some : 1 ≤ n) (most : n ≤ 1
   pub run-actions : run p n choices .tally .actions ≡ work p
   run-actions =
       let (r, b, t, e, q) = run-trace in
-      actions-done p ok n some most choices t ∙ (sum-same (length p) (nextOf (run p n choices)) (size p) run-done ∙ sizes-sum p)
+      actions-all p ok n some most choices t e
 
   -- each worker has a turn in each round
   pub run-turns : n * run p n choices .tally .rounds ≡ run p n choices .tally .actions + run p n choices .tally .idle

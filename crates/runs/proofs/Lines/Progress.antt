@@ -2,12 +2,11 @@
 -- Assumes nothing.
 use mathlib.Core.Path.{_≡_, sym}
 use mathlib.Core.Logic.{⊎-elim}
-use mathlib.Core.List.{List}
 use Prim.Native.Nat.{ℕ, suc, pred, _-_, _≤_, _<_}
 use native.Mathlib.Nat.{eq-zero-or-pos, suc-pred-eq-of-ne-zero, lt-of-not-le, le-antisymm, le-of-suc-le-suc}
 use native.Mathlib.Omega.{arith}
 use Rattle.runs.proofs.Lines.Bounded.{strong}
-use Rattle.runs.proofs.Lines.Shape.{Shape, Valid, Living, Good}
+use Rattle.runs.proofs.Lines.Shape.{Shape, Valid, Living, Closed}
 
 module _ (P : Shape) (ok : Valid P) where
   open Shape P using (jobs, len, parent, spawnAt, join)
@@ -20,7 +19,7 @@ module _ (P : Shape) (ok : Valid P) where
       let v = ok .joins j (len j - 1) (pred (join j (len j - 1))) b l e in
       (pred (join j (len j - 1)), e, l, v .1, v .2)
 
-  module _ (next : ℕ → ℕ) (line : ℕ → List ℕ) (good : Good P next line) where
+  module _ (next : ℕ → ℕ) (closed : Closed P next) where
     pub parent-lives : (x : ℕ) → 1 ≤ x → Living P next x → Living P next (parent x)
     parent-lives x o a =
         let (t, e, l, b, s) = ends x o (a .below) in
@@ -29,8 +28,8 @@ module _ (P : Shape) (ok : Valid P) where
         let v = a .left in
         record {
           below = omega (arith, a .below);
-          begun = λ i. good .started (parent x) i (omega (arith, a .below)) (omega arith);
-          left = lt-of-not-le (λ (g : len (parent x) ≤ next (parent x)). let z = good .joined x (len x - 1) t (a .below) l e (omega arith) in omega arith);
+          begun = λ i. closed .started (parent x) i (omega (arith, a .below)) (omega arith);
+          left = lt-of-not-le (λ (g : len (parent x) ≤ next (parent x)). let z = closed .joined x (len x - 1) t (a .below) l e (omega arith) in omega arith);
         }
 
     -- the root lives as long as any job
@@ -43,7 +42,7 @@ module _ (P : Shape) (ok : Valid P) where
     all-done h = strong (λ j. j < jobs → next j ≡ len j) step
       where
         step : (j : ℕ) → ((i : ℕ) → i < j → i < jobs → next i ≡ len i) → j < jobs → next j ≡ len j
-        step j rec b = le-antisymm (good .bound j b) (le-of-suc-le-suc (lt-of-not-le (λ (l : next j < len j).
+        step j rec b = le-antisymm (closed .bound j b) (le-of-suc-le-suc (lt-of-not-le (λ (l : next j < len j).
             let begun : 1 ≤ j → spawnAt j < next (parent j) =
             λ o. let q = ok .older j o b in omega (arith, ends j o b, rec (parent j) q (omega arith)) in
             let z = root-lives j (record { below = b; begun = begun; left = l }) .left in

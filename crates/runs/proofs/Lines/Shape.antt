@@ -63,11 +63,24 @@ module _ (P : Shape) where
   Chain (x ∷ []) = Unit {0}
   Chain (x ∷ (y ∷ l)) = (1 ≤ x) × (parent x ≡ y) × Chain (y ∷ l)
 
-  -- `line w` is the job that worker w holds, and then its deque from the bottom up
-  pub record Good (next : ℕ → ℕ) (line : ℕ → List ℕ) : Type 0 where
+  -- what is done is closed: nothing is done before what it must follow
+  pub record Closed (next : ℕ → ℕ) : Type 0 where
     pub bound : (j : ℕ) → j < jobs → next j ≤ len j
     pub started : (j : ℕ) → 1 ≤ j → j < jobs → 0 < next j → spawnAt j < next (parent j)
     pub joined : (j a t : ℕ) → j < jobs → a < len j → join j a ≡ suc t → t < next (parent j) → a < next j
+
+  -- k is a living child of x
+  abbrev pub Heir : (ℕ → ℕ) → ℕ → ℕ → Type 0
+  Heir next x k = (1 ≤ k) × ((parent k ≡ x) × Living next k)
+
+  -- every living job that has no living child is the first of a line; a line may be whatever has a first job
+  pub record Leaves (next : ℕ → ℕ) (line : ℕ → List ℕ) : Type 0 where
+    pub known : (w x : ℕ) (l : List ℕ) → line w ≡ x ∷ l → x < jobs
+    pub leaf : (x : ℕ) → Living next x → ((k : ℕ) → k < jobs → ¬ Heir next x k) → (w : ℕ) × (l : List ℕ) × (line w ≡ x ∷ l)
+
+  -- `line w` is the job that worker w holds, and then its deque from the bottom up
+  pub record Good (next : ℕ → ℕ) (line : ℕ → List ℕ) : Type 0 where
+    pub closed : Closed next
     pub chain : (w : ℕ) → Chain (line w)
     pub here : (w x : ℕ) → x ∈ line w → Living next x × Ready next x
     pub apart : (v w x : ℕ) → x ∈ line v → x ∈ line w → v ≡ w

@@ -7,8 +7,15 @@ use Prim.Native.Nat.{ℕ, _<_}
 use native.Mathlib.Nat.{eq-zero-or-pos}
 use native.Mathlib.Omega.{arith}
 use native.Mathlib.Decide.{ℕ-discrete}
-use Rattle.runs.proofs.Lines.Shape.{Shape, Valid, Living, Ready, Chain, Good}
+use Rattle.runs.proofs.Lines.Shape.{Shape, Valid, Living, Ready, Chain, Closed, Good}
 use Rattle.runs.proofs.Lines.Member.{_∈_, in-single}
+
+pub none-closed : (P : Shape) (next : ℕ → ℕ) → ((j : ℕ) → next j ≡ 0) → Closed P next
+none-closed P next none = record {
+  bound = λ j b. omega (arith, none j);
+  started = λ j o b h. absurd (omega (arith, none j));
+  joined = λ j a t b h i m. absurd (omega (arith, none (P .parent j)));
+}
 
 module _ (P : Shape) (ok : Valid P) (next : ℕ → ℕ) (line : ℕ → List ℕ) (none : (j : ℕ) → next j ≡ 0)
     (root : line 0 ≡ 0 ∷ []) (idle : (w : ℕ) → w ≢ 0 → line w ≡ []) where
@@ -32,9 +39,7 @@ module _ (P : Shape) (ok : Valid P) (next : ℕ → ℕ) (line : ℕ → List �
 
   pub start-good : Good P next line
   start-good = record {
-    bound = λ j b. omega (arith, none j);
-    started = λ j o b h. absurd (omega (arith, none j));
-    joined = λ j a t b h i m. absurd (omega (arith, none (P .parent j)));
+    closed = none-closed P next none;
     chain = chain′;
     here = λ w x m. rw (first w x m .1) (root-living, root-ready);
     apart = λ v w x m i. omega (arith, first v x m, first w x i);

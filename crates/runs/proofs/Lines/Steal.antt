@@ -65,9 +65,7 @@ module _ (P : Shape) (ok : Valid P) (next : ℕ → ℕ) (line : ℕ → List �
 
   pub steal-good : Good P next line′
   steal-good = record {
-    bound = good .bound;
-    started = good .started;
-    joined = good .joined;
+    closed = good .closed;
     chain = chain′;
     here = λ u y m. here′ u y (was u y m);
     apart = λ u t y m i. apart′ u t y (was u y m) (was t y i);

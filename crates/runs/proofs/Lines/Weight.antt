@@ -1,17 +1,34 @@
 -- The frames of the living jobs weigh at most as much as one path of the tree for each line.
 -- Assumes nothing.
 use mathlib.Core.Path.{_≡_, refl, sym, ap, _∙_}
-use mathlib.Core.Logic.{inl}
 use mathlib.Core.List.{List, [], _∷_}
 use Prim.Native.Nat.{ℕ, zero, suc, _+_, _*_, _≤_, _<_, zero-le}
 use native.Mathlib.Nat.{le-trans, le-of-eq, le-refl, lt-of-not-le}
 use native.Mathlib.Omega.{arith}
 use native.Mathlib.Decide.{ℕ-discrete}
 use Rattle.runs.proofs.Lines.Member.{not-nil}
-use Rattle.runs.proofs.Lines.Shape.{Shape, Valid, Living, living?, Good}
+use Rattle.runs.proofs.Lines.Shape.{Shape, Valid, Living, living?, Closed, Leaves}
 use Rattle.runs.proofs.Lines.Cover.{Above, self, up, cover}
 use Rattle.runs.proofs.Lines.Progress.{parent-lives}
-use Rattle.runs.proofs.Lines.Sum.{sum, only, only-yes, sum-le, sum-add, sum-zero, sum-swap, sum-term, sum-mono, sum-bound, sum-only}
+use Rattle.runs.proofs.Lines.Sum.{sum, only, only-yes, sum-le, sum-add, sum-zero, sum-swap, sum-term, sum-mono, sum-bound, sum-times, sum-only}
+
+-- whether a line is not empty, as a number
+unfoldable pub full : List ℕ → ℕ
+full [] = 0
+full (x ∷ l) = 1
+
+-- how many of the first lines are not empty
+unfoldable pub filled : ℕ → (ℕ → List ℕ) → ℕ
+unfolding full
+filled size line = sum size (λ w. full (line w))
+
+pub filled-most : (size : ℕ) (line : ℕ → List ℕ) → filled size line ≤ size
+unfolding filled full
+filled-most size line = omega (arith, sum-bound size (λ w. full (line w)) 1 (λ w b. each (line w)))
+  where
+    each : (l : List ℕ) → full l ≤ 1
+    each [] = zero-le
+    each (x ∷ l) = le-refl 1
 
 module _ (P : Shape) where
   open Shape P using (jobs, parent, frame)
@@ -100,12 +117,12 @@ module _ (P : Shape) where
         let r = above-share d x (parent (suc h)) (omega arith) (omega arith) a in
         omega arith
 
-    module _ (next : ℕ → ℕ) (line : ℕ → List ℕ) (good : Good P next line) (size : ℕ) (past : (w : ℕ) → size ≤ w → line w ≡ []) where
+    module _ (next : ℕ → ℕ) (line : ℕ → List ℕ) (leaves : Leaves P next line) (size : ℕ) (past : (w : ℕ) → size ≤ w → line w ≡ []) where
       covered : (x : ℕ) → Living P next x → frame x ≤ sum size (λ w. part (line w) x)
       unfolding part
       covered x a =
-          let (w, h, l, e, s) = cover P ok next line good x a in
-          let b : h < jobs = good .here w h (rw e (inl refl)) .0 .below in
+          let (w, h, l, e, s) = cover P ok next line leaves x a in
+          let b : h < jobs = leaves .known w h l e in
           let i : w < size = lt-of-not-le (λ (g : size ≤ w). not-nil [] h l (sym e ∙ past w g)) in
           le-trans (above-share h x h b (le-refl h) s) (rw e at (sum-term size (λ v. part (line v) x) w i))
 
@@ -119,16 +136,18 @@ module _ (P : Shape) where
           each x (yes a) = covered x a
           each x (no f) = zero-le
 
-      -- the space of the living jobs, where no path weighs more than s
-      pub space : (s : ℕ) → ((j : ℕ) → j < jobs → path j ≤ s) → held next ≤ size * s
-      unfolding reach
-      space s h = le-trans held-reach (sum-bound size (λ w. reach (line w)) s (λ w b. each w (line w) refl))
+      -- the space of the living jobs, where no path weighs more than s: one path for each line that is not empty
+      pub space : (s : ℕ) → ((j : ℕ) → j < jobs → path j ≤ s) → held next ≤ filled size line * s
+      unfolding reach full filled
+      space s h =
+          le-trans held-reach (le-trans (sum-le size (λ w. reach (line w)) (λ w. full (line w) * s) (λ w b. each w (line w) refl))
+          (le-of-eq (sum-times size (λ w. full (line w)) s)))
         where
-          each : (w : ℕ) (l : List ℕ) → line w ≡ l → reach l ≤ s
+          each : (w : ℕ) (l : List ℕ) → line w ≡ l → reach l ≤ full l * s
           each w [] e = zero-le
-          each w (x ∷ l) e = h x (good .here w x (rw e (inl refl)) .0 .below)
+          each w (x ∷ l) e = omega (arith, h x (leaves .known w x l e))
 
-    module _ (next : ℕ → ℕ) (line : ℕ → List ℕ) (good : Good P next line) where
+    module _ (next : ℕ → ℕ) (closed : Closed P next) where
       -- a living job's ancestors live, so their frames are held
       path-below : (d h : ℕ) → Living P next h → pathIn d h ≤ sum (suc h) (λ x. only (living? P next x) (frame x))
       unfolding pathIn sum
@@ -137,7 +156,7 @@ module _ (P : Shape) where
       path-below (suc d) (suc h) a =
           let q = parent (suc h) in
           let o = ok .older (suc h) (omega arith) (a .below) in
-          let r = path-below d q (parent-lives P ok next line good (suc h) (omega arith) a) in
+          let r = path-below d q (parent-lives P ok next closed (suc h) (omega arith) a) in
           let m = sum-mono (suc q) (suc h) (λ x. only (living? P next x) (frame x)) o in
           omega (arith, only-yes (living? P next (suc h)) (frame (suc h)) a)
 

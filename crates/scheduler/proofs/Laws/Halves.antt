@@ -24,7 +24,7 @@ use Rattle.runs.specs.Trace.{Stage, turning, laying, goes-on}
 use Rattle.scheduler.specs.Requests.{Pointed, Queued}
 use Rattle.scheduler.specs.Machine.{Planned, Progressed, Dequed, Manned, InRun, Machine}
 use Rattle.runs.proofs.Laws.Rounds.{rounds-known}
-use Rattle.runs.proofs.Laws.Rows.{lay-still, serve-still}
+use Rattle.runs.proofs.Laws.Rests.{lay-rests, serve-rests}
 use Rattle.runs.proofs.Laws.Tallies.{turn-requests, serve-requests}
 use Rattle.runs.proofs.Laws.Whole.{round-last, round-on}
 use Rattle.scheduler.proofs.Laws.Running.{run-sound, run-at, run-turns}
@@ -35,18 +35,18 @@ lays-still : (choices : List ℕ) (r k : ℕ) (b : List Worker) (s : State)
 unfolding lays
 lays-still choices r zero b s = (refl, refl)
 lays-still choices r (suc k) b s =
-    let (e, f) = lay-still choices r k (getD b k Idle) (lays choices r k b s) in
+    let q = lay-rests choices r k (getD b k Idle) (lays choices r k b s) in
     let (g, h) = lays-still choices r k b s in
-    (e ∙ g, f ∙ h)
+    (q .next ∙ g, q .rows ∙ h)
 
 serves-still : (n k : ℕ) (s : State) → (serves n k s .next ≡ s .next) × (serves n k s .rows ≡ s .rows)
 unfolding serves
 serves-still n zero s = (refl, refl)
 serves-still n (suc k) s =
     let t = serves n k s in
-    let (e, f) = serve-still k (oldest k n (t .workers) .who) t in
+    let q = serve-rests k (oldest k n (t .workers) .who) t in
     let (g, h) = serves-still n k s in
-    (e ∙ g, f ∙ h)
+    (q .next ∙ g, q .rows ∙ h)
 
 -- turns and services lay no request
 pub turns-requests : (p : Plan) (r k : ℕ) (b : List Worker) (s : State) → turns p r k b s .tally .requests ≡ s .tally .requests
@@ -104,7 +104,7 @@ module _ {p : Plan} {n : ℕ} {choices : List ℕ} {r : ℕ} {b : List Worker} {
       let some = jobs-range p (run .accepted) .0 in (
         progressed .nexts 0 some,
         first-at p first (planned .firsts) 1 some ∙ (start-suc p 0 some ∙ zero-add (size p 0)),
-        run-sound run .good .bound 0 some,
+        run-sound run .good .closed .bound 0 some,
       )
 
   ended-there : getD next 0 0 ≡ getD first 1 0 → ended p s ≡ true

@@ -15,8 +15,7 @@ use Rattle.runs.specs.Run.{run}
 use Rattle.runs.specs.Schedule.{scheduleBytes}
 use Rattle.scheduler.specs.Machine.{Printed, Kept}
 use Rattle.scheduler.specs.Header.{headerBytes}
-use Rattle.runs.proofs.Laws.Rows.{rows-length}
-use Rattle.runs.proofs.Laws.Order.{run-row}
+use Rattle.runs.proofs.Laws.Coursed.{rows-length, run-row}
 use Rattle.runs.proofs.Laws.OwnSchedule.{schedule-length}
 use Rattle.runs.proofs.Laws.Whole.{run-trace, round-most, run-done}
 use Rattle.scheduler.proofs.Laws.ScheduleBytes.{rowBytes, Narrow, schedule-bytes}

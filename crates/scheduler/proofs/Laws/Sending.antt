@@ -22,7 +22,7 @@ use Rattle.scheduler.specs.TurnParts.{afterOf, aboveOf, Sending, Sent}
 use Rattle.runs.proofs.Lines.Turn.{Wakes}
 use Rattle.runs.proofs.Laws.PlanShape.{shape}
 use Rattle.scheduler.proofs.Laws.Missing.{missing-none, missing-no, missing-sent, missing-kept}
-use Rattle.runs.proofs.Laws.Rows.{place-apart}
+use Rattle.runs.proofs.Courses.Course.{place-apart}
 use Rattle.runs.proofs.Laws.Sound.{Sound, trace-sound, held-job}
 use Rattle.runs.proofs.Laws.TurnSound.{acted, others, wakes-is, wakes-by, wakes-empty}
 

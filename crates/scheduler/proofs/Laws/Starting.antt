@@ -26,7 +26,7 @@ use Rattle.scheduler.specs.Machine.{
   RunGiven,
 }
 use Rattle.runs.proofs.Laws.Done.{none-done}
-use Rattle.runs.proofs.Laws.History.{start-weight}
+use Rattle.runs.proofs.Laws.Coursed.{start-weight}
 use Rattle.scheduler.proofs.Laws.Missing.{missing-start}
 
 -- the account and the seats of a run's start, where job 0's frame weighs so much

@@ -23,7 +23,8 @@ use Rattle.runs.specs.Turn.{turn, idled, turnOf, turns}
 use Rattle.runs.specs.Trace.{turning, Trace, turned}
 use Rattle.scheduler.specs.Machine.{InRun, codeOf, Fitting, Planned, Machine, Manned, Printed, Kept, Acting, Acted}
 use Rattle.runs.proofs.Laws.Sound.{trace-sound, trace-began, next-bound}
-use Rattle.runs.proofs.Laws.Rows.{place-apart, Acts, acted, turn-acts}
+use Rattle.runs.proofs.Courses.Course.{place-apart, Acts, acted}
+use Rattle.runs.proofs.Laws.Coursed.{core, turn-acts}
 use Rattle.runs.proofs.Laws.Whole.{counts-small, turns-trace}
 use Rattle.scheduler.proofs.Laws.Codes.{seated-set}
 use Rattle.scheduler.proofs.Laws.Running.{run-seats, run-at}
@@ -57,7 +58,7 @@ module _ (rows : List ℕ) (k r w : ℕ) where
   )
 
 -- the rows after an action
-acts-printed : (p : Plan) (r w j : ℕ) (s s′ : State) (rows : List ℕ) → Acts p r w j s s′
+acts-printed : (p : Plan) (r w j : ℕ) (s s′ : State) (rows : List ℕ) → Acts p r w j (core s) (core s′)
     → ((h : ℕ) → h < length p → nextOf s h ≤ size p h) → place p j (nextOf s j) < work p → Printed p s rows
     → Printed p s′ (written rows (place p j (nextOf s j)) r w)
 acts-printed p r w j s s′ rows a bound within printed = record {
@@ -67,13 +68,13 @@ acts-printed p r w j s s′ rows a bound within printed = record {
       (λ e. rw (e .0, e .1, a .writes) (written-high rows k r w fits))
       (λ e. rw (e .1)
       (written-other rows k r w (2 * place p h i) (λ q. apart h i l (e .0) (omega arith)) (λ q. omega arith) ∙ printed .high h i l (e .0)))
-      (acted p r w j s s′ a bound h i l m);
+      (acted p r w j (core s) (core s′) a bound h i l m);
   down = λ h i l m.
       ⊎-elim
       (λ e. rw (e .0, e .1, a .writes) (written-down rows k r w fits))
       (λ e. rw (e .1)
       (written-other rows k r w (2 * place p h i + 1) (λ q. omega arith) (λ q. apart h i l (e .0) (omega arith)) ∙ printed .down h i l (e .0)))
-      (acted p r w j s s′ a bound h i l m);
+      (acted p r w j (core s) (core s′) a bound h i l m);
 }
   where
     k : ℕ
@@ -93,7 +94,7 @@ pub record Ahead (p : Plan) (r w j : ℕ) (s : State) : Type 0 where
   pub early : r ≤ 2048
   pub few : s .tally .actions ≤ 2048
   pub bound : (h : ℕ) → h < length p → nextOf s h ≤ size p h
-  pub acts : Acts p r w j s (turn p r w j s)
+  pub acts : Acts p r w j (core s) (core (turn p r w j s))
 
 module _ (p : Plan) (n : ℕ) (choices : List ℕ) (r w : ℕ) (b : List Worker) (s : State) (run : InRun p n choices r b (turning w) s) where
   pub turning-small : (r ≤ 2048) × (s .tally .actions ≤ 2048) × (s .tally .idle ≤ 32768)

@@ -141,7 +141,7 @@ module _ {p : Plan} {n : ℕ} {choices : List ℕ} {r : ℕ} {began : List Worke
       let (o, b, m, a) = spawned-once p (run .accepted) j (nextOf s j) c (known .0) (known .1) e in
       let last : suc (nextOf s j) ≢ size p j = λ q. omega (arith, last-spawns-none p (run .accepted) j (nextOf s j) (known .0) q) in
       let none : weighs c ≡ 0 = only-no (living? (shape p) (nextOf s) c) (job p c .frame) (λ l. omega (arith, l .begun o, ap (nextOf s) m)) in
-      let fresh : ¬ (0 < nextOf s c) = λ l. omega (arith, sound .good .started c o b l, ap (nextOf s) m) in
+      let fresh : ¬ (0 < nextOf s c) = λ l. omega (arith, sound .good .closed .started c o b l, ap (nextOf s) m) in
       let f : c ≢ j = λ q. omega (arith, older p (run .accepted) c o b) in
       let born : weighs′ c ≡ job p c .frame = only-yes (living? (shape p) after c) (job p c .frame) (record {
         below = b;
