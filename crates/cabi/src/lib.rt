@@ -5,7 +5,7 @@ ghost use Prim.Native.Nat.{_<_};
 ghost use Rattle.plan.specs.Refusal.{numberOf};
 ghost use Rattle.plan_measure.specs.Measure.{measures};
 ghost use Rattle.plan_table.specs.Table.{toTable, toPlan};
-ghost use Rattle.runs.specs.Schedule.{checked};
+ghost use Rattle.courses.specs.Schedule.{checked};
 ghost use Rattle.scheduler.specs.Entry.{runInto};
 ghost use Rattle.cabi.specs.Plain.{countOf, measuresOf, tallyOf, checkOf, Claimed};
 use checker::Judged;

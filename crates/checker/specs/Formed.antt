@@ -13,8 +13,8 @@ use lib.ListN.{length, getD}
 use lib.Dec.{T}
 use Rattle.plan.specs.Refusal.{refused, accepted}
 use Rattle.plan.specs.Field.{stop, step, then}
-use Rattle.runs.specs.State.{Row}
-use Rattle.runs.specs.Schedule.{rowsAt, writtenAt, readSchedule}
+use Rattle.courses.specs.Row.{Row}
+use Rattle.courses.specs.Schedule.{rowsAt, writtenAt, readSchedule}
 use Rattle.checker.specs.Rows.{RowsAt}
 
 pub record WellFormed (s : List ℕ) (n workers : ℕ) : Type 0 where

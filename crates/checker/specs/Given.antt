@@ -8,7 +8,7 @@ use lib.ListN.{length, getD}
 use Rattle.plan.specs.Plan.{Plan, work, parent}
 use Rattle.plan.specs.Rules.{Accepted}
 use Rattle.plan.specs.Flat.{Firsts, Spawns, Joins}
-use Rattle.runs.specs.State.{Row}
+use Rattle.courses.specs.Row.{Row}
 use Rattle.checker.specs.Rows.{RowsAt}
 
 pub record RulesGiven (p : Plan) (rows : List Row) (jobs : ℕ) (schedule firstOf spawnOf joinOf parentOf : List ℕ) : Type 0 where

@@ -5,7 +5,7 @@ use Prim.Native.Nat.{ℕ, _+_, _*_, _<_}
 use mathlib.Core.Path.{_≡_}
 use mathlib.Core.List.{List}
 use lib.ListN.{length, getD}
-use Rattle.runs.specs.State.{Row, noRow}
+use Rattle.courses.specs.Row.{Row, noRow}
 
 pub record RowsAt (rows : List Row) (s : List ℕ) : Type 0 where
   pub long : length s ≡ 4 + 2 * length rows

@@ -14,7 +14,8 @@ use mathlib.Core.List.{List, [], _∷_}
 use lib.ListN.{getD}
 use Rattle.plan.specs.Plan.{Action, Job, Plan, spawnAt, entering}
 use Rattle.plan.specs.Rules.{inRange, spawnRules, joinRules, Accepted}
-use Rattle.runs.specs.State.{Row, noRow, State, place}
+use Rattle.courses.specs.Row.{Row, noRow, place}
+use Rattle.runs.specs.State.{State}
 use Rattle.runs.specs.Run.{run}
 use Rattle.runs.specs.Cases.{row}
 

@@ -1,6 +1,5 @@
 -- What holds of the definitions in specs/, in named modules.
 pub mod Admitted
-pub mod PlanShape
 pub mod Lined
 pub mod TurnSound
 pub mod ServeSound

@@ -2,19 +2,19 @@
 --   Count, valueOf == a count by the name that `buildrun` prints, and its value
 --   Case           == a row of the table; passes c == the meanings give the row's answer
 -- Assumes nothing.
-use Prim.Native.Nat.{ℕ, zero, suc}
+use Prim.Native.Nat.{ℕ}
 use mathlib.Core.Bool.{Bool, true, false}
 use mathlib.Core.List.{List, [], _∷_}
-use lib.ListN.{length}
 use lib.Dec.{eqb}
 use Rattle.plan.specs.Refusal.{Outcome, refused, accepted}
 use Rattle.plan.specs.Test.{both, all}
 use Rattle.plan.specs.Plan.{Plan}
 use Rattle.plan.specs.Reader.{readPlan}
 use Rattle.plan_measure.specs.Measure.{longest, heaviest}
-use Rattle.runs.specs.State.{Row, State}
+use Rattle.courses.specs.Row.{Row}
+use Rattle.runs.specs.State.{State}
 use Rattle.runs.specs.Run.{runOf}
-use Rattle.runs.specs.Schedule.{checked}
+use Rattle.courses.specs.Schedule.{checked}
 
 pub data Count : Type 0 where
   rounds actions longest′ path peak idle requests steals misses : Count

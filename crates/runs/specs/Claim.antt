@@ -8,15 +8,15 @@ use mathlib.Core.Path.{_≡_}
 use mathlib.Core.List.{List}
 use lib.ListN.{take}
 use lib.Dec.{T}
-use Rattle.plan.specs.Refusal.{Outcome, accepted}
+use Rattle.plan.specs.Refusal.{accepted}
 use Rattle.plan.specs.Plan.{Plan, work}
 use Rattle.plan.specs.Reader.{readPlan}
 use Rattle.plan_measure.specs.Measure.{longest, heaviest}
 use Rattle.runs.specs.declared.tally.Tally.{Tally}
-use Rattle.runs.specs.State.{Row, State}
+use Rattle.courses.specs.Row.{Row}
 use Rattle.runs.specs.Run.{run, workersFit, choicesFit}
-use Rattle.runs.specs.Schedule.{readSchedule}
-use Rattle.runs.specs.Living.{weightAfter, peakOf, lastRound}
+use Rattle.courses.specs.Schedule.{readSchedule}
+use Rattle.courses.specs.Living.{weightAfter, peakOf, lastRound}
 
 pub record Bounds (p : Plan) (n : ℕ) (rows : List Row) (t : Tally) : Type 0 where
   -- at the start (round 0) and after every single turn the frames of living jobs weigh at most P × S1

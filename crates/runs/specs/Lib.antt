@@ -3,8 +3,6 @@ pub mod State
 pub mod Turn
 pub mod Steal
 pub mod Run
-pub mod Schedule
-pub mod Living
 pub mod Claim
 pub mod Trace
 pub mod Cases

@@ -5,8 +5,8 @@
 --   runOf s n cs    == the run on plan bytes, or the refusal: 1 to 6, then 7, 8
 -- Assumes nothing.
 use Prim.Native.Nat.{ℕ, zero, suc}
-use mathlib.Core.Bool.{Bool, true, false, not}
-use mathlib.Core.List.{List, [], _∷_}
+use mathlib.Core.Bool.{Bool, true, false}
+use mathlib.Core.List.{List}
 use lib.ListN.{length}
 use lib.Dec.{leb, ltb}
 use Rattle.plan.specs.Test.{both, either, all}

@@ -1,25 +1,17 @@
 -- The state of a run (document 01, "Worker and round").
 --   Worker       == holds a job, waits with a request on a named victim, or is idle
---   Row          == the round and the worker of an action
 --   Tally        == "rounds, actions, idle turns, requests, steals, misses, peak"
 --   State        == the next position of each job, the workers, their deques from the bottom up, the rows in plan order, the tally
---   place p j i  == the place of action i of job j in plan order
 --   start p      == how a run begins
 -- Assumes nothing.
-use Prim.Native.Nat.{ℕ, _+_}
+use Prim.Native.Nat.{ℕ}
 use mathlib.Core.List.{List, [], _∷_}
-use lib.ListN.{length, getD, take, replicate}
+use lib.ListN.{length, getD, replicate}
 use Rattle.plan.specs.Plan.{Plan, job, work}
+use Rattle.courses.specs.Row.{Row, noRow}
 use Rattle.runs.specs.declared.tally.Tally.{Tally}
 use Rattle.runs.specs.declared.worker.Worker.{Worker}
-use Rattle.runs.specs.declared.worker.Worker.the-variants.{Idle, Holding, Waiting}
-
-pub record Row : Type 0 where
-  pub round : ℕ
-  pub worker : ℕ
-
-abbrev pub noRow : Row
-noRow = record { round = 0; worker = 0 }
+use Rattle.runs.specs.declared.worker.Worker.the-variants.{Idle, Holding}
 
 -- each deque as its jobs, the bottom one first; a job that is stolen is taken from the other end, the top
 pub record State : Type 0 where
@@ -37,9 +29,6 @@ workerOf s w = getD (s .workers) w Idle
 
 abbrev pub dequeOf : State → ℕ → List ℕ
 dequeOf s w = getD (s .deques) w []
-
-abbrev pub place : Plan → ℕ → ℕ → ℕ
-place p j i = work (take j p) + i
 
 -- "Worker 0 starts with job 0, the others start idle; every deque starts empty, no request is laid, and every count is 0
 -- but the peak, which is job 0's frame."

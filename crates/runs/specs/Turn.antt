@@ -1,47 +1,20 @@
 -- A worker's turn, and the first half of a round (document 01, "Worker and round").
---   spawned p next j == job j is spawned, where next gives how many actions of each job are done
---   ready p next j   == the next action of job j is ready
---   living p next j  == job j lives; weight p next == the weight of the living jobs' frames
 --   wakes            == rule 1's test; seatAfter == what rules 2 and 3 leave of a worker and its deque
 --   turn p r w j s   == worker w, which holds job j, takes its turn in round r
 --   turns p r k b s  == the turns of the workers below k, where b are the workers as the round began
 -- Assumes nothing.
-use Prim.Native.Nat.{ℕ, zero, suc, _+_, max}
+use Prim.Native.Nat.{ℕ, zero, suc, max}
 use mathlib.Core.Bool.{Bool, true, false, not}
 use mathlib.Core.List.{List, [], _∷_}
-use lib.ListN.{length, getD, set}
-use lib.Dec.{eqb, leb, ltb}
-use Rattle.plan.specs.Test.{both, either, all}
-use Rattle.plan.specs.Plan.{Plan, Job, job, size, action, placed, parent, spawnAt, enters}
-use Rattle.runs.specs.declared.tally.Tally.{Tally}
+use lib.ListN.{getD, set}
+use lib.Dec.{ltb}
+use Rattle.plan.specs.Test.{both}
+use Rattle.plan.specs.Plan.{Plan, size, action, parent}
 use Rattle.runs.specs.declared.worker.Worker.{Worker}
 use Rattle.runs.specs.declared.worker.Worker.the-variants.{Idle, Holding, Waiting}
-use Rattle.runs.specs.State.{Row, State, nextOf, dequeOf, place}
-
-unfoldable pub spawned : Plan → List ℕ → ℕ → Bool
-unfolding parent spawnAt
-spawned p next j = either (eqb j 0) (ltb (spawnAt p j) (getD next (parent p j) 0))
-
--- "An action is ready when the one before it, its spawner (for position 0) and all senders of joins into it are done."
-unfoldable pub ready : Plan → List ℕ → ℕ → Bool
-unfolding spawned enters
-ready p next j =
-    both (either (leb 1 (getD next j 0)) (spawned p next j))
-    (all (λ a. either (not (enters p j (getD next j 0) a)) (ltb (a .position) (getD next (a .job) 0))) (placed p))
-
--- "held from its spawn until its last action is done"
-unfoldable pub living : Plan → List ℕ → ℕ → Bool
-unfolding spawned
-living p next j = both (spawned p next j) (ltb (getD next j 0) (size p j))
-
--- the frames of those jobs, of the ones from job j on, that a test holds of
-abbrev pub frames : (ℕ → Bool) → ℕ → List Job → ℕ
-frames f j [] = 0
-frames f j (b ∷ bs) = elim (f j) [ true ↦ b .frame + frames f (suc j) bs | false ↦ frames f (suc j) bs ]
-
-unfoldable pub weight : Plan → List ℕ → ℕ
-unfolding living
-weight p next = frames (living p next) 0 p
+use Rattle.courses.specs.Row.{place}
+use Rattle.courses.specs.Ready.{ready, weight}
+use Rattle.runs.specs.State.{State, nextOf, dequeOf}
 
 -- 1. "If the action sends a join and this was the last one missing to a stalled parent": the parent's next action was not
 -- ready before the action, and is after it

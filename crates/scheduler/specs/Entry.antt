@@ -17,7 +17,7 @@ use Rattle.scheduler.specs.declared.run.Ran.{Ran}
 use Rattle.scheduler.specs.declared.run.Ran.the-variants.{Refused, Done}
 use Rattle.runs.specs.State.{State}
 use Rattle.runs.specs.Run.{runOf}
-use Rattle.runs.specs.Schedule.{scheduleBytes}
+use Rattle.courses.specs.Schedule.{scheduleBytes}
 use Rattle.runs.specs.Claim.{Bounded}
 
 pub record Result : Type 0 where

@@ -28,8 +28,9 @@ use Rattle.scheduler.specs.declared.account.Account.{Account}
 use Rattle.scheduler.specs.declared.turn.Turned.{Turned}
 use Rattle.runs.specs.declared.worker.Worker.{Worker}
 use Rattle.runs.specs.declared.worker.Worker.the-variants.{Idle, Holding, Waiting}
-use Rattle.runs.specs.State.{Row, noRow, State, nextOf, workerOf, place}
-use Rattle.runs.specs.Turn.{weight}
+use Rattle.courses.specs.Row.{Row, noRow, place}
+use Rattle.runs.specs.State.{State, nextOf, workerOf}
+use Rattle.courses.specs.Ready.{weight}
 use Rattle.runs.specs.Steal.{dropTop, topOf}
 use Rattle.runs.specs.Run.{choicesFit}
 use Rattle.runs.specs.Trace.{Stage, turning, Trace}

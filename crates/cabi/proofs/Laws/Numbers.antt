@@ -6,20 +6,7 @@ use native.Mathlib.Omega.{arith}
 use mathlib.Core.Path.{_≡_, refl}
 use mathlib.Core.List.{List}
 use Rattle.plan.specs.declared.refusal.Refusal.{Refusal}
-use Rattle.plan.specs.declared.refusal.Refusal.the-variants.{
-  RanOut,
-  Form,
-  Range,
-  Spawn,
-  Join,
-  Fill,
-  Workers,
-  Choices,
-  Short,
-  Table,
-  Schedule,
-  Rule,
-}
+use Rattle.plan.specs.declared.refusal.Refusal.the-variants.{RanOut, Form, Range, Spawn, Join, Fill, Workers, Choices, Short, Table, Schedule, Rule}
 use Rattle.plan.specs.Refusal.{Outcome, refused, accepted, numberOf}
 use Rattle.plan_measure.specs.declared.Measures.{Measures}
 use Rattle.plan_measure.specs.declared.Measured.{Measured}

@@ -9,21 +9,10 @@ use mathlib.Core.List.{List}
 use native.Mathlib.Numerals.{add-one}
 use native.Mathlib.Omega.{arith}
 use lib.ListN.{length, getD}
-use Rattle.runs.specs.State.{Row}
+use Rattle.courses.specs.Row.{Row}
 use Rattle.plan.specs.Plan.{Plan, Placed, size, action, work, placed, noPlaced, parent}
 use Rattle.plan.specs.Rules.{Accepted}
-use Rattle.plan.proofs.Laws.Placed.{
-  start,
-  placed-at,
-  placed-of,
-  Stands,
-  place-below,
-  start-suc,
-  start-below,
-  first-at,
-  spawn-at,
-  join-at,
-}
+use Rattle.plan.proofs.Laws.Placed.{start, placed-at, placed-of, Stands, place-below, start-suc, start-below, first-at, spawn-at, join-at}
 use Rattle.plan.proofs.Laws.Valid.{jobs-range, size-range, work-range, older, spawned-once, join-target}
 use Rattle.plan_measure.proofs.Laws.Follows.{Follows, next, born, joined, act, follows-of, of-follows}
 use Rattle.checker.specs.Judging.{word, JobPlace, Later, Followed, Told}

@@ -9,7 +9,7 @@ use lib.Dec.{eqb, leb, eqb→eq, leb→le}
 use borrow.Author.Tests.{eq-eqb, le-leb}
 use Rattle.plan.specs.Test.{both}
 use Rattle.plan.specs.Field.{stop, step, then, fieldAt}
-use Rattle.runs.specs.Schedule.{writtenAt}
+use Rattle.courses.specs.Schedule.{writtenAt}
 use Rattle.plan.proofs.Laws.Lists.{both-left, both-right, false-of}
 use Rattle.plan.proofs.Laws.Bits.{field-read}
 use Rattle.checker.specs.Formed.{Headed}

@@ -8,7 +8,7 @@ use Rattle.plan.specs.Refusal.{refused, accepted}
 use Rattle.plan.specs.Reader.{readPlan}
 use Rattle.plan.specs.Flat.{FlatPlan}
 use Rattle.plan.proofs.Laws.Found.{Given}
-use Rattle.runs.specs.Schedule.{keeps, readSchedule, ruled, judgedBy, checked}
+use Rattle.courses.specs.Schedule.{keeps, readSchedule, ruled, judgedBy, checked}
 use Rattle.checker.specs.Formed.{WellFormed}
 use Rattle.checker.specs.Given.{RulesGiven}
 

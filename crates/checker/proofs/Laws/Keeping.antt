@@ -11,11 +11,11 @@ use lib.Dec.{T, eqb, ltb, eqb→eq, eqb-refl, ltb→lt, lt→ltb}
 use Rattle.plan.specs.Test.{both, either, all}
 use Rattle.plan.specs.Plan.{Plan, Placed, work, placed, noPlaced}
 use Rattle.plan_measure.specs.Measure.{mustFollow}
-use Rattle.runs.specs.State.{Row, noRow}
-use Rattle.runs.specs.Schedule.{rowOf, clash, alone, inOrder, keeps}
+use Rattle.courses.specs.Row.{Row, noRow}
+use Rattle.courses.specs.Schedule.{rowOf, clash, alone, inOrder, keeps}
 use Rattle.plan.proofs.Laws.Lists.{both-intro, both-left, both-right, true-of, false-of, all-at, all-by}
 use Rattle.plan.proofs.Laws.Placed.{placed-of, placed-length, start-all}
-use Rattle.runs.proofs.Courses.Order.{alone-by, unless}
+use Rattle.courses.proofs.Laws.Order.{alone-by, unless}
 use Rattle.checker.specs.Rows.{RowsAt}
 use Rattle.checker.specs.Judging.{word, Followed, Seen}
 use Rattle.checker.specs.Given.{RulesGiven}

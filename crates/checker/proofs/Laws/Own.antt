@@ -18,7 +18,7 @@ use Rattle.plan.proofs.Laws.Accepted.{accepted-kept}
 use Rattle.plan.proofs.Laws.Valid.{work-range}
 use Rattle.runs.specs.declared.tally.Tally.{Tally}
 use Rattle.runs.specs.Run.{run, admitted, runOf}
-use Rattle.runs.specs.Schedule.{scheduleBytes, checked}
+use Rattle.courses.specs.Schedule.{scheduleBytes, checked}
 use Rattle.runs.proofs.Laws.Admitted.{Stopped, Went, outcome}
 use Rattle.runs.proofs.Laws.OwnSchedule.{run-checked}
 use Rattle.runs.proofs.Laws.Whole.{run-trace, round-most, run-actions}

@@ -6,13 +6,7 @@ use Rattle.plan.specs.Flat.{FlatPlan}
 use Rattle.plan.proofs.Laws.Blank.{blank}
 use Rattle.plan.proofs.Laws.Found.{Given, found-given}
 use Rattle.checker.specs.Formed.{WellFormed}
-use Rattle.checker.proofs.Laws.Judging.{
-  judges-plan,
-  judges-form,
-  rules-given,
-  judges-broken,
-  judges-kept,
-}
+use Rattle.checker.proofs.Laws.Judging.{judges-plan, judges-form, rules-given, judges-broken, judges-kept}
 use Rattle.checker.proofs.check.Statement.{statement}
 use Rattle.checker.proofs.check.Tie as tie
 

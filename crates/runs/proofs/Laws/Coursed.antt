@@ -18,23 +18,25 @@ use Rattle.runs.specs.declared.worker.Worker.the-variants.{Idle, Holding
 use Rattle.plan.specs.Plan.{Plan, job, size, work}
 use Rattle.plan.specs.Rules.{Accepted}
 use Rattle.plan_measure.specs.Measure.{longest, heaviest}
-use Rattle.runs.specs.State.{noRow, State, nextOf, workerOf, start}
-use Rattle.runs.specs.Turn.{weight, turn, turnOf, idled}
+use Rattle.courses.specs.Row.{noRow}
+use Rattle.runs.specs.State.{State, nextOf, workerOf, start}
+use Rattle.courses.specs.Ready.{weight}
+use Rattle.runs.specs.Turn.{turn, turnOf, idled}
 use Rattle.runs.specs.Steal.{oldest}
 use Rattle.runs.specs.Run.{ended}
-use Rattle.runs.specs.Schedule.{keeps}
-use Rattle.runs.specs.Living.{weightAfter, peakOf, lastRound}
+use Rattle.courses.specs.Schedule.{keeps}
+use Rattle.courses.specs.Living.{weightAfter, peakOf, lastRound}
 use Rattle.runs.specs.Trace as Trace
 use Rattle.runs.specs.Trace.{Stage, turning, laying, serving, Trace}
-use Rattle.runs.proofs.Lines.Sum.{sum, sum-same}
-use Rattle.runs.proofs.Courses.Course as Course
-use Rattle.runs.proofs.Courses.Course.{Core, Terms, Begins, Hands, Paced, Acts, Ends, Course}
-use Rattle.runs.proofs.Courses.Steps.{finished-ends}
-use Rattle.runs.proofs.Courses.Start.{none-weight}
-use Rattle.runs.proofs.Courses.Kept.{Done, course-kept}
-use Rattle.runs.proofs.Courses.Worked.{price, turns-most, turns-all, course-most}
-use Rattle.runs.proofs.Courses.Peak.{course-space, course-peak, peak-least, peak-most}
-use Rattle.runs.proofs.Courses.Order.{course-row, course-keeps, course-least, course-last}
+use Rattle.lines.proofs.Laws.Sum.{sum, sum-same}
+use Rattle.courses.proofs.Laws.Course as Course
+use Rattle.courses.proofs.Laws.Course.{Core, Terms, Begins, Hands, Paced, Acts, Ends, Course}
+use Rattle.courses.proofs.Laws.Steps.{finished-ends}
+use Rattle.courses.proofs.Laws.Start.{none-weight}
+use Rattle.courses.proofs.Laws.Kept.{Done, course-kept}
+use Rattle.courses.proofs.Laws.Worked.{price, turns-most, turns-all, course-most}
+use Rattle.courses.proofs.Laws.Peak.{course-space, course-peak, peak-least, peak-most}
+use Rattle.courses.proofs.Laws.Order.{course-row, course-keeps, course-least, course-last}
 use Rattle.runs.proofs.Laws.Lined.{held-in, held-below}
 use Rattle.runs.proofs.Laws.Sound.{Sound, start-sound, trace-sound, trace-began, space, busy, held-job, held-once}
 use Rattle.runs.proofs.Laws.Rests.{Rests, lay-rests, serve-rests}

@@ -7,12 +7,9 @@ use native.Mathlib.Omega.{arith}
 use lib.ListN.{length}
 use lib.Seq.{take-at}
 use lib.Dec.{T, leb, leb→le}
-use Rattle.plan.specs.Test.{both}
-use Rattle.plan.specs.Refusal.{accepted}
 use Rattle.plan.specs.Plan.{Plan, work}
-use Rattle.plan.specs.Reader.{readPlan}
-use Rattle.runs.specs.Run.{run, workersFit, choicesFit}
-use Rattle.runs.specs.Schedule.{scheduleBytes, readSchedule}
+use Rattle.runs.specs.Run.{run, workersFit}
+use Rattle.courses.specs.Schedule.{scheduleBytes, readSchedule}
 use Rattle.runs.specs.Claim.{Bounds, Bounded, Demand3}
 use Rattle.plan.proofs.Laws.Lists.{both-left, both-right}
 use Rattle.plan.specs.Rules.{Accepted}
@@ -20,7 +17,8 @@ use Rattle.plan.proofs.Laws.Accepted.{accepted-kept}
 use Rattle.plan.proofs.Laws.Valid.{work-range}
 use Rattle.runs.proofs.Laws.Whole.{run-trace, round-most, rounds-most, lone-rounds}
 use Rattle.runs.proofs.Laws.Coursed.{rows-length, last-round, least-rounds, run-space, run-peak, lone-peak}
-use Rattle.runs.proofs.Laws.OwnSchedule.{schedule-length, run-schedule}
+use Rattle.courses.proofs.Laws.ScheduleBytes.{schedule-length}
+use Rattle.runs.proofs.Laws.OwnSchedule.{run-schedule}
 
 workers-range : (n : ℕ) → T (workersFit n) → (1 ≤ n) × (n ≤ 16)
 unfolding workersFit

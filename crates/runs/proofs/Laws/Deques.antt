@@ -11,11 +11,11 @@ use Rattle.runs.specs.declared.worker.Worker.{Worker}
 use Rattle.runs.specs.declared.worker.Worker.the-variants.{Idle, Holding, Waiting}
 use Rattle.plan.specs.Plan.{Plan}
 use Rattle.runs.specs.State.{State, workerOf, dequeOf}
-use Rattle.runs.proofs.Lines.Member.{_∈_}
-use Rattle.runs.proofs.Lines.Shape.{Shape, Valid, Chain}
+use Rattle.lines.proofs.Laws.Member.{_∈_}
+use Rattle.lines.proofs.Laws.Shape.{Shape, Valid, Chain}
 use Rattle.plan.specs.Rules.{Accepted}
 use Rattle.plan.proofs.Laws.Valid.{jobs-range}
-use Rattle.runs.proofs.Laws.PlanShape.{shape-valid}
+use Rattle.courses.proofs.Laws.PlanShape.{shape-valid}
 use Rattle.runs.proofs.Laws.Lined.{line-of}
 use Rattle.runs.specs.Trace.{Stage, Trace}
 use Rattle.runs.proofs.Laws.Sound.{shape, Sound, trace-sound}

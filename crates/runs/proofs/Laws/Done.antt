@@ -8,7 +8,7 @@ use lib.ListN.{length, getD, take, replicate}
 use Rattle.plan.specs.Plan.{Plan, size, work}
 use Rattle.plan.proofs.Laws.Placed.{start-suc, start-all}
 use Rattle.runs.specs.State.{nextOf, start}
-use Rattle.runs.proofs.Lines.Sum.{sum}
+use Rattle.lines.proofs.Laws.Sum.{sum}
 
 -- the sizes of the jobs add up to the work
 pub sizes-sum : (p : Plan) → sum (length p) (size p) ≡ work p

@@ -13,9 +13,9 @@ use Rattle.runs.specs.declared.worker.Worker.{Worker}
 use Rattle.runs.specs.declared.worker.Worker.the-variants.{Idle, Holding, Waiting}
 use Rattle.plan.specs.Plan.{Plan, work}
 use Rattle.runs.specs.State.{State, nextOf, workerOf, dequeOf}
-use Rattle.runs.proofs.Lines.Shape.{Good}
-use Rattle.runs.proofs.Lines.Member.{_∈_}
-use Rattle.runs.proofs.Laws.PlanShape.{shape}
+use Rattle.lines.proofs.Laws.Shape.{Good}
+use Rattle.lines.proofs.Laws.Member.{_∈_}
+use Rattle.courses.proofs.Laws.PlanShape.{shape}
 
 abbrev pub lineIn : Worker → List ℕ → List ℕ
 lineIn Idle d = []

@@ -16,10 +16,10 @@ use Rattle.runs.specs.declared.worker.Worker.the-variants.{Idle, Holding
 use Rattle.plan.specs.Plan.{Plan}
 use Rattle.runs.specs.State.{State, nextOf, workerOf, dequeOf}
 use Rattle.runs.specs.Steal.{laid, lay, Pick, older, oldest, dropTop, topOf, given, serve}
-use Rattle.runs.proofs.Lines.Shape.{Good}
-use Rattle.runs.proofs.Lines.Steal.{steal-good}
+use Rattle.lines.proofs.Laws.Shape.{Good}
+use Rattle.lines.proofs.Laws.Steal.{steal-good}
 use Rattle.plan.specs.Rules.{Accepted}
-use Rattle.runs.proofs.Laws.PlanShape.{shape, shape-valid}
+use Rattle.courses.proofs.Laws.PlanShape.{shape, shape-valid}
 use Rattle.runs.proofs.Laws.Lined.{lineIn, lineOf, Sound, line-of}
 
 -- the state with other workers

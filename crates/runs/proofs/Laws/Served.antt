@@ -21,7 +21,7 @@ use Rattle.runs.specs.State.{State, workerOf, dequeOf, start}
 use Rattle.runs.specs.Turn.{turn, idled, turnOf}
 use Rattle.runs.specs.Steal.{laid as laidBy, lay, oldest, topOf, given, serve, waits}
 use Rattle.runs.specs.Run.{choicesFit}
-use Rattle.runs.proofs.Lines.Sum.{sum, sum-le, sum-less, sum-bound, only, only-yes}
+use Rattle.lines.proofs.Laws.Sum.{sum, sum-le, sum-less, sum-bound, only, only-yes}
 use Rattle.plan.specs.Rules.{Accepted}
 use Rattle.runs.specs.Trace.{Stage, turning, laying, serving, Trace, begins, turned, goes-on, laid, all-laid, served, next-round}
 use Rattle.runs.proofs.Laws.Sound.{trace-sound}

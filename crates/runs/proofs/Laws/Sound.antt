@@ -14,24 +14,25 @@ use Rattle.runs.specs.declared.worker.Worker.{Worker}
 use Rattle.runs.specs.declared.worker.Worker.the-variants.{Idle, Holding}
 use Rattle.plan.specs.Plan.{Plan, size, work, parent, spawnAt}
 use Rattle.plan_measure.specs.Measure.{heaviest}
-use Rattle.runs.specs.State.{State, noRow, nextOf, workerOf, dequeOf, start}
-use Rattle.runs.specs.Turn.{weight}
+use Rattle.runs.specs.State.{State, nextOf, workerOf, dequeOf, start}
+use Rattle.courses.specs.Row.{noRow}
+use Rattle.courses.specs.Ready.{weight}
 use Rattle.runs.specs.Run.{ended}
-use Rattle.runs.proofs.Lines.Shape.{Living, Leaves}
-use Rattle.runs.proofs.Lines.Start.{start-good}
-use Rattle.runs.proofs.Lines.Leaves.{good-leaves}
-use Rattle.runs.proofs.Lines.Cover
-use Rattle.runs.proofs.Lines.Progress
-use Rattle.runs.proofs.Lines.Weight.{filled-most}
-use Rattle.runs.proofs.Courses.Space.{leaves-space}
+use Rattle.lines.proofs.Laws.Shape.{Living, Leaves}
+use Rattle.lines.proofs.Laws.Start.{start-good}
+use Rattle.lines.proofs.Laws.Leaves.{good-leaves}
+use Rattle.lines.proofs.Laws.Cover
+use Rattle.lines.proofs.Laws.Progress
+use Rattle.lines.proofs.Laws.Weight.{filled-most}
+use Rattle.courses.proofs.Laws.Space.{leaves-space}
 use Rattle.plan.specs.Rules.{Accepted}
 use Rattle.plan.proofs.Laws.Valid.{jobs-range}
 use Rattle.runs.specs.Trace.{Stage, turning, laying, Trace, begins, turned, goes-on, laid, all-laid, served, next-round}
-use Rattle.runs.proofs.Laws.PlanShape.{shape-valid}
+use Rattle.courses.proofs.Laws.PlanShape.{shape-valid}
 use Rattle.runs.proofs.Laws.Lined.{line-of, held-in, line-held, held-below}
 use Rattle.runs.proofs.Laws.TurnSound.{turn-others, turn-still, turnOf-sound}
 use Rattle.runs.proofs.Laws.ServeSound.{lay-others, lay-sound, serve-sound}
-pub use Rattle.runs.proofs.Laws.PlanShape.{shape}
+pub use Rattle.courses.proofs.Laws.PlanShape.{shape}
 pub use Rattle.runs.proofs.Laws.Lined.{lineIn, lineOf, Sound}
 
 replicate-at : {A : Type 0} (n i : ℕ) (a : A) → getD (replicate n a) i a ≡ a

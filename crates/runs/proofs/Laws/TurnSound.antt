@@ -16,15 +16,16 @@ use Rattle.runs.specs.declared.worker.Worker.the-variants.{Idle, Holding
 use Rattle.plan.specs.Test.{both}
 use Rattle.plan.specs.Plan.{Plan, size, action, parent}
 use Rattle.runs.specs.State.{State, nextOf, workerOf, dequeOf}
-use Rattle.runs.specs.Turn.{ready, wakes, woken, Seat, takeBottom, seatAfter, turn, idled, turnOf}
+use Rattle.courses.specs.Ready.{ready}
+use Rattle.runs.specs.Turn.{wakes, woken, Seat, takeBottom, seatAfter, turn, idled, turnOf}
 pub use Rattle.runs.specs.Parts.{afterOf, aboveOf}
-use Rattle.runs.proofs.Lines.Shape.{Living, Ready, Chain}
-use Rattle.runs.proofs.Lines.Member.{put}
-use Rattle.runs.proofs.Lines.Turn.{Goes, goes?, Wakes, wakes?, wakes-iff, turnLine, turn-spawn, turn-none, turn-good}
+use Rattle.lines.proofs.Laws.Shape.{Living, Ready, Chain}
+use Rattle.lines.proofs.Laws.Member.{put}
+use Rattle.lines.proofs.Laws.Turn.{Goes, goes?, Wakes, wakes?, wakes-iff, turnLine, turn-spawn, turn-none, turn-good}
 use Rattle.plan.proofs.Laws.Lists.{both-intro, both-left, both-right}
 use Rattle.plan.specs.Rules.{Accepted}
 use Rattle.plan.proofs.Laws.Valid.{older, join-target}
-use Rattle.runs.proofs.Laws.PlanShape.{shape, shape-valid, ready-is, ready-by}
+use Rattle.courses.proofs.Laws.PlanShape.{shape, shape-valid, ready-is, ready-by}
 use Rattle.runs.proofs.Laws.Lined.{lineIn, lineOf, Sound, line-of, held-in, held-below, line-stored, line-other}
 
 -- a test and a decision of one thing

@@ -18,7 +18,7 @@ use Rattle.runs.specs.State.{State, workerOf, dequeOf, start}
 use Rattle.runs.specs.Turn.{turn, idled, turnOf}
 use Rattle.runs.specs.Steal.{laid as laidBy, lay, oldest, topOf, given, serve, waits}
 use Rattle.runs.specs.Run.{choicesFit}
-use Rattle.runs.proofs.Lines.Sum.{sum-term}
+use Rattle.lines.proofs.Laws.Sum.{sum-term}
 use Rattle.plan.proofs.Laws.Lists.{both-left, both-right, all-at}
 use Rattle.plan.specs.Rules.{Accepted}
 use Rattle.runs.specs.Trace.{Stage, Trace, begins, turned, goes-on, laid, all-laid, served, next-round}

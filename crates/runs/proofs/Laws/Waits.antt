@@ -16,10 +16,11 @@ use Rattle.runs.specs.declared.worker.Worker.{Worker}
 use Rattle.runs.specs.declared.worker.Worker.the-variants.{Idle, Holding, Waiting}
 use Rattle.plan.specs.Plan.{Plan, size, action, parent}
 use Rattle.runs.specs.State.{State, nextOf, workerOf, dequeOf, start}
-use Rattle.runs.specs.Turn.{ready, takeBottom, seatAfter, wakes, woken}
+use Rattle.courses.specs.Ready.{ready}
+use Rattle.runs.specs.Turn.{takeBottom, seatAfter, wakes, woken}
 use Rattle.runs.specs.Steal.{Pick, older, oldest, waits, waiting}
-use Rattle.runs.proofs.Lines.Sum.{sum, sum-suc}
-use Rattle.runs.proofs.Lines.Sum.{sum-same}
+use Rattle.lines.proofs.Laws.Sum.{sum, sum-suc}
+use Rattle.lines.proofs.Laws.Sum.{sum-same}
 
 pub waiting-sum : (k : ℕ) (ws : List Worker) → waiting k ws ≡ sum k (λ w. waits (getD ws w Idle))
 unfolding sum

@@ -19,7 +19,7 @@ use Rattle.plan_measure.specs.Measure.{longest, heaviest, measured}
 use Rattle.plan_measure.specs.Times.{MeasureGiven}
 use Rattle.runs.specs.declared.tally.Tally.{Tally}
 use Rattle.runs.specs.Run.{run, admitted, runOf}
-use Rattle.runs.specs.Schedule.{scheduleBytes}
+use Rattle.courses.specs.Schedule.{scheduleBytes}
 use Rattle.runs.proofs.Laws.Admitted.{Stopped, Went, outcome}
 use Rattle.scheduler.specs.Entry.{Result, resulted}
 use Rattle.scheduler.specs.Loaded.{Loaded}

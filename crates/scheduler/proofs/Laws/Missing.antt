@@ -18,9 +18,9 @@ use Rattle.plan.proofs.Laws.Lists.{both-intro, both-left, both-right, false-of}
 use Rattle.plan.proofs.Laws.Counts.{decT, equal-tests, count-hit, count-miss, count-none}
 use Rattle.plan.proofs.Laws.Placed.{start, placed-length, placed-at, placed-of, place-below}
 use Rattle.plan.proofs.Laws.Valid.{few-enter, join-target}
-use Rattle.runs.specs.Turn.{ready}
+use Rattle.courses.specs.Ready.{ready}
 use Rattle.scheduler.specs.Machine.{missingTo}
-use Rattle.runs.proofs.Laws.PlanShape.{enters-is, enters-by, ready-is, ready-by}
+use Rattle.courses.proofs.Laws.PlanShape.{enters-is, enters-by, ready-is, ready-by}
 
 -- two tests of the members of a list
 module _ {A : Type 0} (f g : A → Bool) (d : A) where

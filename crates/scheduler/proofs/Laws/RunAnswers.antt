@@ -22,7 +22,7 @@ use Rattle.scheduler.specs.declared.run.Ran.{Ran}
 use Rattle.scheduler.specs.declared.run.Ran.the-variants.{Refused as RefusedRun, Done}
 use Rattle.runs.specs.State.{State}
 use Rattle.runs.specs.Run.{run, workersFit, choicesFit, admitted, runOf}
-use Rattle.runs.specs.Schedule.{scheduleBytes}
+use Rattle.courses.specs.Schedule.{scheduleBytes}
 use Rattle.scheduler.specs.Entry.{Result, resulted, runInto, ranOf, Claimed}
 use Rattle.scheduler.specs.Machine.{RunGiven, Printed, Kept as RowsKept}
 use Rattle.scheduler.specs.Loaded.{Loaded, Answered}

@@ -10,13 +10,14 @@ use Rattle.plan.specs.Plan.{Plan, work}
 use Rattle.plan.specs.Rules.{Accepted}
 use Rattle.plan.proofs.Laws.Placed.{locate}
 use Rattle.plan.proofs.Laws.Valid.{work-range}
-use Rattle.runs.specs.State.{Row, noRow, nextOf}
+use Rattle.courses.specs.Row.{Row, noRow}
+use Rattle.runs.specs.State.{nextOf}
 use Rattle.runs.specs.Run.{run}
-use Rattle.runs.specs.Schedule.{scheduleBytes}
+use Rattle.courses.specs.Schedule.{scheduleBytes}
 use Rattle.scheduler.specs.Machine.{Printed, Kept}
 use Rattle.scheduler.specs.Header.{headerBytes}
 use Rattle.runs.proofs.Laws.Coursed.{rows-length, run-row}
-use Rattle.runs.proofs.Laws.OwnSchedule.{schedule-length}
+use Rattle.courses.proofs.Laws.ScheduleBytes.{schedule-length}
 use Rattle.runs.proofs.Laws.Whole.{run-trace, round-most, run-done}
 use Rattle.scheduler.proofs.Laws.ScheduleBytes.{rowBytes, Narrow, schedule-bytes}
 

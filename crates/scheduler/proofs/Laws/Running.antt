@@ -16,20 +16,7 @@ use Rattle.runs.specs.declared.worker.Worker.the-variants.{Idle, Holding, Waiti
 use Rattle.runs.specs.State.{State, workerOf}
 use Rattle.runs.specs.Turn.{turns}
 use Rattle.runs.specs.Steal.{lays, serves}
-use Rattle.runs.specs.Trace.{
-  Stage,
-  turning,
-  laying,
-  serving,
-  Trace,
-  begins,
-  turned,
-  goes-on,
-  laid,
-  all-laid,
-  served,
-  next-round,
-}
+use Rattle.runs.specs.Trace.{Stage, turning, laying, serving, Trace, begins, turned, goes-on, laid, all-laid, served, next-round}
 use Rattle.scheduler.specs.Machine.{InRun, Fitting}
 use Rattle.scheduler.specs.Requests.{Fits}
 use Rattle.runs.proofs.Laws.Lined.{Sound}

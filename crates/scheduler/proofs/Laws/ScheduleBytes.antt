@@ -9,19 +9,10 @@ use native.Mathlib.Omega.{arith}
 use lib.ListN.{length, getD}
 use Rattle.plan.specs.Field.{bitsOf, bits, number}
 use Rattle.plan.specs.Writer.{pack}
-use Rattle.runs.specs.State.{Row, noRow}
+use Rattle.courses.specs.Row.{Row, noRow}
 use Rattle.scheduler.specs.Header.{headerBytes}
-use Rattle.runs.specs.Schedule.{rowsBits, scheduleBits, scheduleBytes}
-use Rattle.plan.proofs.Laws.Bits.{
-  Binary,
-  append-binary,
-  bitsOf-binary,
-  bitsOf-length,
-  number-append,
-  number-injective,
-  number-bitsOf,
-  pack-bits,
-}
+use Rattle.courses.specs.Schedule.{rowsBits, scheduleBits, scheduleBytes}
+use Rattle.plan.proofs.Laws.Bits.{Binary, append-binary, bitsOf-binary, bitsOf-length, number-append, number-injective, number-bitsOf, pack-bits}
 
 abbrev pub rowBytes : List Row → List ℕ
 rowBytes [] = []

@@ -15,14 +15,15 @@ use Rattle.plan.proofs.Laws.Lists.{true-of, false-of}
 use Rattle.plan.proofs.Laws.Placed.{placed-at, place-below, first-at, join-at, spawn-at}
 use Rattle.plan.proofs.Laws.Valid.{jobs-range, size-range, work-range, older, join-target}
 use Rattle.runs.specs.declared.worker.Worker.{Worker}
-use Rattle.runs.specs.State.{State, nextOf, dequeOf, place}
+use Rattle.runs.specs.State.{State, nextOf, dequeOf}
+use Rattle.courses.specs.Row.{place}
 use Rattle.runs.specs.Turn.{wakes, woken}
 use Rattle.scheduler.specs.Machine.{missingTo, Progressed, Dequed, Acting}
 use Rattle.scheduler.specs.TurnParts.{afterOf, aboveOf, Sending, Sent}
-use Rattle.runs.proofs.Lines.Turn.{Wakes}
-use Rattle.runs.proofs.Laws.PlanShape.{shape}
+use Rattle.lines.proofs.Laws.Turn.{Wakes}
+use Rattle.courses.proofs.Laws.PlanShape.{shape}
 use Rattle.scheduler.proofs.Laws.Missing.{missing-none, missing-no, missing-sent, missing-kept}
-use Rattle.runs.proofs.Courses.Course.{place-apart}
+use Rattle.courses.proofs.Laws.Course.{place-apart}
 use Rattle.runs.proofs.Laws.Sound.{Sound, trace-sound, held-job}
 use Rattle.runs.proofs.Laws.TurnSound.{acted, others, wakes-is, wakes-by, wakes-empty}
 

@@ -19,12 +19,14 @@ use Rattle.plan.proofs.Laws.Valid.{older, frame-range, jobs-range, work-range, 
 use Rattle.scheduler.specs.declared.turn.Turned.{Turned}
 use Rattle.runs.specs.declared.worker.Worker.{Worker}
 use Rattle.runs.specs.declared.worker.Worker.the-variants.{Idle, Holding}
-use Rattle.runs.specs.State.{State, nextOf, dequeOf, place}
-use Rattle.runs.specs.Turn.{ready, wakes, woken, weight, Seat, takeBottom, turn}
+use Rattle.runs.specs.State.{State, nextOf, dequeOf}
+use Rattle.courses.specs.Row.{place}
+use Rattle.courses.specs.Ready.{ready, weight}
+use Rattle.runs.specs.Turn.{wakes, woken, Seat, takeBottom, turn}
 use Rattle.scheduler.specs.Machine.{missingTo, Progressed, Dequed, Acting, Acted}
 use Rattle.scheduler.specs.TurnParts.{afterOf, aboveOf, Sending, Sent, Settling}
-use Rattle.runs.proofs.Lines.Shape.{Chain}
-use Rattle.runs.proofs.Laws.PlanShape.{shape}
+use Rattle.lines.proofs.Laws.Shape.{Chain}
+use Rattle.courses.proofs.Laws.PlanShape.{shape}
 use Rattle.scheduler.proofs.Laws.Missing.{missing-ready, ready-missing}
 use Rattle.runs.proofs.Laws.Deques.{sound-chain}
 use Rattle.runs.proofs.Laws.TurnSound.{seatOf, stay, seat-spawn, seat-none, wakes-is}

@@ -19,14 +19,7 @@ use Rattle.runs.specs.Run.{ended, round, run}
 use Rattle.runs.specs.Trace.{turning}
 use Rattle.scheduler.specs.Machine.{Planned, Printed, InRun, Machine, Kept, RunGiven}
 use Rattle.scheduler.specs.Requests.{Pointed, Queued}
-use Rattle.scheduler.proofs.Laws.Underway.{
-  Underway,
-  Rounded,
-  underway-start,
-  underway-over,
-  underway-begun,
-  underway-round,
-}
+use Rattle.scheduler.proofs.Laws.Underway.{Underway, Rounded, underway-start, underway-over, underway-begun, underway-round}
 use Rattle.runs.proofs.Laws.Rounds.{rounds-known}
 use Rattle.scheduler.proofs.Laws.Queues.{queued-later}
 use Rattle.scheduler.proofs.Laws.Picks.{firstEnds, first-queued}

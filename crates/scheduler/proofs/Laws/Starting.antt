@@ -12,19 +12,9 @@ use Rattle.plan.proofs.Laws.Valid.{jobs-range}
 use Rattle.scheduler.specs.declared.account.Account.{Account}
 use Rattle.runs.specs.declared.worker.Worker.{Worker}
 use Rattle.runs.specs.declared.worker.Worker.the-variants.{Idle, Holding}
-use Rattle.runs.specs.State.{State, nextOf, place, start}
-use Rattle.scheduler.specs.Machine.{
-  dequeAt,
-  missingTo,
-  Progressed,
-  Dequed,
-  Printed,
-  codeOf,
-  Seated,
-  Manned,
-  Machine,
-  RunGiven,
-}
+use Rattle.runs.specs.State.{State, nextOf, start}
+use Rattle.courses.specs.Row.{place}
+use Rattle.scheduler.specs.Machine.{dequeAt, missingTo, Progressed, Dequed, Printed, codeOf, Seated, Manned, Machine, RunGiven}
 use Rattle.runs.proofs.Laws.Done.{none-done}
 use Rattle.runs.proofs.Laws.Coursed.{start-weight}
 use Rattle.scheduler.proofs.Laws.Missing.{missing-start}

@@ -18,12 +18,13 @@ use Rattle.scheduler.specs.declared.turn.Turned.{Turned}
 use Rattle.runs.specs.declared.tally.Tally.{Tally}
 use Rattle.runs.specs.declared.worker.Worker.{Worker}
 use Rattle.runs.specs.declared.worker.Worker.the-variants.{Idle, Holding, Waiting}
-use Rattle.runs.specs.State.{State, nextOf, workerOf, place}
+use Rattle.runs.specs.State.{State, nextOf, workerOf}
+use Rattle.courses.specs.Row.{place}
 use Rattle.runs.specs.Turn.{turn, idled, turnOf, turns}
 use Rattle.runs.specs.Trace.{turning, Trace, turned}
 use Rattle.scheduler.specs.Machine.{InRun, codeOf, Fitting, Planned, Machine, Manned, Printed, Kept, Acting, Acted}
 use Rattle.runs.proofs.Laws.Sound.{trace-sound, trace-began, next-bound}
-use Rattle.runs.proofs.Courses.Course.{place-apart, Acts, acted}
+use Rattle.courses.proofs.Laws.Course.{place-apart, Acts, acted}
 use Rattle.runs.proofs.Laws.Coursed.{core, turn-acts}
 use Rattle.runs.proofs.Laws.Whole.{counts-small, turns-trace}
 use Rattle.scheduler.proofs.Laws.Codes.{seated-set}

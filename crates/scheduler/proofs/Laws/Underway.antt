@@ -15,16 +15,7 @@ use Rattle.runs.specs.Turn.{turns}
 use Rattle.runs.specs.Run.{ended, round, rounds, run}
 use Rattle.runs.specs.Trace.{turning, Trace, begins, goes-on, all-laid, next-round}
 use Rattle.runs.proofs.Laws.Rounds.{rounds-known, numbered-late, not-ended}
-use Rattle.runs.proofs.Laws.Whole.{
-  turns-trace,
-  lays-trace,
-  serves-trace,
-  round-last,
-  round-on,
-  rounds-stop,
-  rounds-on,
-  round-most,
-}
+use Rattle.runs.proofs.Laws.Whole.{turns-trace, lays-trace, serves-trace, round-last, round-on, rounds-stop, rounds-on, round-most}
 
 pub data Underway (p : Plan) (n : ℕ) (choices : List ℕ) (s : State) : Type 0 where
   begun : (r k : ℕ) → Trace p n choices r (s .workers) (turning 0) s → run p n choices ≡ rounds k p n choices s → work p < k + r

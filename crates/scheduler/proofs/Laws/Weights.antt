@@ -16,13 +16,13 @@ use Rattle.plan.proofs.Laws.Valid.{jobs-range, size-range, frame-range, older, 
 use Rattle.runs.specs.declared.worker.Worker.{Worker}
 use Rattle.runs.specs.declared.worker.Worker.the-variants.{Holding}
 use Rattle.runs.specs.State.{State, nextOf, workerOf}
-use Rattle.runs.specs.Turn.{weight}
+use Rattle.courses.specs.Ready.{weight}
 use Rattle.runs.specs.Trace.{Stage}
 use Rattle.scheduler.specs.Machine.{InRun}
-use Rattle.runs.proofs.Lines.Shape.{Living, living?}
-use Rattle.runs.proofs.Lines.Sum.{sum, only, only-yes, only-no, sum-bound}
-use Rattle.runs.proofs.Lines.Weight.{held}
-use Rattle.runs.proofs.Laws.PlanShape.{shape, weight-held}
+use Rattle.lines.proofs.Laws.Shape.{Living, living?}
+use Rattle.lines.proofs.Laws.Sum.{sum, only, only-yes, only-no, sum-bound}
+use Rattle.lines.proofs.Laws.Weight.{held}
+use Rattle.courses.proofs.Laws.PlanShape.{shape, weight-held}
 use Rattle.runs.proofs.Laws.Sound.{Sound, trace-sound, held-job}
 
 -- no term of a sum changes

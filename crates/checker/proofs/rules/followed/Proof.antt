@@ -6,18 +6,7 @@ use native.Mathlib.Omega.{arith}
 use borrow.Author.Needs.{needs}
 use lib.ListN.{getD}
 use Rattle.checker.specs.Judging.{word, Later}
-use Rattle.checker.proofs.Laws.Following.{
-  row-within,
-  place-within,
-  next-within,
-  told-next,
-  child-small,
-  child-within,
-  told-child,
-  target-within,
-  told-target,
-  told-kept,
-}
+use Rattle.checker.proofs.Laws.Following.{row-within, place-within, next-within, told-next, child-small, child-within, told-child, target-within, told-target, told-kept}
 use Rattle.checker.proofs.rules.followed.Statement.{statement}
 use Rattle.checker.proofs.rules.followed.Tie as tie
 

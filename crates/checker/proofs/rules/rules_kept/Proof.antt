@@ -10,7 +10,7 @@ use borrow.Author.Needs.{needs}
 use lib.ListN.{length, take, length-set, getD-replicate}
 use lib.Seq.{getD-set-same, getD-set-other}
 use Rattle.plan.specs.Plan.{Plan, work}
-use Rattle.runs.specs.State.{Row}
+use Rattle.courses.specs.Row.{Row}
 use Rattle.plan.proofs.Laws.Counts.{passed, not-passed}
 use Rattle.checker.specs.Given.{RulesGiven}
 use Rattle.checker.specs.Judging.{word, entry, JobPlace, Seen, Looking}

@@ -16,18 +16,7 @@ use Rattle.scheduler.specs.Machine.{InRun, Manned}
 use Rattle.scheduler.specs.Requests.{Queued}
 use Rattle.scheduler.proofs.Laws.Queues.{queued-later}
 use Rattle.scheduler.proofs.Laws.Picks.{turns-queued}
-use Rattle.scheduler.proofs.Laws.Halves.{
-  round-now,
-  round-ends,
-  round-lays,
-  round-serves,
-  turns-requests,
-  round-known,
-  ends-pointed,
-  ends-queued,
-  serves-pointed,
-  serves-queued,
-}
+use Rattle.scheduler.proofs.Laws.Halves.{round-now, round-ends, round-lays, round-serves, turns-requests, round-known, ends-pointed, ends-queued, serves-pointed, serves-queued}
 use Rattle.scheduler.proofs.round.round.Statement.{statement}
 use Rattle.scheduler.proofs.round.round.Tie as tie
 

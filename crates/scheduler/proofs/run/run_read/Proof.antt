@@ -4,14 +4,7 @@ use mathlib.Core.Bool.{true}
 use native.Mathlib.Omega.{arith}
 use borrow.Author.Tests.{not-true, not-false}
 use Rattle.runs.specs.Run.{choicesFit}
-use Rattle.scheduler.proofs.Laws.RunAnswers.{
-  loaded-few,
-  refuses-workers,
-  refuses-choices,
-  refuses-short,
-  run-asked,
-  run-answers,
-}
+use Rattle.scheduler.proofs.Laws.RunAnswers.{loaded-few, refuses-workers, refuses-choices, refuses-short, run-asked, run-answers}
 use borrow.Author.Needs.{needs}
 use Rattle.scheduler.proofs.run.run_read.Statement.{statement}
 use Rattle.scheduler.proofs.run.run_read.Tie as tie
