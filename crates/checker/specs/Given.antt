@@ -5,7 +5,7 @@ use Prim.Native.Nat.{ℕ, _≤_, _<_}
 use mathlib.Core.Path.{_≡_}
 use mathlib.Core.List.{List}
 use lib.ListN.{length, getD}
-use Rattle.plan.specs.Plan.{Plan, work, parent}
+use Rattle.plan.specs.Plan.{Plan, total, parent}
 use Rattle.plan.specs.Rules.{Accepted}
 use Rattle.plan.specs.Flat.{Firsts, Spawns, Joins}
 use Rattle.courses.specs.Row.{Row}
@@ -15,7 +15,7 @@ pub record RulesGiven (p : Plan) (rows : List Row) (jobs : ℕ) (schedule firstO
   pub plan : Accepted p
   pub count : jobs ≡ length p
   pub bytes : RowsAt rows schedule
-  pub all : length rows ≡ work p
+  pub all : length rows ≡ total p
   pub firsts : Firsts p firstOf
   pub spawns : Spawns p spawnOf
   pub joins : Joins p joinOf

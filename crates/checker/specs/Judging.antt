@@ -19,7 +19,7 @@ use mathlib.Core.Bool.{Bool}
 use mathlib.Core.List.{List}
 use lib.Dec.{T}
 use lib.ListN.{length, getD, take}
-use Rattle.plan.specs.Plan.{Plan, work, placed, noPlaced}
+use Rattle.plan.specs.Plan.{Plan, total, placed, noPlaced}
 use Rattle.plan_measure.specs.Measure.{mustFollow}
 
 abbrev pub word : List ℕ → ℕ → ℕ
@@ -33,16 +33,16 @@ bucketOf w = (w / 16 + w % 16 * 256) % 4096
 
 pub record JobPlace (p : Plan) (j k end : ℕ) : Type 0 where
   pub known : j < length p
-  pub from : work (take j p) ≤ k
+  pub from : total (take j p) ≤ k
   pub upto : k ≤ end
-  pub past : end ≡ work (take (suc j) p)
+  pub past : end ≡ total (take (suc j) p)
 
 abbrev pub Later : (ℕ → ℕ) → ℕ → ℕ → Type 0
 Later row k x = row k / 16 < row x / 16
 
 abbrev pub Followed : Plan → (ℕ → ℕ) → ℕ → Type 0
 Followed p row k =
-    (x : ℕ) → x < work p → T (mustFollow p (getD (placed p) x noPlaced) (getD (placed p) k noPlaced)) → Later row k x
+    (x : ℕ) → x < total p → T (mustFollow p (getD (placed p) x noPlaced) (getD (placed p) k noPlaced)) → Later row k x
 
 pub record Told (p : Plan) (row : ℕ → ℕ) (k : ℕ) (r : Bool) : Type 0 where
   pub kept : T r → Followed p row k

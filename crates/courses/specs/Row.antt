@@ -3,7 +3,7 @@
 --   place p j i == the place of action i of job j in plan order
 use Prim.Native.Nat.{ℕ, _+_}
 use lib.ListN.{take}
-use Rattle.plan.specs.Plan.{Plan, work}
+use Rattle.plan.specs.Plan.{Plan, total}
 
 pub record Row : Type 0 where
   pub round : ℕ
@@ -13,4 +13,4 @@ abbrev pub noRow : Row
 noRow = record { round = 0; worker = 0 }
 
 abbrev pub place : Plan → ℕ → ℕ → ℕ
-place p j i = work (take j p) + i
+place p j i = total (take j p) + i

@@ -14,7 +14,7 @@ use lib.ListN.{length, getD}
 use lib.Dec.{eqb, leb, ltb}
 use Rattle.plan.specs.Test.{both, either, all}
 use Rattle.plan.specs.Refusal.{Outcome, refused, accepted}
-use Rattle.plan.specs.Plan.{Plan, Placed, work, placed}
+use Rattle.plan.specs.Plan.{Plan, Placed, total, placed}
 use Rattle.plan.specs.Field.{bitsOf, Step, stop, step, then, fieldAt}
 use Rattle.plan.specs.Writer.{pack}
 use Rattle.plan.specs.Reader.{readPlan}
@@ -102,7 +102,7 @@ ruled p (accepted w) = elim (keeps p (w .workers) (w .rows)) [ false ↦ refused
 unfoldable pub judgedBy : Outcome Plan → List ℕ → Outcome ℕ
 unfolding ruled readSchedule
 judgedBy (refused k) schedule = refused k
-judgedBy (accepted p) schedule = ruled p (readSchedule schedule (work p))
+judgedBy (accepted p) schedule = ruled p (readSchedule schedule (total p))
 
 -- "11 then 12 for the checker", after the plan's own
 unfoldable pub checked : List ℕ → List ℕ → Outcome ℕ

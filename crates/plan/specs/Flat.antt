@@ -19,7 +19,7 @@ use mathlib.Core.List.{List, [], _∷_, map}
 use lib.ListN.{length, getD, take, replicate}
 use Rattle.plan.specs.declared.flat.Found.{Found}
 use Rattle.plan.specs.Refusal.{refused, accepted, numberOf}
-use Rattle.plan.specs.Plan.{Job, Plan, Placed, job, work, placed, parent, spawnAt, entering}
+use Rattle.plan.specs.Plan.{Job, Plan, Placed, job, total, placed, parent, spawnAt, entering}
 use Rattle.plan.specs.Reader.{readPlan}
 
 pub record FlatPlan : Type 0 where
@@ -45,24 +45,24 @@ abbrev pub Firsts : Plan → List ℕ → Type 0
 Firsts p l = take (suc (length p)) l ≡ starts 0 p
 
 abbrev pub Jobs : Plan → List ℕ → Type 0
-Jobs p l = take (work p) l ≡ map (λ a. a .job) (placed p)
+Jobs p l = take (total p) l ≡ map (λ a. a .job) (placed p)
 
 abbrev pub Spawns : Plan → List ℕ → Type 0
-Spawns p l = take (work p) l ≡ map (λ a. a .spawn) (placed p)
+Spawns p l = take (total p) l ≡ map (λ a. a .spawn) (placed p)
 
 abbrev pub Joins : Plan → List ℕ → Type 0
-Joins p l = take (work p) l ≡ map (λ a. a .join) (placed p)
+Joins p l = take (total p) l ≡ map (λ a. a .join) (placed p)
 
 pub record Spawned (p : Plan) (jobs positions : List ℕ) : Type 0 where
   pub parents : (c : ℕ) → 1 ≤ c → c < length p → getD jobs c 0 ≡ parent p c
   pub spawns : (c : ℕ) → 1 ≤ c → c < length p → getD positions c 0 ≡ spawnAt p c
 
 abbrev pub Entered : Plan → List ℕ → Type 0
-Entered p l = take (work p) l ≡ map (λ a. entering p (a .job) (a .position)) (placed p)
+Entered p l = take (total p) l ≡ map (λ a. entering p (a .job) (a .position)) (placed p)
 
 pub record Holds (p : Plan) (f : FlatPlan) : Type 0 where
   pub jobs : f .jobs ≡ length p
-  pub actions : f .actions ≡ work p
+  pub actions : f .actions ≡ total p
   pub frames : Frames p (f .frame)
   pub firsts : Firsts p (f .first)
   pub owners : Jobs p (f .job)

@@ -9,14 +9,14 @@ use mathlib.Core.Path.{_≡_}
 use mathlib.Core.List.{List}
 use lib.ListN.{length, replicate}
 use lib.Dec.{T}
-use Rattle.plan.specs.Plan.{Plan, work}
+use Rattle.plan.specs.Plan.{Plan, total}
 use Rattle.plan.specs.Rules.{inRange, spawnRules}
 use Rattle.plan.specs.Flat.{Firsts, Jobs, Spawns, Joins, Spawned}
 
 pub record SpawnsGiven (p : Plan) (jobs actions : ℕ) (first job spawn : List ℕ) : Type 0 where
   pub range : T (inRange p)
   pub count : jobs ≡ length p
-  pub all : actions ≡ work p
+  pub all : actions ≡ total p
   pub firsts : Firsts p first
   pub owners : Jobs p job
   pub spawns : Spawns p spawn
@@ -28,7 +28,7 @@ pub record Unspawned (parent position : List ℕ) : Type 0 where
 pub record JoinsGiven (p : Plan) (actions : ℕ) (first job spawn join parent position : List ℕ) : Type 0 where
   pub range : T (inRange p)
   pub rules : T (spawnRules p)
-  pub all : actions ≡ work p
+  pub all : actions ≡ total p
   pub firsts : Firsts p first
   pub owners : Jobs p job
   pub spawns : Spawns p spawn

@@ -15,7 +15,7 @@ use mathlib.Core.List.{List}
 use lib.ListN.{length, getD, take}
 use lib.Dec.{T, eqb}
 use Rattle.plan.specs.Test.{both, count}
-use Rattle.plan.specs.Plan.{Plan, Placed, size, work, placed, noPlaced, parent, spawnAt, enters}
+use Rattle.plan.specs.Plan.{Plan, Placed, size, total, placed, noPlaced, parent, spawnAt, enters}
 use Rattle.plan.specs.Rules.{spawnFits, spawnRules, joinFits, lastSends, joinRules}
 
 abbrev pub spawning : ℕ → Placed → Bool
@@ -37,11 +37,11 @@ pub record AllTold (jobs : ℕ) (positions : List ℕ) (r : Bool) : Type 0 where
   pub broken : (T r → ⊥) → (c : ℕ) × (1 ≤ c) × (c < jobs) × (getD positions c 0 ≡ 255)
 
 pub record Counted (p : Plan) (k : ℕ) (l : List ℕ) : Type 0 where
-  pub long : work p ≤ length l
+  pub long : total p ≤ length l
   pub whole : length l ≡ 2048
   pub fits : (i : ℕ) → i < k → T (both (joinFits p (getD (placed p) i noPlaced)) (lastSends p (getD (placed p) i noPlaced)))
-  pub counts : (q t : ℕ) → q < length p → t < size p q → getD l (work (take q p) + t) 0 ≡ count (enters p q t) (take k (placed p))
-  pub few : (q t : ℕ) → q < length p → t < size p q → getD l (work (take q p) + t) 0 ≤ 8
+  pub counts : (q t : ℕ) → q < length p → t < size p q → getD l (total (take q p) + t) 0 ≡ count (enters p q t) (take k (placed p))
+  pub few : (q t : ℕ) → q < length p → t < size p q → getD l (total (take q p) + t) 0 ≤ 8
 
 pub record JoinTold (p : Plan) (k : ℕ) (r : Bool) (l : List ℕ) : Type 0 where
   pub kept : T r → Counted p k l

@@ -3,7 +3,7 @@
 --   Job          == the frame's weight in units of 64 KiB, and the row of actions, positions from 0
 --   Plan         == the jobs by number; job 0 is the root
 --   job p j      == job j; size p j == how many actions it has; action p j i == its action at position i
---   work p       == T1, the plan's number of actions
+--   total p      == the plan's number of actions
 --   Placed       == an action with its job and position; placed p == all of them, in job then position order
 --   spawner p c  == the first action that spawns job c; parent p c and spawnAt p c == its job and position
 --   entering p q t == how many joins enter the action at position t of job q
@@ -42,9 +42,9 @@ size p j = length (job p j .actions)
 abbrev pub action : Plan → ℕ → ℕ → Action
 action p j i = getD (job p j .actions) i noAction
 
-abbrev pub work : Plan → ℕ
-work [] = 0
-work (b ∷ bs) = length (b .actions) + work bs
+abbrev pub total : Plan → ℕ
+total [] = 0
+total (b ∷ bs) = length (b .actions) + total bs
 
 pub record Placed : Type 0 where
   pub job : ℕ

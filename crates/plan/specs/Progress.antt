@@ -20,7 +20,7 @@ use Rattle.plan.specs.declared.reader.Header.{Header}
 use Rattle.plan.specs.declared.reader.Body.{Body}
 use Rattle.plan.specs.Refusal.{numberOf}
 use Rattle.plan.specs.Test.{either}
-use Rattle.plan.specs.Plan.{Action, Job, Plan, Placed, work, placedIn}
+use Rattle.plan.specs.Plan.{Action, Job, Plan, Placed, total, placedIn}
 use Rattle.plan.specs.Field.{Step, stop, step, then, fieldAt}
 use Rattle.plan.specs.Reader.{actionAt, actionsAt}
 use Rattle.plan.specs.Flat.{Frames, Firsts, Jobs, Spawns, Joins}
@@ -105,7 +105,7 @@ JobRead s k at j a b (Header.Is end next) = (x : Job) × (jobAt s k at ≡ step 
 
 pub record Held (p : Plan) (jobs actions : ℕ) (a : Arrays) : Type 0 where
   pub count : jobs ≡ length p
-  pub all : actions ≡ work p
+  pub all : actions ≡ total p
   pub frames : Frames p (a .frame)
   pub firsts : Firsts p (a .first)
   pub owners : Jobs p (a .rows .job)

@@ -10,7 +10,7 @@ use mathlib.Core.List.{List}
 use lib.ListN.{length}
 use lib.Dec.{T, eqb, leb, ltb}
 use Rattle.plan.specs.Test.{both, either, all, count, below}
-use Rattle.plan.specs.Plan.{Action, Job, Plan, Placed, job, size, action, work, placed, parent, spawnAt, entering}
+use Rattle.plan.specs.Plan.{Action, Job, Plan, Placed, job, size, action, total, placed, parent, spawnAt, entering}
 
 -- "1 to 256 jobs, 1 to 255 actions in a job, 1 to 2,048 in all, frame 1 to 65,535"
 abbrev pub jobInRange : Job → Bool
@@ -18,7 +18,7 @@ jobInRange b =
     both (both (leb 1 (b .frame)) (leb (b .frame) 65535)) (both (leb 1 (length (b .actions))) (leb (length (b .actions)) 255))
 
 unfoldable pub inRange : Plan → Bool
-inRange p = both (both (leb 1 (length p)) (leb (length p) 256)) (both (all jobInRange p) (leb (work p) 2048))
+inRange p = both (both (leb 1 (length p)) (leb (length p) 256)) (both (all jobInRange p) (leb (total p) 2048))
 
 -- "An action spawns at most one child, whose number is at least 1 and below the job count ..
 -- by a job of smaller number"

@@ -3,7 +3,7 @@ ghost use Prim.Native.Nat.{suc, _<_, _≤_};
 ghost use mathlib.Core.Path.{_≡_};
 ghost use lib.ListN.{length};
 ghost use lib.Dec.{T};
-ghost use Rattle.plan.specs.Plan.{Plan, work};
+ghost use Rattle.plan.specs.Plan.{Plan, total};
 ghost use Rattle.plan.specs.Rules.{spawnRules, joinRules};
 ghost use Rattle.plan.specs.Flat.{Spawned, Entered};
 ghost use Rattle.plan.specs.Given.{SpawnsGiven, Unspawned, JoinsGiven, Unentered};
@@ -22,8 +22,8 @@ fn spawn_rule(
     parent: &mut [u8; 256],
     position: &mut [u8; 256],
 ) -> bool
-    requires { ⌜ ((p : Plan) × SpawnsGiven p jobs (work p) (now first) (now job) (now spawn) × (k < work p) × Recorded p k (now parent) (now position)) ⌝ }
-    ensures { λ r. ⌜ ((p : Plan) → SpawnsGiven p jobs (work p) (now (first .entry)) (now (job .entry)) (now (spawn .entry)) → k < work p → Recorded p k (now (parent .entry)) (now (position .entry)) → SpawnTold p (suc k) r (now (parent .exit)) (now (position .exit))) ⌝ }
+    requires { ⌜ ((p : Plan) × SpawnsGiven p jobs (total p) (now first) (now job) (now spawn) × (k < total p) × Recorded p k (now parent) (now position)) ⌝ }
+    ensures { λ r. ⌜ ((p : Plan) → SpawnsGiven p jobs (total p) (now (first .entry)) (now (job .entry)) (now (spawn .entry)) → k < total p → Recorded p k (now (parent .entry)) (now (position .entry)) → SpawnTold p (suc k) r (now (parent .exit)) (now (position .exit))) ⌝ }
 {
     let child = wide16(spawn[k]);
     if child == 0 {
@@ -56,7 +56,7 @@ fn spawns_kept(
     position: &mut [u8; 256],
 ) -> bool
     requires { ⌜ ((p : Plan) × SpawnsGiven p jobs actions (now first) (now job) (now spawn) × Recorded p 0 (now parent) (now position)) ⌝ }
-    ensures { λ r. ⌜ ((p : Plan) → SpawnsGiven p jobs actions (now (first .entry)) (now (job .entry)) (now (spawn .entry)) → Recorded p 0 (now (parent .entry)) (now (position .entry)) → SpawnTold p (work p) r (now (parent .exit)) (now (position .exit))) ⌝ }
+    ensures { λ r. ⌜ ((p : Plan) → SpawnsGiven p jobs actions (now (first .entry)) (now (job .entry)) (now (spawn .entry)) → Recorded p 0 (now (parent .entry)) (now (position .entry)) → SpawnTold p (total p) r (now (parent .exit)) (now (position .exit))) ⌝ }
 {
     let mut k = 0;
     while k < actions {
@@ -114,8 +114,8 @@ fn join_rule(
     position: &[u8; 256],
     entering: &mut [u8; 2048],
 ) -> bool
-    requires { ⌜ ((p : Plan) × JoinsGiven p (work p) (now first) (now job) (now spawn) (now join) (now parent) (now position) × (k < work p) × Counted p k (now entering)) ⌝ }
-    ensures { λ r. ⌜ ((p : Plan) → JoinsGiven p (work p) (now (first .entry)) (now (job .entry)) (now (spawn .entry)) (now (join .entry)) (now (parent .entry)) (now (position .entry)) → k < work p → Counted p k (now (entering .entry)) → JoinTold p (suc k) r (now (entering .exit))) ⌝ }
+    requires { ⌜ ((p : Plan) × JoinsGiven p (total p) (now first) (now job) (now spawn) (now join) (now parent) (now position) × (k < total p) × Counted p k (now entering)) ⌝ }
+    ensures { λ r. ⌜ ((p : Plan) → JoinsGiven p (total p) (now (first .entry)) (now (job .entry)) (now (spawn .entry)) (now (join .entry)) (now (parent .entry)) (now (position .entry)) → k < total p → Counted p k (now (entering .entry)) → JoinTold p (suc k) r (now (entering .exit))) ⌝ }
 {
     let j = wide8(job[k]);
     let sent = wide16(join[k]);
@@ -159,7 +159,7 @@ fn joins_kept(
     entering: &mut [u8; 2048],
 ) -> bool
     requires { ⌜ ((p : Plan) × JoinsGiven p actions (now first) (now job) (now spawn) (now join) (now parent) (now position) × Counted p 0 (now entering)) ⌝ }
-    ensures { λ r. ⌜ ((p : Plan) → JoinsGiven p actions (now (first .entry)) (now (job .entry)) (now (spawn .entry)) (now (join .entry)) (now (parent .entry)) (now (position .entry)) → Counted p 0 (now (entering .entry)) → JoinTold p (work p) r (now (entering .exit))) ⌝ }
+    ensures { λ r. ⌜ ((p : Plan) → JoinsGiven p actions (now (first .entry)) (now (job .entry)) (now (spawn .entry)) (now (join .entry)) (now (parent .entry)) (now (position .entry)) → Counted p 0 (now (entering .entry)) → JoinTold p (total p) r (now (entering .exit))) ⌝ }
 {
     let mut k = 0;
     while k < actions {

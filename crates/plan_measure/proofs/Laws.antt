@@ -1,4 +1,5 @@
 -- What holds of the definitions in specs/, in named modules.
+pub mod Work
 pub mod Largest
 pub mod Paths
 pub mod Follows

@@ -1,4 +1,5 @@
 -- The measures of a plan (document 01, "Plan").
+--   work p           == T1
 --   mustFollow p x y == x must follow y: y is "the one before it, its spawner (for position 0)" or a sender of a join into it
 --   Chain p l        == l is a chain: "a list of one or more actions, of any jobs, in which each but the first must
 --                       follow the one before it"
@@ -21,8 +22,12 @@ use Rattle.plan_measure.specs.declared.Measured.{Measured}
 use Rattle.plan_measure.specs.declared.Measured.the-variants.{Refused, Of}
 use Rattle.plan.specs.Refusal.{Outcome, refused, accepted, numberOf}
 use Rattle.plan.specs.Test.{both, either, largest, below}
-use Rattle.plan.specs.Plan.{Plan, Placed, job, work, placed, parent, enters}
+use Rattle.plan.specs.Plan.{Plan, Placed, job, total, placed, parent, enters}
 use Rattle.plan.specs.Reader.{readPlan}
+
+-- "T1 is the plan's number of actions."
+unfoldable pub work : Plan → ℕ
+work p = total p
 
 unfoldable pub mustFollow : Plan → Placed → Placed → Bool
 unfolding enters
@@ -51,7 +56,7 @@ after p (suc n) x = suc (largest (λ y. elim (mustFollow p x y) [ true ↦ after
 
 unfoldable pub longest : Plan → ℕ
 unfolding after
-longest p = largest (after p (work p)) (placed p)
+longest p = largest (after p (total p)) (placed p)
 
 -- over at most n jobs, from job j up to the root
 unfoldable pub pathOver : Plan → ℕ → ℕ → ℕ
@@ -68,7 +73,7 @@ unfolding path
 heaviest p = largest (path p) (below (length p))
 
 unfoldable pub measured : Outcome Plan → Outcome Measures
-unfolding longest heaviest
+unfolding work longest heaviest
 measured (refused n) = refused n
 measured (accepted p) = accepted (record { actions = work p; longest = longest p; path = heaviest p })
 

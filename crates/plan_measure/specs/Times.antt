@@ -19,7 +19,7 @@ use mathlib.Core.Bool.{true, false}
 use mathlib.Core.List.{List}
 use lib.Dec.{eqb}
 use lib.ListN.{length, getD, take}
-use Rattle.plan.specs.Plan.{Plan, size, action, work, parent, spawnAt}
+use Rattle.plan.specs.Plan.{Plan, size, action, total, parent, spawnAt}
 use Rattle.plan.specs.Rules.{Accepted}
 use Rattle.plan.specs.Flat.{Frames, Firsts, Spawns, Joins}
 use Rattle.plan_measure.specs.Measure.{after}
@@ -35,14 +35,14 @@ pub record PathsGiven (p : Plan) (jobs : ℕ) (frameOf parentOf : List ℕ) : Ty
 
 unfoldable pub ends : Plan → ℕ → ℕ → ℕ
 unfolding after
-ends p j i = after p (work p) (record { job = j; position = i; spawn = action p j i .spawn; join = action p j i .join })
+ends p j i = after p (total p) (record { job = j; position = i; spawn = action p j i .spawn; join = action p j i .join })
 
 unfoldable pub begins : Plan → ℕ → ℕ
 unfolding ends parent spawnAt
 begins p j = elim (eqb j 0) [ true ↦ 0 | false ↦ ends p (parent p j) (spawnAt p j) ]
 
 abbrev pub placeOf : Plan → ℕ → ℕ
-placeOf p j = work (take j p)
+placeOf p j = total (take j p)
 
 pub record TimesGiven (p : Plan) (first spawn join : List ℕ) : Type 0 where
   pub rules : Accepted p
@@ -53,7 +53,7 @@ pub record TimesGiven (p : Plan) (first spawn join : List ℕ) : Type 0 where
 pub record MeasureGiven (p : Plan) (jobs actions : ℕ) (frameOf firstOf spawnOf joinOf parentOf : List ℕ) : Type 0 where
   pub paths : PathsGiven p jobs frameOf parentOf
   pub times : TimesGiven p firstOf spawnOf joinOf
-  pub all : actions ≡ work p
+  pub all : actions ≡ total p
 
 pub record JobGiven (p : Plan) (j from end : ℕ) (firstOf spawnOf joinOf : List ℕ) : Type 0 where
   pub arrays : TimesGiven p firstOf spawnOf joinOf

@@ -17,15 +17,15 @@ use Rattle.plan.specs.declared.refusal.Refusal.{Refusal}
 use Rattle.plan.specs.declared.refusal.Refusal.the-variants.{Range}
 use Rattle.plan_table.specs.declared.rows.Jobs.{Jobs as Counted}
 use Rattle.plan_table.specs.declared.rows.Jobs.the-variants.{Refused, Count}
-use Rattle.plan.specs.Plan.{Plan, work}
+use Rattle.plan.specs.Plan.{Plan, total}
 use Rattle.plan.specs.Rules.{inRange}
 use Rattle.plan.specs.Test.{both}
 use Rattle.plan_table.specs.Table.{Row, rowsOf, small, goesOn, rowRules, planOf}
 use Rattle.plan.specs.Flat.{Frames, Firsts, Jobs, Spawns, Joins}
 
 pub record RowsGiven (p : Plan) (actions : ℕ) (frame job spawn join : List ℕ) : Type 0 where
-  pub few : work p ≤ 2048
-  pub all : actions ≡ work p
+  pub few : total p ≤ 2048
+  pub all : actions ≡ total p
   pub frames : Frames p frame
   pub owners : Jobs p job
   pub spawns : Spawns p spawn
@@ -50,13 +50,13 @@ pub record Laid (p : Plan) (jobs : ℕ) (frame first job spawn join : List ℕ) 
 pub record BitsGiven (p : Plan) (jobs actions : ℕ) (spawn join : List ℕ) : Type 0 where
   pub range : T (inRange p)
   pub count : jobs ≡ length p
-  pub all : actions ≡ work p
+  pub all : actions ≡ total p
   pub spawns : Spawns p spawn
   pub joins : Joins p join
 
 pub record WriterGiven (p : Plan) (jobs actions : ℕ) (frame first job spawn join : List ℕ) : Type 0 where
   pub laid : Laid p jobs frame first job spawn join
-  pub all : actions ≡ work p
+  pub all : actions ≡ total p
   pub children : (k : ℕ) → getD spawn k 0 ≤ 256
   pub targets : (k : ℕ) → getD join k 0 ≤ 256
 

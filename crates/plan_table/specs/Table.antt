@@ -16,7 +16,7 @@ use Rattle.plan_table.specs.declared.Answer.{Answer}
 use Rattle.plan_table.specs.declared.Answer.the-variants.{Refused, Count}
 use Rattle.plan.specs.Refusal.{Outcome, refused, accepted, numberOf}
 use Rattle.plan.specs.Test.{both, either, all}
-use Rattle.plan.specs.Plan.{Action, Job, Plan, work}
+use Rattle.plan.specs.Plan.{Action, Job, Plan, total}
 use Rattle.plan.specs.Rules.{inRange, spawnRules, joinRules}
 use Rattle.plan.specs.Reader.{readPlan}
 use Rattle.plan.specs.Writer.{planBytes}
@@ -112,7 +112,7 @@ written output n buffer =
 unfoldable pub tabled : Outcome Plan → List ℕ → Written
 unfolding written tableOf
 tabled (refused n) buffer = record { answer = refused n; buffer = buffer }
-tabled (accepted p) buffer = written (tableOf p) (work p) buffer
+tabled (accepted p) buffer = written (tableOf p) (total p) buffer
 
 unfoldable pub toTable : List ℕ → List ℕ → Written
 unfolding tabled readPlan

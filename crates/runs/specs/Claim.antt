@@ -9,7 +9,7 @@ use mathlib.Core.List.{List}
 use lib.ListN.{take}
 use lib.Dec.{T}
 use Rattle.plan.specs.Refusal.{accepted}
-use Rattle.plan.specs.Plan.{Plan, work}
+use Rattle.plan.specs.Plan.{Plan, total}
 use Rattle.plan.specs.Reader.{readPlan}
 use Rattle.plan_measure.specs.Measure.{longest, heaviest}
 use Rattle.runs.specs.declared.tally.Tally.{Tally}
@@ -22,11 +22,11 @@ pub record Bounds (p : Plan) (n : ℕ) (rows : List Row) (t : Tally) : Type 0 wh
   -- at the start (round 0) and after every single turn the frames of living jobs weigh at most P × S1
   pub space : (r w : ℕ) → weightAfter p rows r w ≤ n * heaviest p
   -- the build ends in at most T1 rounds and at least T∞
-  pub most-rounds : t .rounds ≤ work p
+  pub most-rounds : t .rounds ≤ total p
   pub least-rounds : longest p ≤ t .rounds
   -- with one worker the peak is S1 and the rounds are T1
   pub lone-peak : n ≡ 1 → t .peak ≡ heaviest p
-  pub lone-rounds : n ≡ 1 → t .rounds ≡ work p
+  pub lone-rounds : n ≡ 1 → t .rounds ≡ total p
   -- the peak is the largest of those weights, the rounds the last round in the rows
   pub peak : t .peak ≡ peakOf p rows
   pub rounds : t .rounds ≡ lastRound rows
@@ -34,7 +34,7 @@ pub record Bounds (p : Plan) (n : ℕ) (rows : List Row) (t : Tally) : Type 0 wh
 -- the first 4 + 2 × T1 bytes are a schedule of n workers for the plan, and the bounds hold of its rows with the tally
 pub record Bounded (p : Plan) (n : ℕ) (schedule : List ℕ) (t : Tally) : Type 0 where
   pub rows : List Row
-  pub read : readSchedule (take (4 + 2 * work p) schedule) (work p) ≡ accepted (record { workers = n; rows = rows })
+  pub read : readSchedule (take (4 + 2 * total p) schedule) (total p) ≡ accepted (record { workers = n; rows = rows })
   pub bounds : Bounds p n rows t
 
 abbrev pub Demand3 : Type 0

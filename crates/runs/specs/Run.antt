@@ -11,7 +11,7 @@ use lib.ListN.{length}
 use lib.Dec.{leb, ltb}
 use Rattle.plan.specs.Test.{both, either, all}
 use Rattle.plan.specs.Refusal.{Outcome, refused, accepted}
-use Rattle.plan.specs.Plan.{Plan, size, work}
+use Rattle.plan.specs.Plan.{Plan, size, total}
 use Rattle.plan.specs.Reader.{readPlan}
 use Rattle.runs.specs.State.{State, nextOf, start}
 use Rattle.runs.specs.Turn.{turns}
@@ -36,7 +36,7 @@ rounds (suc k) p n choices s = elim (ended p s) [ true ↦ s | false ↦ rounds 
 
 unfoldable pub run : Plan → ℕ → List ℕ → State
 unfolding rounds start
-run p n choices = rounds (work p) p n choices (start p)
+run p n choices = rounds (total p) p n choices (start p)
 
 -- "worker count 0 or above 16"
 unfoldable pub workersFit : ℕ → Bool

@@ -7,7 +7,7 @@
 use Prim.Native.Nat.{ℕ}
 use mathlib.Core.List.{List, [], _∷_}
 use lib.ListN.{length, getD, replicate}
-use Rattle.plan.specs.Plan.{Plan, job, work}
+use Rattle.plan.specs.Plan.{Plan, job, total}
 use Rattle.courses.specs.Row.{Row, noRow}
 use Rattle.runs.specs.declared.tally.Tally.{Tally}
 use Rattle.runs.specs.declared.worker.Worker.{Worker}
@@ -37,6 +37,6 @@ start p = record {
   next = replicate (length p) 0;
   workers = Holding 0 ∷ replicate 15 Idle;
   deques = replicate 16 [];
-  rows = replicate (work p) noRow;
+  rows = replicate (total p) noRow;
   tally = record { rounds = 0; actions = 0; idle = 0; requests = 0; steals = 0; misses = 0; peak = job p 0 .frame };
 }

@@ -9,7 +9,7 @@ use mathlib.Core.Path.{_≡_}
 use mathlib.Core.List.{List}
 use lib.ListN.{length}
 use Rattle.plan.specs.Refusal.{accepted}
-use Rattle.plan.specs.Plan.{Plan, work}
+use Rattle.plan.specs.Plan.{Plan, total}
 use Rattle.plan.specs.Flat.{Entered}
 use Rattle.runs.specs.declared.tally.Tally.{Tally}
 use Rattle.runs.specs.Run.{admitted}
@@ -21,7 +21,7 @@ use Rattle.scheduler.specs.Machine.{Planned}
 
 pub record Loaded (p : Plan) (actions : ℕ) (frame first spawn join parent missing : List ℕ) : Type 0 where
   pub planned : Planned p frame first spawn join parent
-  pub all : actions ≡ work p
+  pub all : actions ≡ total p
   pub entered : Entered p missing
   pub long : length missing ≡ 2048
 

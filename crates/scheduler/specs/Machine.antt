@@ -21,7 +21,7 @@ use mathlib.Core.List.{List, [], _∷_}
 use lib.ListN.{length, getD, set, drop}
 use lib.Dec.{T, leb}
 use Rattle.plan.specs.Test.{both, count}
-use Rattle.plan.specs.Plan.{Plan, size, work, placed, enters, parent as parentOf}
+use Rattle.plan.specs.Plan.{Plan, size, total, placed, enters, parent as parentOf}
 use Rattle.plan.specs.Rules.{Accepted}
 use Rattle.plan.specs.Flat.{Frames, Firsts, Spawns, Joins, Entered}
 use Rattle.scheduler.specs.declared.account.Account.{Account}
@@ -68,7 +68,7 @@ Given deques v [] worker slots top len = (worker ≡ Idle) × Dequed deques slot
 Given deques v (x ∷ d) worker slots top len = (worker ≡ Holding (topOf x d)) × Dequed (set deques v (dropTop (x ∷ d))) slots top len
 
 pub record Printed (p : Plan) (s : State) (bytes : List ℕ) : Type 0 where
-  pub room : 2 * work p ≤ length bytes
+  pub room : 2 * total p ≤ length bytes
   pub high : (j i : ℕ) → j < length p → i < nextOf s j → getD bytes (2 * place p j i) 0 ≡ getD (s .rows) (place p j i) noRow .round / 16
   pub down : (j i : ℕ) → j < length p → i < nextOf s j
       → getD bytes (2 * place p j i + 1) 0 ≡ getD (s .rows) (place p j i) noRow .round % 16 * 16 + getD (s .rows) (place p j i) noRow .worker
@@ -131,7 +131,7 @@ pub record Machine (p : Plan) (s : State) (c : Account) (seats rows next missing
 
 -- the bytes behind the rows are as they were
 abbrev pub Kept : Plan → List ℕ → List ℕ → Type 0
-Kept p rows rows′ = (length rows′ ≡ length rows) × (drop (2 * work p) rows′ ≡ drop (2 * work p) rows)
+Kept p rows rows′ = (length rows′ ≡ length rows) × (drop (2 * total p) rows′ ≡ drop (2 * total p) rows)
 
 -- what a whole run is given
 pub record RunGiven (p : Plan) (n : ℕ) (choices frame first spawn join parent entering : List ℕ) : Type 0 where

@@ -8,14 +8,14 @@ use mathlib.Core.List.{List, [], _∷_, _++_}
 use lib.ListN.{length, length-append}
 use lib.Dec.{T}
 use Rattle.plan.specs.Refusal.{accepted}
-use Rattle.plan.specs.Plan.{Action, Plan, work}
+use Rattle.plan.specs.Plan.{Action, Plan, total}
 use Rattle.plan.specs.Rules.{inRange}
 use Rattle.plan.specs.Field.{bitsOf}
 use Rattle.plan.specs.Writer.{numberBits, actionsBits, jobsBits, planBits, planBytes}
 use Rattle.plan.proofs.Laws.Accepted.{accepted-kept}
 use Rattle.plan.proofs.Laws.Bits.{bitsOf-length}
 use Rattle.plan.proofs.Laws.PlanBytes.{planBytes-length}
-use Rattle.plan.proofs.Laws.Spawning.{jobs-in-range, work-in-range}
+use Rattle.plan.proofs.Laws.Spawning.{jobs-in-range, total-in-range}
 use Rattle.plan_table.specs.Table.{toTable, toPlan}
 use Rattle.plan_table.proofs.Laws.OpenTable.{readTable-rules}
 use Rattle.plan_table.proofs.Laws.Puts.{number-few}
@@ -28,7 +28,7 @@ actions-few (a ∷ l) =
     rw (length-append (numberBits (a .spawn)) (numberBits (a .join) ++ actionsBits l), length-append (numberBits (a .join)) (actionsBits l))
     (omega (arith, number-few (a .spawn), number-few (a .join), actions-few l))
 
-jobs-few : (p : Plan) → length (jobsBits p) ≤ 24 * length p + 18 * work p
+jobs-few : (p : Plan) → length (jobsBits p) ≤ 24 * length p + 18 * total p
 unfolding jobsBits
 jobs-few [] = omega arith
 jobs-few (b ∷ p) =
@@ -41,7 +41,7 @@ jobs-few (b ∷ p) =
     )
     (omega (arith, actions-few (b .actions), jobs-few p))
 
-planBits-few : (p : Plan) → length (planBits p) ≤ 17 + (24 * length p + 18 * work p)
+planBits-few : (p : Plan) → length (planBits p) ≤ 17 + (24 * length p + 18 * total p)
 unfolding planBits
 planBits-few p =
     rw (
@@ -54,10 +54,10 @@ planBits-few p =
 
 pub planBytes-few : (p : Plan) → T (inRange p) → length (planBytes p) ≤ 5379
 planBytes-few p t =
-    omega (arith, planBytes-length p, planBits-few p, jobs-in-range p t, work-in-range p t)
+    omega (arith, planBytes-length p, planBits-few p, jobs-in-range p t, total-in-range p t)
 
 pub toTable-few : (s rows : List ℕ) (n : ℕ) → toTable s rows .answer ≡ accepted n → n ≤ 2048
-toTable-few s rows n e = toTable-told s rows n e λ p r k b. omega (arith, work-in-range p (accepted-kept s p r .range))
+toTable-few s rows n e = toTable-told s rows n e λ p r k b. omega (arith, total-in-range p (accepted-kept s p r .range))
 
 pub toPlan-few : (t bytes : List ℕ) (n : ℕ) → toPlan t bytes .answer ≡ accepted n → n ≤ 5379
 toPlan-few t bytes n e = toPlan-told t bytes n e λ p r k b. omega (arith, planBytes-few p (readTable-rules t p r .0))

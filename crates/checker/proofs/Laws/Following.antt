@@ -10,10 +10,10 @@ use native.Mathlib.Numerals.{add-one}
 use native.Mathlib.Omega.{arith}
 use lib.ListN.{length, getD}
 use Rattle.courses.specs.Row.{Row}
-use Rattle.plan.specs.Plan.{Plan, Placed, size, action, work, placed, noPlaced, parent}
+use Rattle.plan.specs.Plan.{Plan, Placed, size, action, total, placed, noPlaced, parent}
 use Rattle.plan.specs.Rules.{Accepted}
 use Rattle.plan.proofs.Laws.Placed.{start, placed-at, placed-of, Stands, place-below, start-suc, start-below, first-at, spawn-at, join-at}
-use Rattle.plan.proofs.Laws.Valid.{jobs-range, size-range, work-range, older, spawned-once, join-target}
+use Rattle.plan.proofs.Laws.Valid.{jobs-range, size-range, total-range, older, spawned-once, join-target}
 use Rattle.plan_measure.proofs.Laws.Follows.{Follows, next, born, joined, act, follows-of, of-follows}
 use Rattle.checker.specs.Judging.{word, JobPlace, Later, Followed, Told}
 use Rattle.checker.specs.Given.{RulesGiven}
@@ -64,7 +64,7 @@ told-broken p row k f = record { kept = λ t. absurd t; broken = λ n. f }
 module _ (p : Plan) (rows : List Row) (jobs : ℕ) (s firstOf spawnOf joinOf parentOf : List ℕ)
     (g : RulesGiven p rows jobs s firstOf spawnOf joinOf parentOf) where
   -- a row's bytes are there
-  pub row-within : (x : ℕ) → x < work p → 5 + 2 * x < length s
+  pub row-within : (x : ℕ) → x < total p → 5 + 2 * x < length s
   row-within x h = omega (arith, g .bytes .long, g .all)
 
   -- the places of a job, from its first on
@@ -77,7 +77,7 @@ module _ (p : Plan) (rows : List Row) (jobs : ℕ) (s firstOf spawnOf joinOf par
   -- the rows of a job are there
   pub job-room : (j end : ℕ) → j < jobs → end ≡ getD firstOf (j + 1) 0 → (end ≤ 2048) × (4 + 2 * end ≤ length s)
   job-room j end h f =
-      omega (arith, job-past j end h f, start-below p (suc j), work-range p (g .plan), g .bytes .long, g .all)
+      omega (arith, job-past j end h f, start-below p (suc j), total-range p (g .plan), g .bytes .long, g .all)
 
   pub job-starts : (j k end : ℕ) → j < jobs → k ≡ getD firstOf j 0 → end ≡ getD firstOf (j + 1) 0
       → JobPlace p j k end × (k ≡ start p j)
@@ -107,9 +107,9 @@ module _ (p : Plan) (rows : List Row) (jobs : ℕ) (s firstOf spawnOf joinOf par
     unfolding i
     within = omega (arith, at .from, at .past, start-suc p j (at .known))
 
-    pub place-within : (k < work p) × (k < 2048) × (j < 256)
+    pub place-within : (k < total p) × (k < 2048) × (j < 256)
     place-within =
-        omega (arith, at .past, at .known, start-below p (suc j), work-range p (g .plan), jobs-range p (g .plan))
+        omega (arith, at .past, at .known, start-below p (suc j), total-range p (g .plan), jobs-range p (g .plan))
 
     spawn-here : getD spawnOf k 0 ≡ action p j i .spawn
     spawn-here = spawn-at p spawnOf (g .spawns) k (place-within .0) ∙ ap (λ a. a .spawn) (here p (g .plan) (word s) j i k (at .known) within place)
@@ -118,7 +118,7 @@ module _ (p : Plan) (rows : List Row) (jobs : ℕ) (s firstOf spawnOf joinOf par
     join-here = join-at p joinOf (g .joins) k (place-within .0) ∙ ap (λ a. a .join) (here p (g .plan) (word s) j i k (at .known) within place)
 
     -- the next action of the job
-    pub next-within : k + 1 < end → k + 1 < work p
+    pub next-within : k + 1 < end → k + 1 < total p
     next-within b = omega (arith, at .past, start-below p (suc j))
 
     next-size : k + 1 < end → suc i < size p j
@@ -140,7 +140,7 @@ module _ (p : Plan) (rows : List Row) (jobs : ℕ) (s firstOf spawnOf joinOf par
         first-child : x ≡ start p (child - 1)
         first-child = f ∙ first-at p firstOf (g .firsts) (child - 1) (omega (arith, spawned-once p (g .plan) j i (child - 1) (at .known) within spawned))
 
-        pub child-within : x < work p
+        pub child-within : x < total p
         child-within =
             let (l, b, q, n) = spawned-once p (g .plan) j i (child - 1) (at .known) within spawned in
             omega (arith, first-child, place-below p (child - 1) 0 b (omega (arith, size-range p (g .plan) (child - 1) b)))
@@ -162,7 +162,7 @@ module _ (p : Plan) (rows : List Row) (jobs : ℕ) (s firstOf spawnOf joinOf par
           let d : q ≡ parent p j = m ∙ g .parents j l (at .known) in
           n ∙ ap (λ a. getD firstOf a 0) d ∙ first-at p firstOf (g .firsts) (parent p j) (omega (arith, at .known, older p (g .plan) j l (at .known)))
 
-      pub target-within : f + (sent - 1) < work p
+      pub target-within : f + (sent - 1) < total p
       target-within =
           let (l, b, u, v) = join-target p (g .plan) j i (sent - 1) (at .known) within sends in
           omega (arith, first-parent, place-below p (parent p j) (sent - 1) (omega (arith, at .known, older p (g .plan) j l (at .known))) b)

@@ -15,7 +15,7 @@ use Rattle.plan.specs.Plan.{Plan}
 use Rattle.plan.specs.Rules.{Accepted}
 use Rattle.plan.specs.Reader.{readPlan}
 use Rattle.plan.proofs.Laws.Accepted.{accepted-kept}
-use Rattle.plan.proofs.Laws.Valid.{work-range}
+use Rattle.plan.proofs.Laws.Valid.{total-range}
 use Rattle.runs.specs.declared.tally.Tally.{Tally}
 use Rattle.runs.specs.Run.{run, admitted, runOf}
 use Rattle.courses.specs.Schedule.{scheduleBytes, checked}
@@ -94,7 +94,7 @@ module _ (plan : List ℕ) (n : ℕ) (choices schedule : List ℕ) where
       own-accepted : checked plan (take (4 + 2 * t .actions) (result .schedule)) ≡ accepted 0
       own-accepted =
           let (r, b, trace, e, q) = run-trace (w .p) kept n (w .some) (w .most) choices in
-          let few : r ≤ 4095 = omega (arith, round-most (w .p) kept n (w .some) (w .most) choices trace, work-range (w .p) kept) in
+          let few : r ≤ 4095 = omega (arith, round-most (w .p) kept n (w .some) (w .most) choices trace, total-range (w .p) kept) in
           let part = ap (take (4 + 2 * t .actions)) (w .written) ∙ take-at bytes (drop (length bytes) schedule) (4 + 2 * t .actions) long in
           ap (checked plan) part ∙ run-checked (w .p) kept n (w .some) (w .most) choices trace e few plan (w .read)
 

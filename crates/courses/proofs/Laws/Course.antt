@@ -21,7 +21,7 @@ use native.Mathlib.Omega.{arith}
 use native.Mathlib.Decide.{ℕ-discrete, decLt}
 use lib.Dec.{T}
 use lib.ListN.{length, getD, take}
-use Rattle.plan.specs.Plan.{Plan, Placed, job, size, work}
+use Rattle.plan.specs.Plan.{Plan, Placed, job, size, total}
 use Rattle.plan_measure.proofs.Laws.Follows.{act}
 use Rattle.plan.proofs.Laws.Placed.{start-suc, start-rises}
 use Rattle.courses.specs.Row.{Row, noRow, place}
@@ -51,7 +51,7 @@ pub place-apart : (p : Plan) (j i k h : ℕ) → j < length p → i < size p j �
 place-apart p j i k h b l c m e = go (ℕ-discrete j k) (decLt j k)
   where
     go : Dec (j ≡ k) → Dec (j < k) → (j ≡ k) × (i ≡ h)
-    go (yes q) d = (q, omega (arith, ap (λ x. work (take x p)) q))
+    go (yes q) d = (q, omega (arith, ap (λ x. total (take x p)) q))
     go (no f) (yes q) = absurd (omega (arith, start-suc p j b, start-rises p (suc j) k q (omega arith)))
     go (no f) (no g) = absurd (omega (arith, start-suc p k c, start-rises p (suc k) j (omega arith) (omega arith)))
 
@@ -66,7 +66,7 @@ module _ (p : Plan) where
   pub record Begins (c : Core) : Type 0 where
     pub none : (j : ℕ) → nextIn c j ≡ 0
     pub fresh : (j : ℕ) → spentIn c j ≡ 0
-    pub long : length (c .rows) ≡ work p
+    pub long : length (c .rows) ≡ total p
     pub turns : c .turns ≡ 0
     pub peak : c .peak ≡ job p 0 .frame
 

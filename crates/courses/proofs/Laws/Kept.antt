@@ -11,7 +11,7 @@ use native.Mathlib.Omega.{arith}
 use native.Mathlib.Nat.{not-suc-le-zero, eq-zero-or-pos}
 use native.Mathlib.Decide.{ℕ-discrete, decLe}
 use lib.ListN.{length}
-use Rattle.plan.specs.Plan.{size, work}
+use Rattle.plan.specs.Plan.{size, total}
 use Rattle.plan.specs.Rules.{Accepted}
 use Rattle.plan.proofs.Laws.Valid.{jobs-range, size-range, spawned-once, join-target}
 use Rattle.plan_measure.proofs.Laws.Follows.{act, Follows, next, born, joined}
@@ -48,7 +48,7 @@ module _ (e : Terms) where
     pub first : (w j : ℕ) → b w ≡ suc j → 1 ≤ r
     pub known : (w j : ℕ) → b w ≡ suc j → w < workers
     pub once : (v w j : ℕ) → b v ≡ suc j → b w ≡ suc j → v ≡ w
-    pub long : length (c .rows) ≡ work plan
+    pub long : length (c .rows) ≡ total plan
     pub closed : Closed (shape plan) (nextIn c)
     pub done : (j i : ℕ) → j < length plan → i < nextIn c j → Done workers r k (rowIn plan c j i)
     -- an action takes its turns, after all that it must follow

@@ -12,7 +12,7 @@ use native.Mathlib.Nat.{le-of-eq}
 use lib.ListN.{length, getD}
 use lib.Dec.{T, eqb, ltb, eqb→eq, lt→ltb, not-T}
 use Rattle.plan.specs.Test.{both, either, all, largest}
-use Rattle.plan.specs.Plan.{Plan, Placed, size, work, placed, noPlaced}
+use Rattle.plan.specs.Plan.{Plan, Placed, size, total, placed, noPlaced}
 use Rattle.plan.specs.Rules.{Accepted}
 use Rattle.plan.proofs.Laws.Lists.{both-intro, both-left, both-right, all-by}
 use Rattle.plan.proofs.Laws.Placed.{place-below, locate}
@@ -70,7 +70,7 @@ module _ (e : Terms) (ok : Accepted (e .plan)) {r idle k : ℕ} {b : ℕ → ℕ
   done j i l m = omega (arith, course-done e ok t ended j l)
 
   -- every row is of a round from 1 to r, and of one of the workers
-  pub course-row : (h : ℕ) → h < work plan → Done workers r k (getD (c .rows) h noRow)
+  pub course-row : (h : ℕ) → h < total plan → Done workers r k (getD (c .rows) h noRow)
   course-row h l =
       let q = locate plan h l in
       rw (q .place) (course-kept e ok t .done (q .job) (q .position) (q .known) (done (q .job) (q .position) (q .known) (q .within)))
@@ -147,7 +147,7 @@ module _ (e : Terms) (ok : Accepted (e .plan)) {r idle k : ℕ} {b : ℕ → ℕ
 
     module _ (calm : T steady) where
       -- no two rows are of one round and one worker
-      pub course-alone : (k h : ℕ) → k < work plan → h < work plan → getD (c .rows) k noRow .round ≡ getD (c .rows) h noRow .round
+      pub course-alone : (k h : ℕ) → k < total plan → h < total plan → getD (c .rows) k noRow .round ≡ getD (c .rows) h noRow .round
           → getD (c .rows) k noRow .worker ≡ getD (c .rows) h noRow .worker → k ≡ h
       course-alone k h l m f g =
           let x = locate plan k l in
@@ -171,7 +171,7 @@ module _ (e : Terms) (ok : Accepted (e .plan)) {r idle k : ℕ} {b : ℕ → ℕ
           (all-by (λ a. ltb (a .worker) workers) (c .rows) noRow
           (λ k l. lt→ltb (getD (c .rows) k noRow .worker) workers (course-row k (omega (arith, long)) .known))))
         where
-          long : length (c .rows) ≡ work plan
+          long : length (c .rows) ≡ total plan
           long = course-kept e ok t .long
 
           rule : Placed → Placed → Bool

@@ -8,7 +8,7 @@ use mathlib.Core.List.{List, [], _∷_}
 use native.Mathlib.Omega.{arith}
 use lib.ListN.{length, getD, set, length-set}
 use lib.Seq.{getD-set-same, getD-set-other}
-use Rattle.plan.specs.Plan.{Plan, size, work}
+use Rattle.plan.specs.Plan.{Plan, size, total}
 use Rattle.plan.proofs.Laws.Placed.{place-below}
 use Rattle.courses.specs.Row.{noRow, place}
 use Rattle.courses.specs.Ready.{weight}
@@ -47,7 +47,7 @@ zero-set [] j = refl
 zero-set (x ∷ l) zero = refl
 zero-set (x ∷ l) (suc j) = zero-set l j
 
-pub finished-ends : (p : Plan) (r w j : ℕ) (c : Core) → length (c .next) ≡ length p → length (c .rows) ≡ work p → j < length p
+pub finished-ends : (p : Plan) (r w j : ℕ) (c : Core) → length (c .next) ≡ length p → length (c .rows) ≡ total p → j < length p
     → nextIn c j < size p j → Ends p r w j c (finished p r w j c)
 finished-ends p r w j c nexts rows known left = record {
   acts = record {

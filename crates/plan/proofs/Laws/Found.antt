@@ -11,7 +11,7 @@ use Rattle.plan.specs.Rules.{Accepted}
 use Rattle.plan.specs.Reader.{readPlan}
 use Rattle.plan.specs.Flat.{FlatPlan, Holds, ReadInto}
 use Rattle.plan.proofs.Laws.Accepted.{accepted-kept}
-use Rattle.plan.proofs.Laws.Valid.{work-range}
+use Rattle.plan.proofs.Laws.Valid.{total-range}
 
 pub record Given (s : List ℕ) (f : FlatPlan) : Type 0 where
   pub plan : Plan
@@ -23,4 +23,4 @@ pub record Given (s : List ℕ) (f : FlatPlan) : Type 0 where
 pub found-given : (s : List ℕ) (f : FlatPlan) → ReadInto s (Found.Plan (f .jobs) (f .actions)) f → Given s f
 found-given s f (p, e, h) =
     let ok = accepted-kept s p e in
-    record { plan = p; read = e; holds = h; kept = ok; few = omega (arith, h .actions, work-range p ok) }
+    record { plan = p; read = e; holds = h; kept = ok; few = omega (arith, h .actions, total-range p ok) }

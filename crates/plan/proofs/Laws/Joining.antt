@@ -13,7 +13,7 @@ use lib.Dec.{T, leb, ltb, eqb, ltb→lt, nltb→le, not-T, eqb→eq, eqb-refl, l
 use lib.ListN.{length, getD, take, set, replicate, getD-replicate, length-set, length-replicate}
 use lib.Seq.{getD-set-same, getD-set-other, take-all}
 use Rattle.plan.specs.Test.{both, either, all, count}
-use Rattle.plan.specs.Plan.{Plan, Placed, size, action, work, placed, noPlaced, parent, spawnAt, enters, entering}
+use Rattle.plan.specs.Plan.{Plan, Placed, size, action, total, placed, noPlaced, parent, spawnAt, enters, entering}
 use Rattle.plan.specs.Rules.{inRange, joinFits, fewEnter, lastSends, joinRules, Accepted}
 use Rattle.plan.specs.Flat.{Entered}
 use Rattle.plan.specs.Given.{JoinsGiven, Unentered}
@@ -21,7 +21,7 @@ use Rattle.plan.specs.Kept.{Counted, JoinTold}
 use Rattle.plan.proofs.Laws.Lists.{both-intro, both-left, both-right, all-by}
 use Rattle.plan.proofs.Laws.Counts.{decT, either-left, either-right, equal-tests, count-take, count-one-more, count-no-more, array-by}
 use Rattle.plan.proofs.Laws.Placed.{start, placed-length, placed-at, place-below, start-suc, placed-of, first-at, job-at, spawn-at, join-at}
-use Rattle.plan.proofs.Laws.Spawning.{work-in-range, spawner-of}
+use Rattle.plan.proofs.Laws.Spawning.{total-in-range, spawner-of}
 use Rattle.plan.proofs.Laws.Valid.{join-target, few-enter, last-sends}
 use Rattle.plan.proofs.Laws.Recording.{here}
 
@@ -79,7 +79,7 @@ told-broken p k l f = record { kept = λ x. absurd x; broken = λ _. f }
 
 -- the arrays hold the plan's every action
 pub given-all : (p : Plan) (actions : ℕ) (first job spawn join parents positions : List ℕ) → JoinsGiven p actions first job spawn join parents positions
-    → JoinsGiven p (work p) first job spawn join parents positions
+    → JoinsGiven p (total p) first job spawn join parents positions
 given-all p actions first job spawn join parents positions g =
     record {
       range = g .range;
@@ -92,7 +92,7 @@ given-all p actions first job spawn join parents positions g =
       spawned = g .spawned;
     }
 
-module _ (p : Plan) (k : ℕ) (first job spawn join parents positions : List ℕ) (g : JoinsGiven p (work p) first job spawn join parents positions) (h : k < work p) where
+module _ (p : Plan) (k : ℕ) (first job spawn join parents positions : List ℕ) (g : JoinsGiven p (total p) first job spawn join parents positions) (h : k < total p) where
   accepted : T (joinRules p) → Accepted p
   accepted t = record { range = g .range; spawns = g .rules; joins = t }
 
@@ -201,11 +201,11 @@ module _ (p : Plan) (k : ℕ) (first job spawn join parents positions : List ℕ
         within : s - 1 < size p q
         within = omega (arith, begins, ends)
 
-        pub target-below : w + (s - 1) < work p
+        pub target-below : w + (s - 1) < total p
         target-below = omega (arith, begins, place-below p q (s - 1) there within)
 
         pub target-small : w + (s - 1) < 2048
-        target-small = omega (arith, target-below, work-in-range p (g .range))
+        target-small = omega (arith, target-below, total-in-range p (g .range))
 
         spawn-before : getD spawn (w + (s - 1) - 1) 0 ≡ action p q (s - 1 - 1) .spawn
         spawn-before =
@@ -289,7 +289,7 @@ module _ (p : Plan) (k : ℕ) (first job spawn join parents positions : List ℕ
 pub counted-start : (p : Plan) → T (inRange p) → (l : List ℕ) → Unentered l → Counted p 0 l
 counted-start p g l u =
     record {
-      long = rw (u, length-replicate) (work-in-range p g .1);
+      long = rw (u, length-replicate) (total-in-range p g .1);
       whole = rw (u, length-replicate) refl;
       fits = λ i b. absurd (not-suc-le-zero b);
       counts = λ q t h b. zero-at q t h b;
@@ -297,18 +297,18 @@ counted-start p g l u =
     }
   where
     zero-at : (q t : ℕ) → q < length p → t < size p q → getD l (start p q + t) 0 ≡ 0
-    zero-at q t h b = rw u (getD-replicate 2048 (start p q + t) 0 0 (omega (arith, place-below p q t h b, work-in-range p g)))
+    zero-at q t h b = rw u (getD-replicate 2048 (start p q + t) 0 0 (omega (arith, place-below p q t h b, total-in-range p g)))
 
 -- what the count of every action says of the join rules
 module _ (p : Plan) (l : List ℕ) where
-  module _ (r : Counted p (work p) l) where
-    entering-at : (i : ℕ) → i < work p → (getD l i 0 ≡ entering p (here p i .job) (here p i .position)) × (getD l i 0 ≤ 8)
+  module _ (r : Counted p (total p) l) where
+    entering-at : (i : ℕ) → i < total p → (getD l i 0 ≡ entering p (here p i .job) (here p i .position)) × (getD l i 0 ≤ 8)
     unfolding entering
     entering-at i h =
         let st = placed-of p i h in
         let at : getD l i 0 ≡ getD l (start p (here p i .job) + here p i .position) 0 = ap (λ n. getD l n 0) (st .place) in (
           at ∙ r .counts (here p i .job) (here p i .position) (st .known) (st .within)
-              ∙ ap (count (enters p (here p i .job) (here p i .position))) (take-all (work p) (placed p) (omega (arith, placed-length p))),
+              ∙ ap (count (enters p (here p i .job) (here p i .position))) (take-all (total p) (placed p) (omega (arith, placed-length p))),
           omega (arith, r .few (here p i .job) (here p i .position) (st .known) (st .within)),
         )
 
@@ -316,7 +316,7 @@ module _ (p : Plan) (l : List ℕ) where
     unfolding joinRules
     rules-kept = all-by (λ a. both (joinFits p a) (both (fewEnter p a) (lastSends p a))) (placed p) noPlaced (λ i b. at i (omega (arith, placed-length p)))
       where
-        at : (i : ℕ) → i < work p → T (both (joinFits p (here p i)) (both (fewEnter p (here p i)) (lastSends p (here p i))))
+        at : (i : ℕ) → i < total p → T (both (joinFits p (here p i)) (both (fewEnter p (here p i)) (lastSends p (here p i))))
         at i b =
             both-intro (joinFits p (here p i)) (both (fewEnter p (here p i)) (lastSends p (here p i)))
             (both-left (joinFits p (here p i)) (lastSends p (here p i)) (r .fits i b))
@@ -326,8 +326,8 @@ module _ (p : Plan) (l : List ℕ) where
 
     all-entered : Entered p l
     all-entered =
-        array-by (λ a. entering p (a .job) (a .position)) noPlaced l (placed p) (work p) (placed-length p) (r .long) (λ i b. entering-at i b .0)
+        array-by (λ a. entering p (a .job) (a .position)) noPlaced l (placed p) (total p) (placed-length p) (r .long) (λ i b. entering-at i b .0)
 
-  pub joins-told : (told : Bool) → JoinTold p (work p) told l → (told ≡ joinRules p) × (T told → Entered p l × (length l ≡ 2048))
+  pub joins-told : (told : Bool) → JoinTold p (total p) told l → (told ≡ joinRules p) × (T told → Entered p l × (length l ≡ 2048))
   joins-told told t =
       (equal-tests told (joinRules p) (λ y. rules-kept (t .kept y)) (t .broken), λ y. (all-entered (t .kept y), t .kept y .whole))

@@ -8,24 +8,24 @@ use native.Mathlib.Nat.{le-of-suc-le-suc, not-suc-le-zero, add-assoc, zero-add, 
 use native.Mathlib.Decide.{decLt}
 use lib.ListN.{length, getD, take, length-append, List·getD-append}
 use lib.Seq.{getD-append-add, getD-take}
-use Rattle.plan.specs.Plan.{Action, Job, Plan, Placed, job, size, action, work, placed, placedIn, placedFrom, noAction, noJob, noPlaced}
+use Rattle.plan.specs.Plan.{Action, Job, Plan, Placed, job, size, action, total, placed, placedIn, placedFrom, noAction, noJob, noPlaced}
 use Rattle.plan.specs.Flat.{starts, Frames, Firsts, Jobs, Spawns, Joins}
 use Rattle.plan.proofs.Laws.Lists.{array-at}
 
 -- the place of job j's first action
 abbrev pub start : Plan → ℕ → ℕ
-start p j = work (take j p)
+start p j = total (take j p)
 
 pub placedIn-length : (j i : ℕ) (l : List Action) → length (placedIn j i l) ≡ length l
 placedIn-length j i [] = refl
 placedIn-length j i (a ∷ l) = ap suc (placedIn-length j (suc i) l)
 
-pub placedFrom-length : (j : ℕ) (p : List Job) → length (placedFrom j p) ≡ work p
+pub placedFrom-length : (j : ℕ) (p : List Job) → length (placedFrom j p) ≡ total p
 placedFrom-length j [] = refl
 placedFrom-length j (b ∷ bs) =
     rw (length-append, placedIn-length, placedFrom-length (suc j) bs)
 
-pub placed-length : (p : Plan) → length (placed p) ≡ work p
+pub placed-length : (p : Plan) → length (placed p) ≡ total p
 placed-length p = placedFrom-length 0 p
 
 placedIn-at : (j o : ℕ) (l : List Action) (i n : ℕ) → i < length l → o + i ≡ n
@@ -58,17 +58,17 @@ start-suc [] j h = absurd (not-suc-le-zero h)
 start-suc (b ∷ bs) zero h = omega arith
 start-suc (b ∷ bs) (suc j) h = omega (arith, start-suc bs j (le-of-suc-le-suc h))
 
-pub start-all : (p : Plan) → start p (length p) ≡ work p
+pub start-all : (p : Plan) → start p (length p) ≡ total p
 start-all [] = refl
 start-all (b ∷ bs) = ap (λ n. length (b .actions) + n) (start-all bs)
 
-pub start-below : (p : Plan) (j : ℕ) → start p j ≤ work p
+pub start-below : (p : Plan) (j : ℕ) → start p j ≤ total p
 start-below [] zero = omega arith
 start-below [] (suc j) = omega arith
 start-below (b ∷ bs) zero = omega arith
 start-below (b ∷ bs) (suc j) = omega (arith, start-below bs j)
 
-pub place-below : (p : Plan) (j i : ℕ) → j < length p → i < size p j → start p j + i < work p
+pub place-below : (p : Plan) (j i : ℕ) → j < length p → i < size p j → start p j + i < total p
 place-below p j i h b = omega (arith, start-suc p j h, start-below p (suc j))
 
 -- starts of later jobs are later
@@ -86,11 +86,11 @@ pub record Located (p : Plan) (k : ℕ) : Type 0 where
   pub within : position < size p job
   pub place : k ≡ start p job + position
 
-pub locate : (p : Plan) (k : ℕ) → k < work p → Located p k
+pub locate : (p : Plan) (k : ℕ) → k < total p → Located p k
 locate [] k h = absurd (not-suc-le-zero h)
 locate (b ∷ bs) k h = go (decLt k (length (b .actions))) (λ l. locate bs (k - length (b .actions)) l)
   where
-    go : Dec (k < length (b .actions)) → (k - length (b .actions) < work bs → Located bs (k - length (b .actions))) → Located (b ∷ bs) k
+    go : Dec (k < length (b .actions)) → (k - length (b .actions) < total bs → Located bs (k - length (b .actions))) → Located (b ∷ bs) k
     go (yes l) f = record { job = 0; position = k; known = omega arith; within = l; place = sym (zero-add k) }
     go (no n) f =
         let r = f (omega arith) in
@@ -110,7 +110,7 @@ pub record Stands (p : Plan) (k : ℕ) (a : Placed) : Type 0 where
   pub spawn : a .spawn ≡ action p (a .job) (a .position) .spawn
   pub join : a .join ≡ action p (a .job) (a .position) .join
 
-pub placed-of : (p : Plan) (k : ℕ) → k < work p → Stands p k (getD (placed p) k noPlaced)
+pub placed-of : (p : Plan) (k : ℕ) → k < total p → Stands p k (getD (placed p) k noPlaced)
 placed-of p k h = found (locate p k h)
   where
     found : Located p k → Stands p k (getD (placed p) k noPlaced)
@@ -134,11 +134,11 @@ first-at p l e j h =
 pub frame-at : (p : Plan) (l : List ℕ) → Frames p l → (j : ℕ) → j < length p → getD l j 0 ≡ job p j .frame
 frame-at p l e j h = array-at (λ b. b .frame) l p noJob (length p) e refl j h
 
-pub job-at : (p : Plan) (l : List ℕ) → Jobs p l → (k : ℕ) → k < work p → getD l k 0 ≡ getD (placed p) k noPlaced .job
-job-at p l e k h = array-at (λ a. a .job) l (placed p) noPlaced (work p) e (placed-length p) k h
+pub job-at : (p : Plan) (l : List ℕ) → Jobs p l → (k : ℕ) → k < total p → getD l k 0 ≡ getD (placed p) k noPlaced .job
+job-at p l e k h = array-at (λ a. a .job) l (placed p) noPlaced (total p) e (placed-length p) k h
 
-pub spawn-at : (p : Plan) (l : List ℕ) → Spawns p l → (k : ℕ) → k < work p → getD l k 0 ≡ getD (placed p) k noPlaced .spawn
-spawn-at p l e k h = array-at (λ a. a .spawn) l (placed p) noPlaced (work p) e (placed-length p) k h
+pub spawn-at : (p : Plan) (l : List ℕ) → Spawns p l → (k : ℕ) → k < total p → getD l k 0 ≡ getD (placed p) k noPlaced .spawn
+spawn-at p l e k h = array-at (λ a. a .spawn) l (placed p) noPlaced (total p) e (placed-length p) k h
 
-pub join-at : (p : Plan) (l : List ℕ) → Joins p l → (k : ℕ) → k < work p → getD l k 0 ≡ getD (placed p) k noPlaced .join
-join-at p l e k h = array-at (λ a. a .join) l (placed p) noPlaced (work p) e (placed-length p) k h
+pub join-at : (p : Plan) (l : List ℕ) → Joins p l → (k : ℕ) → k < total p → getD l k 0 ≡ getD (placed p) k noPlaced .join
+join-at p l e k h = array-at (λ a. a .join) l (placed p) noPlaced (total p) e (placed-length p) k h

@@ -12,7 +12,7 @@ use lib.Dec.{T, eqb, ltb, ltb→lt, eqb→eq, eqb-refl, lt→ltb}
 use borrow.Author.Tests.{eqb-true, ne-eqb, le-ltb}
 use Rattle.plan.specs.Refusal.{accepted}
 use Rattle.plan.specs.Test.{either}
-use Rattle.plan.specs.Plan.{Action, Job, Plan, work}
+use Rattle.plan.specs.Plan.{Action, Job, Plan, total}
 use Rattle.plan.specs.Rules.{inRange, spawnRules, joinRules}
 use Rattle.plan.specs.Field.{bitsOf, bits, number, Step, step, then, fieldAt}
 use Rattle.plan.specs.Reader.{numberAt, actionAt, actionsAt, jobsAt, planAt, fills, judged, readPlan}
@@ -21,7 +21,7 @@ use Rattle.plan.proofs.Laws.Lists.{both-intro, both-left, both-right}
 use Rattle.plan.proofs.Laws.Readings.{then-went-on, unless-went-on, when-went-on, then-goes-on, unless-goes-on}
 use Rattle.plan.proofs.Laws.Outcomes.{passes}
 use Rattle.plan.proofs.Laws.Fits.{Small, Fits, plan-fits}
-use Rattle.plan.proofs.Laws.Spawning.{jobs-in-range, work-in-range}
+use Rattle.plan.proofs.Laws.Spawning.{jobs-in-range, total-in-range}
 use Rattle.plan.proofs.Laws.Bits.{
   Binary,
   append-binary,
@@ -244,7 +244,7 @@ actions-found s (a ∷ l) n c h r use-it =
     number-found s (a .join) m (actionsBits l ++ c) (h .1) r₁ λ m₁ e₁ r₂.
     actions-found s l m₁ c (h .2) r₂ λ m₂ e₂ r₃. use-it m₂ (rw (e, e₁, e₂)) r₃
 
-jobs-found : {P : Type 0} (s : List ℕ) (p : List Job) (k n : ℕ) (c : List ℕ) → Fits p → k + work p ≤ 2048 → Rest s n (jobsBits p ++ c)
+jobs-found : {P : Type 0} (s : List ℕ) (p : List Job) (k n : ℕ) (c : List ℕ) → Fits p → k + total p ≤ 2048 → Rest s n (jobsBits p ++ c)
     → ((m : ℕ) → jobsAt s (length p) k n ≡ step p m → Rest s m c → P) → P
 unfolding jobsAt jobsBits
 jobs-found s [] k n c h few r use-it = use-it n refl r
@@ -271,7 +271,7 @@ plan-found s p c i h b use-it =
     let g = field-found s 9 (length p) 8 (jobsBits p ++ c) (omega (arith, jobs-in-range p i)) (f .1) in
     let x : eqb (length p) 0 ≡ false = ne-eqb (length p) 0 (λ e. omega (arith, jobs-in-range p i)) in
     let y : ltb 256 (length p) ≡ false = le-ltb 256 (length p) (jobs-in-range p i .1) in
-    jobs-found s p 0 17 c h (omega (arith, work-in-range p i)) (g .1) λ m e r.
+    jobs-found s p 0 17 c h (omega (arith, total-in-range p i)) (g .1) λ m e r.
     use-it m (
     then-goes-on (fieldAt s 8 0) _ (f .0) (
     then-goes-on (fieldAt s 9 8) _ (g .0) (unless-goes-on (either (eqb (length p) 0) (ltb 256 (length p))) 3 _ (ap₂ either x y) e))) r

@@ -12,7 +12,7 @@ use lib.Dec.{T, leb, ltb, eqb, eqb→eq, eqb-refl, le→leb, lt→ltb}
 use lib.ListN.{length, getD, take, set, replicate, getD-replicate, length-set, length-replicate}
 use lib.Seq.{getD-set-same, getD-set-other, take-all}
 use Rattle.plan.specs.Test.{both, all, count, below}
-use Rattle.plan.specs.Plan.{Plan, Placed, action, work, placed, noPlaced, spawnerIn, parent, spawnAt}
+use Rattle.plan.specs.Plan.{Plan, Placed, action, total, placed, noPlaced, spawnerIn, parent, spawnAt}
 use Rattle.plan.specs.Rules.{inRange, spawnFits, spawnedOnce, spawnRules}
 use Rattle.plan.specs.Flat.{Spawned}
 use Rattle.plan.specs.Given.{SpawnsGiven, Unspawned}
@@ -39,7 +39,7 @@ told-broken p k P Q f = record { kept = λ x. absurd x; broken = λ _. f }
 
 -- the arrays hold the plan's every action
 pub given-all : (p : Plan) (jobs actions : ℕ) (first job spawn : List ℕ) → SpawnsGiven p jobs actions first job spawn
-    → SpawnsGiven p jobs (work p) first job spawn
+    → SpawnsGiven p jobs (total p) first job spawn
 given-all p jobs actions first job spawn g =
     record { range = g .range; count = g .count; all = refl; firsts = g .firsts; owners = g .owners; spawns = g .spawns }
 
@@ -56,7 +56,7 @@ fits-by jobs a c e h b =
 fits-none : (jobs : ℕ) (a : Placed) → a .spawn ≡ 0 → T (spawnFits jobs a)
 fits-none jobs a e = rw e tt
 
-module _ (p : Plan) (jobs k : ℕ) (first job spawn : List ℕ) (g : SpawnsGiven p jobs (work p) first job spawn) (h : k < work p) where
+module _ (p : Plan) (jobs k : ℕ) (first job spawn : List ℕ) (g : SpawnsGiven p jobs (total p) first job spawn) (h : k < total p) where
   -- the action's position is its place less its job's first
   pub position-here : (q w : ℕ) → q ≡ getD job k 0 → w ≡ getD first q 0 → (w ≤ k) × (k - w ≡ here p k .position) × (k - w < 255)
   position-here q w e f =
@@ -187,9 +187,9 @@ recorded-start p g P Q u =
     }
 
 -- what the record of every action says of the spawn rules, with whether every job but 0 is in it
-module _ (p : Plan) (P Q : List ℕ) (jobs : ℕ) (g : jobs ≡ length p) (r : Recorded p (work p) P Q) (told : Bool) (t : AllTold jobs Q told) where
-  all-counted : (c : ℕ) → count (spawning c) (take (work p) (placed p)) ≡ count (spawning c) (placed p)
-  all-counted c = ap (count (spawning c)) (take-all (work p) (placed p) (omega (arith, placed-length p)))
+module _ (p : Plan) (P Q : List ℕ) (jobs : ℕ) (g : jobs ≡ length p) (r : Recorded p (total p) P Q) (told : Bool) (t : AllTold jobs Q told) where
+  all-counted : (c : ℕ) → count (spawning c) (take (total p) (placed p)) ≡ count (spawning c) (placed p)
+  all-counted c = ap (count (spawning c)) (take-all (total p) (placed p) (omega (arith, placed-length p)))
 
   kept-here : T told → T (spawnRules p)
   unfolding spawnRules

@@ -9,7 +9,7 @@ use native.Mathlib.Nat.{not-suc-le-zero}
 use lib.Dec.{T, leb, ltb, eqb, leb→le, ltb→lt, eqb→eq, eqb-refl}
 use lib.ListN.{length, getD}
 use Rattle.plan.specs.Test.{both, either, all, count, below}
-use Rattle.plan.specs.Plan.{Job, Plan, Placed, job, size, action, work, placed, noJob, noPlaced, spawnerIn, spawner, parent, spawnAt}
+use Rattle.plan.specs.Plan.{Job, Plan, Placed, job, size, action, total, placed, noJob, noPlaced, spawnerIn, spawner, parent, spawnAt}
 use Rattle.plan.specs.Rules.{jobInRange, inRange, spawnFits, spawnedOnce, spawnRules}
 use Rattle.plan.specs.Kept.{spawning}
 use Rattle.plan.proofs.Laws.Lists.{both-left, both-right, true-of, false-of, all-at}
@@ -30,7 +30,7 @@ job-in-range b t =
     (f .0, f .1, s .0, s .1)
 
 module _ (p : Plan) (r : T (inRange p)) where
-  rest-test : T (both (all jobInRange p) (leb (work p) 2048))
+  rest-test : T (both (all jobInRange p) (leb (total p) 2048))
   unfolding inRange
   rest-test = both-right (both (leb 1 (length p)) (leb (length p) 256)) _ r
 
@@ -38,10 +38,10 @@ module _ (p : Plan) (r : T (inRange p)) where
   unfolding inRange
   jobs-in-range =
       range-test 1 256 (length p)
-      (both-left (both (leb 1 (length p)) (leb (length p) 256)) (both (all jobInRange p) (leb (work p) 2048)) r)
+      (both-left (both (leb 1 (length p)) (leb (length p) 256)) (both (all jobInRange p) (leb (total p) 2048)) r)
 
   pub each-in-range : T (all jobInRange p)
-  each-in-range = both-left (all jobInRange p) (leb (work p) 2048) rest-test
+  each-in-range = both-left (all jobInRange p) (leb (total p) 2048) rest-test
 
   module _ (j : ℕ) (h : j < length p) where
     job-test : T (jobInRange (job p j))
@@ -53,10 +53,10 @@ module _ (p : Plan) (r : T (inRange p)) where
     pub frame-in-range : (1 ≤ job p j .frame) × (job p j .frame ≤ 65535)
     frame-in-range = let r = job-in-range (job p j) job-test in (r .0, r .1)
 
-  pub work-in-range : (1 ≤ work p) × (work p ≤ 2048)
-  work-in-range =
+  pub total-in-range : (1 ≤ total p) × (total p ≤ 2048)
+  total-in-range =
       let some : 0 < length p = omega (arith, jobs-in-range) in
-      let most : work p ≤ 2048 = leb→le (work p) 2048 (both-right (all jobInRange p) _ rest-test) in
+      let most : total p ≤ 2048 = leb→le (total p) 2048 (both-right (all jobInRange p) _ rest-test) in
       omega (arith, place-below p 0 0 some (omega (arith, size-in-range 0 some)))
 
 -- the first action that spawns job c stands at a place
@@ -102,7 +102,7 @@ spawn-fits jobs a c t e =
     (leb→le 1 c (both-left (leb 1 c) _ s), ltb→lt c jobs (both-left (ltb c jobs) _ u), ltb→lt (a .job) c (both-right (ltb c jobs) _ u))
 
 module _ (p : Plan) (s : T (spawnRules p)) where
-  pub spawn-allowed : (k : ℕ) → k < work p → T (spawnFits (length p) (getD (placed p) k noPlaced))
+  pub spawn-allowed : (k : ℕ) → k < total p → T (spawnFits (length p) (getD (placed p) k noPlaced))
   unfolding spawnRules
   spawn-allowed k h =
       all-at (spawnFits (length p)) (placed p)
@@ -129,7 +129,7 @@ module _ (p : Plan) (s : T (spawnRules p)) where
   unfolding parent spawnAt
   spawner-of c h b =
       let f = spawner-stands c h b in
-      let k : f .place < work p = omega (arith, f .within, placed-length p) in
+      let k : f .place < total p = omega (arith, f .within, placed-length p) in
       let a = getD (placed p) (f .place) noPlaced in
       let st = placed-of p (f .place) k in
       let e : a .spawn ≡ suc c = eqb→eq (a .spawn) (suc c) (f .spawns) in
@@ -139,7 +139,7 @@ module _ (p : Plan) (s : T (spawnRules p)) where
       → (1 ≤ c) × (c < length p) × (parent p c ≡ q) × (spawnAt p c ≡ i)
   unfolding parent spawnAt
   spawner-once q i c h b e =
-      let k : start p q + i < work p = place-below p q i h b in
+      let k : start p q + i < total p = place-below p q i h b in
       let here : getD (placed p) (start p q + i) noPlaced .spawn ≡ suc c = rw (placed-at p q i h b) e in
       let fits = spawn-fits (length p) (getD (placed p) (start p q + i) noPlaced) c (spawn-allowed (start p q + i) k) here in
       let is : spawner p c ≡ record { job = q; position = i; spawn = action p q i .spawn; join = action p q i .join } =

@@ -10,7 +10,7 @@ use borrow.Author.Tests.{eqb-false, ltb-false}
 use lib.ListN.{length}
 use lib.Dec.{T, eqb, ltb, leb, le→leb}
 use Rattle.plan.specs.Test.{both, either, all}
-use Rattle.plan.specs.Plan.{Action, Job, Plan, work}
+use Rattle.plan.specs.Plan.{Action, Job, Plan, total}
 use Rattle.plan.specs.Rules.{jobInRange, inRange}
 use Rattle.plan.specs.Field.{Step, stop, step, then, fieldAt}
 use Rattle.plan.specs.Reader.{numberAt, actionAt, actionsAt, jobsAt, planAt}
@@ -186,7 +186,7 @@ module _ (s : List ℕ) where
         omega (arith, t .2 (r .6)),
       )
 
-  pub jobs-next : (n k at : ℕ) (p : Plan) (end : ℕ) → k ≤ 2048 → jobsAt s n k at ≡ step p end → (length p ≡ n) × T (all jobInRange p) × (k + work p ≤ 2048) × (end ≤ at + 24 * n + 18 * work p) × (at ≤ 8 * length s → end ≤ 8 * length s)
+  pub jobs-next : (n k at : ℕ) (p : Plan) (end : ℕ) → k ≤ 2048 → jobsAt s n k at ≡ step p end → (length p ≡ n) × T (all jobInRange p) × (k + total p ≤ 2048) × (end ≤ at + 24 * n + 18 * total p) × (at ≤ 8 * length s → end ≤ 8 * length s)
   unfolding jobsAt
   jobs-next zero k at p end h e =
       let i : [] ≡ p = cc in
@@ -200,7 +200,7 @@ module _ (s : List ℕ) where
       let r = job-next k at x m is in
       let t = jobs-next n (k + length (x .actions)) m rest q (r .1) is₁ in
       let z : length (x ∷ rest) ≡ length p = ap length i in
-      let w : work (x ∷ rest) ≡ work p = ap work i in
+      let w : total (x ∷ rest) ≡ total p = ap total i in
       (omega arith, rw (← i) (T-both (jobInRange x) (all jobInRange rest) (r .0) (t .1)), omega arith, omega arith, λ _. omega (arith, t .4 (r .3)))
 
   pub plan-next : (p : Plan) (end : ℕ) → planAt s ≡ step p end → T (inRange p) × (end < 2 ^ 16) × (end ≤ 8 * length s)
@@ -214,8 +214,8 @@ module _ (s : List ℕ) where
       let t = jobs-next jobs 0 q p end (omega arith) (rw g at e₂) in
       let a : jobs ≢ 0 = eqb-false jobs 0 (r .0) in
       let b : jobs ≤ 256 = ltb-false 256 jobs (r .1) in (
-        T-four (leb 1 (length p)) (leb (length p) 256) (all jobInRange p) (leb (work p) 2048)
-            (le→leb 1 (length p) (omega arith)) (le→leb (length p) 256 (omega arith)) (t .1) (le→leb (work p) 2048 (omega arith)),
+        T-four (leb 1 (length p)) (leb (length p) 256) (all jobInRange p) (leb (total p) 2048)
+            (le→leb 1 (length p) (omega arith)) (le→leb (length p) 256 (omega arith)) (t .1) (le→leb (total p) 2048 (omega arith)),
         omega (arith, field-read s 8 0 form m is .1, field-read s 9 m jobs q is₁ .1),
         t .4 (field-read s 9 m jobs q is₁ .2),
       )))

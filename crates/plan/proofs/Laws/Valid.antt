@@ -7,11 +7,11 @@ use native.Mathlib.Omega.{arith}
 use lib.Dec.{T, leb, ltb, eqb, leb→le, ltb→lt, eqb→eq}
 use lib.ListN.{length}
 use Rattle.plan.specs.Test.{both, either}
-use Rattle.plan.specs.Plan.{Plan, Placed, job, size, action, work, placed, noPlaced, parent, spawnAt, entering}
+use Rattle.plan.specs.Plan.{Plan, Placed, job, size, action, total, placed, noPlaced, parent, spawnAt, entering}
 use Rattle.plan.specs.Rules.{inRange, spawnRules, joinFits, fewEnter, lastSends, joinRules, Accepted}
 use Rattle.plan.proofs.Laws.Lists.{both-left, both-right, all-at}
 use Rattle.plan.proofs.Laws.Placed.{start, placed-length, placed-at, place-below}
-use Rattle.plan.proofs.Laws.Spawning.{jobs-in-range, size-in-range, frame-in-range, work-in-range, spawner-of, spawner-once}
+use Rattle.plan.proofs.Laws.Spawning.{jobs-in-range, size-in-range, frame-in-range, total-in-range, spawner-of, spawner-once}
 
 -- what a join that is allowed is
 pub join-fits : (p : Plan) (a : Placed) (t : ℕ) → T (joinFits p a) → a .join ≡ suc t
@@ -45,8 +45,8 @@ module _ (p : Plan) (ok : Accepted p) where
   pub frame-range : (j : ℕ) → j < length p → (1 ≤ job p j .frame) × (job p j .frame ≤ 65535)
   frame-range = frame-in-range p (ok .range)
 
-  pub work-range : (1 ≤ work p) × (work p ≤ 2048)
-  work-range = work-in-range p (ok .range)
+  pub total-range : (1 ≤ total p) × (total p ≤ 2048)
+  total-range = total-in-range p (ok .range)
 
   pub older : (c : ℕ) → 1 ≤ c → c < length p → parent p c < c
   older c h b = spawner-of p (ok .spawns) c h b .0

@@ -8,7 +8,7 @@ use mathlib.Core.Path.{_≡_, refl, ap, _∙_}
 use mathlib.Core.List.{List, [], _∷_, _++_, map, append-nil, append-assoc}
 use lib.ListN.{length, take, set, length-append, length-map, length-set}
 use lib.Seq.{take-suc-set}
-use Rattle.plan.specs.Plan.{Action, Job, Plan, Placed, work, placedIn, placedFrom, placed}
+use Rattle.plan.specs.Plan.{Action, Job, Plan, Placed, total, placedIn, placedFrom, placed}
 use Rattle.plan.specs.Flat.{starts, Frames, Firsts}
 use Rattle.plan.specs.Progress.{Wrote, Rows, RowsLong, Laid}
 use Rattle.plan.proofs.Laws.Placed.{placedIn-length}
@@ -29,9 +29,9 @@ placedFrom-append j (b ∷ p) q =
     let e : suc j + length p ≡ j + length (b ∷ p) = omega arith in
     rw (placedFrom-append (suc j) p q, e, append-assoc)
 
-pub work-append : (p q : Plan) → work (p ++ q) ≡ work p + work q
-work-append [] q = omega arith
-work-append (b ∷ p) q = omega (arith, work-append p q)
+pub total-append : (p q : Plan) → total (p ++ q) ≡ total p + total q
+total-append [] q = omega arith
+total-append (b ∷ p) q = omega (arith, total-append p q)
 
 pub wrote-none : (k : ℕ) (a : List ℕ) → Wrote k [] a a
 wrote-none k a = record { holds = rw (add-zero, append-nil); long = refl }
@@ -65,22 +65,22 @@ module _ (p : Plan) (x : Job) where
   pub frames-more : (a b : List ℕ) → Frames p a → Wrote (length p) (x .frame ∷ []) a b → Frames (p ++ (x ∷ [])) b
   frames-more a b f g = rw (length-append, map-append, g .holds, f)
 
-  starts-more : (k : ℕ) (p : Plan) → starts k (p ++ (x ∷ [])) ≡ starts k p ++ ((k + work p + length (x .actions)) ∷ [])
+  starts-more : (k : ℕ) (p : Plan) → starts k (p ++ (x ∷ [])) ≡ starts k p ++ ((k + total p + length (x .actions)) ∷ [])
   starts-more k [] = rw add-zero
   starts-more k (b ∷ p) =
-      let e : k + length (b .actions) + work p ≡ k + work (b ∷ p) = omega arith in
+      let e : k + length (b .actions) + total p ≡ k + total (b ∷ p) = omega arith in
       rw (starts-more (k + length (b .actions)) p, e)
 
-  pub firsts-more : (end : ℕ) (a b : List ℕ) → Firsts p a → end ≡ work p + length (x .actions) → Wrote (suc (length p)) (end ∷ []) a b → Firsts (p ++ (x ∷ [])) b
+  pub firsts-more : (end : ℕ) (a b : List ℕ) → Firsts p a → end ≡ total p + length (x .actions) → Wrote (suc (length p)) (end ∷ []) a b → Firsts (p ++ (x ∷ [])) b
   firsts-more end a b f e g =
       let n : suc (length (p ++ (x ∷ []))) ≡ suc (length p) + 1 = omega (arith, length-append p (x ∷ [])) in
-      let z : 0 + work p + length (x .actions) ≡ end = omega arith in
+      let z : 0 + total p + length (x .actions) ≡ end = omega arith in
       rw (n, g .holds, f, starts-more 0 p, z)
 
-  pub placed-more : (f : Placed → ℕ) (a b : List ℕ) → take (work p) a ≡ map f (placed p) → Wrote (work p) (map f (placedIn (length p) 0 (x .actions))) a b → take (work (p ++ (x ∷ []))) b ≡ map f (placed (p ++ (x ∷ [])))
+  pub placed-more : (f : Placed → ℕ) (a b : List ℕ) → take (total p) a ≡ map f (placed p) → Wrote (total p) (map f (placedIn (length p) 0 (x .actions))) a b → take (total (p ++ (x ∷ []))) b ≡ map f (placed (p ++ (x ∷ [])))
   placed-more f a b e g =
-      let n : work (p ++ (x ∷ [])) ≡ work p + length (map f (placedIn (length p) 0 (x .actions))) =
-      omega (arith, work-append p (x ∷ []), length-map (placedIn (length p) 0 (x .actions)) f, placedIn-length (length p) 0 (x .actions)) in
+      let n : total (p ++ (x ∷ [])) ≡ total p + length (map f (placedIn (length p) 0 (x .actions))) =
+      omega (arith, total-append p (x ∷ []), length-map (placedIn (length p) 0 (x .actions)) f, placedIn-length (length p) 0 (x .actions)) in
       let z : 0 + length p ≡ length p = omega arith in
       rw (n, g .holds, e, placedFrom-append 0 p (x ∷ []), z, append-nil, map-append)
 

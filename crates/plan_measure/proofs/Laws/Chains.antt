@@ -11,7 +11,7 @@ use native.Mathlib.Decide.{decLe}
 use lib.Dec.{T}
 use lib.ListN.{length}
 use Rattle.plan.specs.Test.{largest}
-use Rattle.plan.specs.Plan.{Plan, Placed, work, placed}
+use Rattle.plan.specs.Plan.{Plan, Placed, total, placed}
 use Rattle.plan_measure.specs.Measure.{mustFollow, Member, Chain, Longest, after, longest}
 use Rattle.plan.proofs.Laws.Placed.{placed-length}
 use Rattle.plan_measure.proofs.Laws.Largest.{largest-above, largest-attained, largest-cut, largest-same, values-few}
@@ -101,7 +101,7 @@ module _ (p : Plan) (G : Placed → ℕ) (timing : Timing p G) where
       go (no h) r = (x, m, omega arith)
 
   -- and no time is above the number of actions
-  pub timing-small : (x : Placed) → Member x (placed p) → G x ≤ work p
+  pub timing-small : (x : Placed) → Member x (placed p) → G x ≤ total p
   timing-small x m = omega (arith, placed-length p, values-few G (G x) (placed p) (timing-values (G x) x m refl))
 
   -- over chains of at most n actions the time is cut off at n
@@ -116,12 +116,12 @@ module _ (p : Plan) (G : Placed → ℕ) (timing : Timing p G) where
             (λ y k. when-cut (mustFollow p x y) n (after p n y) (G y) (after-cut n y k)),
       )
 
-  pub after-timing : (x : Placed) → Member x (placed p) → after p (work p) x ≡ G x
-  after-timing x m = omega (arith, after-cut (work p) x m, timing-small x m)
+  pub after-timing : (x : Placed) → Member x (placed p) → after p (total p) x ≡ G x
+  after-timing x m = omega (arith, after-cut (total p) x m, timing-small x m)
 
   pub longest-timing : longest p ≡ largest G (placed p)
   unfolding longest
-  longest-timing = largest-same (after p (work p)) G (placed p) after-timing
+  longest-timing = largest-same (after p (total p)) G (placed p) after-timing
 
   pub timing-longest : (x : Placed) → Member x (placed p) → Longest p (longest p)
   timing-longest x m =
@@ -150,14 +150,14 @@ module _ (p : Plan) (ok : Accepted p) where
       after-enough (rank p x) (suc (rank p y)) y i f (omega arith))))
 
   -- the time of each action
-  pub after-times : Timing p (after p (work p))
+  pub after-times : Timing p (after p (total p))
   after-times x m =
       after-timing p (λ x. after p (suc (rank p x)) x) ranked x m ∙ ranked x m
-      ∙ ap suc (largest-same (λ y. when (mustFollow p x y) (after p (suc (rank p y)) y)) (λ y. when (mustFollow p x y) (after p (work p) y)) (placed p) (λ y i.
-      when-same (mustFollow p x y) (after p (suc (rank p y)) y) (after p (work p) y) (λ t. sym (after-timing p (λ x. after p (suc (rank p x)) x) ranked y i))))
+      ∙ ap suc (largest-same (λ y. when (mustFollow p x y) (after p (suc (rank p y)) y)) (λ y. when (mustFollow p x y) (after p (total p) y)) (placed p) (λ y i.
+      when-same (mustFollow p x y) (after p (suc (rank p y)) y) (after p (total p) y) (λ t. sym (after-timing p (λ x. after p (suc (rank p x)) x) ranked y i))))
 
   -- no chain is longer than T∞, and one is that long
   pub longest-chain : Longest p (longest p)
   longest-chain =
       let h = jobs-range p ok in
-      timing-longest p (after p (work p)) after-times (act p 0 0) (act-member p 0 0 (h .0) (size-range p ok 0 (h .0) .0))
+      timing-longest p (after p (total p)) after-times (act p 0 0) (act-member p 0 0 (h .0) (size-range p ok 0 (h .0) .0))

@@ -14,7 +14,7 @@ use Rattle.plan_measure.specs.Measure.{longest}
 use Rattle.plan_measure.specs.Times.{at, ends, begins, TimesGiven, JobGiven, TimedFrom, SendGiven, Sent, PassGiven, Passed}
 use Rattle.plan.proofs.Laws.Placed.{start, start-suc, start-below, place-below, placed-at, first-at, spawn-at, join-at}
 use Rattle.plan.specs.Rules.{Accepted}
-use Rattle.plan.proofs.Laws.Valid.{older, spawned-there, spawned-once, join-target, size-range, jobs-range, work-range}
+use Rattle.plan.proofs.Laws.Valid.{older, spawned-there, spawned-once, join-target, size-range, jobs-range, total-range}
 use Rattle.plan_measure.proofs.Laws.Follows.{act}
 use Rattle.plan_measure.proofs.Laws.Times.{longest-ends, ends-small, begins-spawn, ends-next, begins-first, begins-before, ends-sent, ends-within}
 
@@ -174,8 +174,8 @@ module _ (p : Plan) (ok : Accepted p) where
             let g = arrays .firsts (suc c) (omega arith) in
             record {
               order = omega (arith, start-suc p c (o .1));
-              fits = omega (arith, start-below p (suc c), work-range p ok);
-              targets = λ k t l u e. omega (arith, place-below p j t known (target k t l u e), work-range p ok);
+              fits = omega (arith, start-below p (suc c), total-range p ok);
+              targets = λ k t l u e. omega (arith, place-below p j t known (target k t l u e), total-range p ok);
               sums = λ k l u. omega (arith, at-time k l u, ends-small p ok c (k - start p c) (o .1) (child-at k l u .1));
             }
 
@@ -206,7 +206,7 @@ module _ (p : Plan) (ok : Accepted p) where
 
       pub pass-given : PassGiven (start p j + i) (start p j) done′ first spawn join time′
       pass-given = record {
-        fits = omega (arith, place-below p j i known within, work-range p ok);
+        fits = omega (arith, place-below p j i known within, total-range p ok);
         child = λ c e.
             let s : action p j i .spawn ≡ suc c = sym (arrays .spawns j i known within) ∙ e in
             (omega (arith, once c s, jobs-range p ok), child-given c s);
@@ -230,7 +230,7 @@ module _ (p : Plan) (j base end : ℕ) (first spawn join : List ℕ) (g : JobGiv
   rules = g .arrays .rules
 
   pub job-places : (end ≡ base + size p j) × (end ≤ 2048)
-  job-places = omega (arith, g .start, g .past, start-suc p j (g .known), start-below p (suc j), work-range p rules)
+  job-places = omega (arith, g .start, g .past, start-suc p j (g .known), start-below p (suc j), total-range p rules)
 
   pub place-first : (time late : ℕ → ℕ) → TimedFrom p (suc j) time late → Midway p j (base - base) 0 time late
   place-first time late f = let z : base - base ≡ 0 = omega arith in rw z (midway-first p rules j time late f)

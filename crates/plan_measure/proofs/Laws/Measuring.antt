@@ -11,7 +11,7 @@ use Rattle.plan.specs.Reader.{readPlan}
 use Rattle.plan_measure.specs.declared.Measures.{Measures}
 use Rattle.plan_measure.specs.Measure.{measured, measures, longest, heaviest}
 use Rattle.plan_measure.specs.Times.{MeasureGiven}
-use Rattle.plan.proofs.Laws.Valid.{work-range}
+use Rattle.plan.proofs.Laws.Valid.{total-range}
 use Rattle.plan.proofs.Laws.Found.{Given}
 
 pub given-measured : (s : List ℕ) (f : FlatPlan) (g : Given s f)
@@ -26,7 +26,7 @@ given-measured s f g =
 
 module _ (p : Plan) (jobs actions : ℕ) (frame first spawn join parent : List ℕ) (g : MeasureGiven p jobs actions frame first spawn join parent) where
   pub measured-few : actions ≤ 2048
-  measured-few = omega (arith, g .all, work-range p (g .paths .rules))
+  measured-few = omega (arith, g .all, total-range p (g .paths .rules))
 
   pub measured-by : (length path : ℕ) → length ≡ longest p → path ≡ heaviest p
       → accepted (record { actions = actions; longest = length; path = path }) ≡ measured (accepted p)

@@ -8,13 +8,13 @@ use native.Mathlib.Nat.{not-suc-le-zero}
 use native.Mathlib.Decide.{decLe}
 use lib.Dec.{T, eqb·suc-zero}
 use lib.ListN.{length}
-use Rattle.plan.specs.Plan.{Plan, Placed, size, action, work, placed, parent, spawnAt}
+use Rattle.plan.specs.Plan.{Plan, Placed, size, action, total, placed, parent, spawnAt}
 use Rattle.plan_measure.specs.Measure.{mustFollow, after, longest}
 use Rattle.plan.specs.Test.{largest}
 use Rattle.plan_measure.specs.Times.{ends, begins}
 use Rattle.plan_measure.proofs.Laws.Largest.{largest-above, largest-within}
 use Rattle.plan.specs.Rules.{Accepted}
-use Rattle.plan.proofs.Laws.Valid.{older, spawned-there, spawned-once, join-target, last-sends, size-range, jobs-range, work-range}
+use Rattle.plan.proofs.Laws.Valid.{older, spawned-there, spawned-once, join-target, last-sends, size-range, jobs-range, total-range}
 use Rattle.plan_measure.proofs.Laws.Follows.{act, act-member, Acts, member-acts, Follows, next, born, joined, follows-of, of-follows}
 use Rattle.plan_measure.proofs.Laws.Chains.{when, after-times, timing-rises, timing-small, longest-timing}
 
@@ -29,14 +29,14 @@ module _ (p : Plan) (ok : Accepted p) where
   rises : (j i q k : ℕ) → Here j i → Here q k → Follows p (act p j i) (act p q k) → ends p q k < ends p j i
   unfolding ends
   rises j i q k h b f =
-      timing-rises p (after p (work p)) (after-times p ok) (act p j i) (act p q k) (act-member p j i (h .0) (h .1)) (act-member p q k (b .0) (b .1))
+      timing-rises p (after p (total p)) (after-times p ok) (act p j i) (act p q k) (act-member p j i (h .0) (h .1)) (act-member p q k (b .0) (b .1))
       (of-follows p (act p j i) (act p q k) f)
 
   -- no time is above the number of actions
   pub ends-small : (j i : ℕ) → j < length p → i < size p j → ends p j i ≤ 2048
   unfolding ends
   ends-small j i h b =
-      omega (arith, timing-small p (after p (work p)) (after-times p ok) (act p j i) (act-member p j i h b), work-range p ok)
+      omega (arith, timing-small p (after p (total p)) (after-times p ok) (act p j i) (act-member p j i h b), total-range p ok)
 
   pub begins-spawn : (c : ℕ) → 1 ≤ c → begins p c ≡ ends p (parent p c) (spawnAt p c)
   unfolding begins
@@ -89,14 +89,14 @@ module _ (p : Plan) (ok : Accepted p) where
       omega (
         arith,
         after-times p ok (act p j i) (act-member p j i h b),
-        largest-within (λ y. when (mustFollow p (act p j i) y) (after p (work p) y)) (placed p) n (λ y m.
-            when-within (mustFollow p (act p j i) y) (after p (work p) y) n (λ t. by y (member-acts p y m) (follows-of p (act p j i) y t))),
+        largest-within (λ y. when (mustFollow p (act p j i) y) (after p (total p) y)) (placed p) n (λ y m.
+            when-within (mustFollow p (act p j i) y) (after p (total p) y) n (λ t. by y (member-acts p y m) (follows-of p (act p j i) y t))),
       )
     where
-      of : (y : Placed) → Acts p y → ends p (y .job) (y .position) ≤ n → after p (work p) y ≤ n
-      of y s l = omega (arith, ap (after p (work p)) (s .is))
+      of : (y : Placed) → Acts p y → ends p (y .job) (y .position) ≤ n → after p (total p) y ≤ n
+      of y s l = omega (arith, ap (after p (total p)) (s .is))
 
-      by : (y : Placed) → Acts p y → Follows p (act p j i) y → after p (work p) y ≤ n
+      by : (y : Placed) → Acts p y → Follows p (act p j i) y → after p (total p) y ≤ n
       by y s (next q e) = of y s (rw q (before (y .position) (sym e)))
       by y s (born l z e) =
           let (a, d, q, k) = spawned-once p ok (y .job) (y .position) j (s .known) (s .within) (sym (ap (λ z. z .spawn) (s .is)) ∙ e) in
@@ -127,12 +127,12 @@ module _ (p : Plan) (ok : Accepted p) where
   longest-ends =
       let (h, k) = jobs-range p ok in
       let (s, r) = size-range p ok 0 h in
-      let above : ends p 0 (size p 0 - 1) ≤ largest (after p (work p)) (placed p)
-      = largest-above (after p (work p)) (placed p) (act p 0 (size p 0 - 1)) (act-member p 0 (size p 0 - 1) h (omega arith)) in
-      let within : largest (after p (work p)) (placed p) ≤ ends p 0 (size p 0 - 1)
-      = largest-within (after p (work p)) (placed p) (ends p 0 (size p 0 - 1)) (λ x m.
+      let above : ends p 0 (size p 0 - 1) ≤ largest (after p (total p)) (placed p)
+      = largest-above (after p (total p)) (placed p) (act p 0 (size p 0 - 1)) (act-member p 0 (size p 0 - 1) h (omega arith)) in
+      let within : largest (after p (total p)) (placed p) ≤ ends p 0 (size p 0 - 1)
+      = largest-within (after p (total p)) (placed p) (ends p 0 (size p 0 - 1)) (λ x m.
       of x (member-acts p x m)) in
-      omega (arith, longest-timing p (after p (work p)) (after-times p ok))
+      omega (arith, longest-timing p (after p (total p)) (after-times p ok))
     where
-      of : (x : Placed) → Acts p x → after p (work p) x ≤ ends p 0 (size p 0 - 1)
-      of x s = omega (arith, ap (after p (work p)) (s .is), ends-below (suc (x .job)) (x .job) (x .position) (omega arith) (s .known) (s .within))
+      of : (x : Placed) → Acts p x → after p (total p) x ≤ ends p 0 (size p 0 - 1)
+      of x s = omega (arith, ap (after p (total p)) (s .is), ends-below (suc (x .job)) (x .job) (x .position) (omega arith) (s .known) (s .within))

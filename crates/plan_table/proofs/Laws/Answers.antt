@@ -9,7 +9,7 @@ use lib.ListN.{length, drop}
 use lib.Dec.{T, eqb}
 use borrow.Author.Tests.{le-leb, lt-leb}
 use Rattle.plan.specs.Refusal.{refused, accepted}
-use Rattle.plan.specs.Plan.{Plan, work}
+use Rattle.plan.specs.Plan.{Plan, total}
 use Rattle.plan.specs.Reader.{readPlan}
 use Rattle.plan.specs.Flat.{Spawned}
 use Rattle.plan_table.specs.Table.{written, tableOf, tabled, toTable, rowsOf, rowRules, planOf, ruled, readTable, encoded, toPlan}
@@ -35,20 +35,20 @@ pub table-refused : (s buffer : List ℕ) (n : ℕ) → readPlan s ≡ refused n
 unfolding toTable tabled
 table-refused s buffer n e = rw e
 
-tabled-plan : (s buffer : List ℕ) (p : Plan) → readPlan s ≡ accepted p → written (tableOf p) (work p) buffer ≡ toTable s buffer
+tabled-plan : (s buffer : List ℕ) (p : Plan) → readPlan s ≡ accepted p → written (tableOf p) (total p) buffer ≡ toTable s buffer
 unfolding toTable tabled
 tabled-plan s buffer p e = rw e
 
-pub table-short : (s buffer : List ℕ) (p : Plan) → readPlan s ≡ accepted p → length buffer < 4 * work p
+pub table-short : (s buffer : List ℕ) (p : Plan) → readPlan s ≡ accepted p → length buffer < 4 * total p
     → record { answer = refused 9; buffer = buffer } ≡ toTable s buffer
 table-short s buffer p e h =
-    sym (written-short (tableOf p) (work p) buffer (omega (arith, table-length p))) ∙ tabled-plan s buffer p e
+    sym (written-short (tableOf p) (total p) buffer (omega (arith, table-length p))) ∙ tabled-plan s buffer p e
 
-pub table-whole : (s buffer : List ℕ) (p : Plan) (n : ℕ) (l : List ℕ) → readPlan s ≡ accepted p → n ≡ work p → 4 * n ≤ length buffer
+pub table-whole : (s buffer : List ℕ) (p : Plan) (n : ℕ) (l : List ℕ) → readPlan s ≡ accepted p → n ≡ total p → 4 * n ≤ length buffer
     → l ≡ tableOf p ++ drop (4 * n) buffer → record { answer = accepted n; buffer = l } ≡ toTable s buffer
 table-whole s buffer p n l e a h w =
     rw (w, a, ← table-length p)
-    (sym (written-whole (tableOf p) (work p) buffer (omega (arith, table-length p))) ∙ tabled-plan s buffer p e)
+    (sym (written-whole (tableOf p) (total p) buffer (omega (arith, table-length p))) ∙ tabled-plan s buffer p e)
 
 -- what a plan of arrays answers: 4, 5, 9, or its bytes
 

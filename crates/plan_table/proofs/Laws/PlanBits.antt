@@ -9,14 +9,14 @@ use native.Mathlib.Numerals.{add-one}
 use native.Mathlib.Decide.{decLe}
 use borrow.Author.Tests.{eq-eqb, ne-eqb}
 use lib.ListN.{length, getD, length-append}
-use Rattle.plan.specs.Plan.{Action, Job, Plan, job, size, action, work, noAction, noPlaced, placed}
+use Rattle.plan.specs.Plan.{Action, Job, Plan, job, size, action, total, noAction, noPlaced, placed}
 use Rattle.plan.specs.Field.{bitsOf}
 use Rattle.plan.specs.Writer.{numberBits, actionsBits, jobsBits, planBits}
 use Rattle.plan.specs.Flat.{Spawns, Joins}
 use Rattle.plan_table.specs.GivenRows.{BitsGiven, WriterGiven}
 use Rattle.plan_table.specs.ActionBits.{openingBits, actionBits, Writable}
 use Rattle.plan.proofs.Laws.Placed.{start, start-suc, placed-at, placed-of, place-below, first-at, frame-at, job-at, spawn-at, join-at}
-use Rattle.plan.proofs.Laws.Spawning.{jobs-in-range, size-in-range, work-in-range}
+use Rattle.plan.proofs.Laws.Spawning.{jobs-in-range, size-in-range, total-in-range}
 use Rattle.plan_table.proofs.Laws.Puts.{number-few}
 
 -- f 0 ++ f 1 ++ .., the first k of them
@@ -70,11 +70,11 @@ module _ (f : ℕ → List ℕ) where
 
   jobs-upTo : (s : ℕ) (p : Plan) → ((j : ℕ) → j < length p → 1 ≤ size p j)
       → ((j i : ℕ) → j < length p → i < size p j → f (s + (start p j + i)) ≡ added p j i)
-      → upTo f (s + work p) ≡ upTo f s ++ jobsBits p
+      → upTo f (s + total p) ≡ upTo f s ++ jobsBits p
   unfolding jobsBits
   jobs-upTo s [] n h = rw (add-zero, append-nil)
   jobs-upTo s (b ∷ p) n h =
-      ap (λ (k : ℕ). upTo f k) (sym (add-assoc s (length (b .actions)) (work p)))
+      ap (λ (k : ℕ). upTo f k) (sym (add-assoc s (length (b .actions)) (total p)))
       ∙ jobs-upTo (s + length (b .actions)) p (λ j l. n (suc j) (omega arith)) (λ j i l m. ap f (omega arith) ∙ h (suc j) i (omega arith) m)
       ∙ ap (λ (l : List ℕ). l ++ jobsBits p)
       (opened-upTo s (b .actions) (opening b 0) (n 0 (omega arith)) (ap f (sym (add-zero s)) ∙ h 0 0 (omega arith) (n 0 (omega arith)))
@@ -83,13 +83,13 @@ module _ (f : ℕ → List ℕ) where
 
   -- with no headers
   jobs-count : (s : ℕ) (p : Plan) → ((j i : ℕ) → j < length p → i < size p j → f (s + (start p j + i)) ≡ numbers (action p j i))
-      → length (upTo f (s + work p)) + 24 * length p ≡ length (upTo f s) + length (jobsBits p)
+      → length (upTo f (s + total p)) + 24 * length p ≡ length (upTo f s) + length (jobsBits p)
   unfolding jobsBits
   jobs-count s [] h = rw (add-zero s)
   jobs-count s (b ∷ p) h =
       let r = jobs-count (s + length (b .actions)) p (λ j i l m. ap f (omega arith) ∙ h (suc j) i (omega arith) m) in
       let o = actions-upTo s (b .actions) (λ i l. ap f (omega arith) ∙ h 0 i (omega arith) l) in
-      let e = add-assoc s (length (b .actions)) (work p) in
+      let e = add-assoc s (length (b .actions)) (total p) in
       let m : length (upTo f (s + length (b .actions))) ≡ length (upTo f s) + length (actionsBits (b .actions)) = rw o (length-append (upTo f s) (actionsBits (b .actions))) in
       let n = length-append (actionsBits (b .actions)) (jobsBits p) in
       rw (← e) (omega arith)
@@ -130,14 +130,14 @@ numbers-few spawn join (suc k) =
 
 pub bits-bounds : (p : Plan) (jobs actions : ℕ) (spawn join : List ℕ) → BitsGiven p jobs actions spawn join → (jobs ≤ 256) × (actions ≤ 2048)
 bits-bounds p jobs actions spawn join g =
-    (rw (g .count) (jobs-in-range p (g .range) .1), rw (g .all) (work-in-range p (g .range) .1))
+    (rw (g .count) (jobs-in-range p (g .range) .1), rw (g .all) (total-in-range p (g .range) .1))
 
 pub plan-count : (p : Plan) (jobs actions : ℕ) (spawn join : List ℕ) → BitsGiven p jobs actions spawn join
     → length (planBits p) ≡ 17 + 24 * jobs + length (upTo (numbersAt spawn join) actions)
 unfolding planBits
 plan-count p jobs actions spawn join g =
     let c = jobs-count (numbersAt spawn join) 0 p (λ j i h b. rw zero-add (numbers-at p spawn join (g .spawns) (g .joins) j i h b)) in
-    rw (g .all, g .count) (omega (arith, rw (zero-add (work p)) at c))
+    rw (g .all, g .count) (omega (arith, rw (zero-add (total p)) at c))
 
 module _ (p : Plan) (jobs actions : ℕ) (frame first owner spawn join : List ℕ) (g : WriterGiven p jobs actions frame first owner spawn join) where
   opening-at : (j i : ℕ) → j < length p → openingBits frame first j (start p j + i) ≡ opening (job p j) i
@@ -172,7 +172,7 @@ module _ (p : Plan) (jobs actions : ℕ) (frame first owner spawn join : List �
 
   pub place-writable : (k : ℕ) → k < actions → Writable first owner spawn join k
   place-writable k h =
-      let l : k < work p = rw (g .all) at h in
+      let l : k < total p = rw (g .all) at h in
       let s = placed-of p k l in
       let o = job-at p owner (g .laid .owners) k l in
       let a = first-at p first (g .laid .firsts) (getD (placed p) k noPlaced .job) (omega (arith, s .known)) in
@@ -180,7 +180,7 @@ module _ (p : Plan) (jobs actions : ℕ) (frame first owner spawn join : List �
       let c = start-suc p (getD (placed p) k noPlaced .job) (s .known) in
       let z = size-in-range p (g .laid .range) (getD (placed p) k noPlaced .job) (s .known) in
       record {
-        place = omega (arith, work-in-range p (g .laid .range));
+        place = omega (arith, total-in-range p (g .laid .range));
         rises = rw (o, add-one, a, b) (omega arith);
         few = rw (o, add-one, a, b) (omega arith);
         child = g .children k;

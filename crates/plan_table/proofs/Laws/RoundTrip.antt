@@ -10,7 +10,7 @@ use lib.Seq.{take-at}
 use lib.Dec.{leb}
 use borrow.Author.Tests.{le-leb}
 use Rattle.plan.specs.Refusal.{Outcome, refused, accepted}
-use Rattle.plan.specs.Plan.{Plan, work}
+use Rattle.plan.specs.Plan.{Plan, total}
 use Rattle.plan.specs.Reader.{readPlan}
 use Rattle.plan.specs.Writer.{planBytes}
 use Rattle.plan_table.specs.Table.{tableOf, readTable, Written, written, tabled, toTable, encoded, toPlan}
@@ -42,14 +42,14 @@ written-told {P} output k buffer n e use-it = go (leb (length output) (length bu
     go false e use-it = refused-accepted e
 
 pub toTable-told : {P : Type 0} (s rows : List ℕ) (n : ℕ) → toTable s rows .answer ≡ accepted n
-    → ((p : Plan) → readPlan s ≡ accepted p → n ≡ work p → toTable s rows .buffer ≡ tableOf p ++ drop (length (tableOf p)) rows → P) → P
+    → ((p : Plan) → readPlan s ≡ accepted p → n ≡ total p → toTable s rows .buffer ≡ tableOf p ++ drop (length (tableOf p)) rows → P) → P
 unfolding toTable tabled
 toTable-told {P} s rows n e use-it = go (readPlan s) e use-it
   where
     go : (o : Outcome Plan) → tabled o rows .answer ≡ accepted n
-        → ((p : Plan) → o ≡ accepted p → n ≡ work p → tabled o rows .buffer ≡ tableOf p ++ drop (length (tableOf p)) rows → P) → P
+        → ((p : Plan) → o ≡ accepted p → n ≡ total p → tabled o rows .buffer ≡ tableOf p ++ drop (length (tableOf p)) rows → P) → P
     go (refused k) e use-it = refused-accepted e
-    go (accepted p) e use-it = written-told (tableOf p) (work p) rows n e (use-it p refl)
+    go (accepted p) e use-it = written-told (tableOf p) (total p) rows n e (use-it p refl)
 
 pub toPlan-told : {P : Type 0} (t bytes : List ℕ) (n : ℕ) → toPlan t bytes .answer ≡ accepted n
     → ((p : Plan) → readTable t ≡ accepted p → n ≡ length (planBytes p)
@@ -85,7 +85,7 @@ table-plan-table t bytes rows n e room =
     = ap (take n) b ∙ take-at (planBytes p) (drop (length (planBytes p)) bytes) n (sym k) in
     let rules = readTable-rules t p r in
     let w : tableOf p ≡ t = table-read-write t p r in
-    let l : work p ≡ length t / 4 = omega (arith, table-length p, ap length w) in
+    let l : total p ≡ length t / 4 = omega (arith, table-length p, ap length w) in
     ap (λ s. toTable s rows) s
     ∙ ap (λ o. tabled o rows) (write-read p (rules .0) (rules .1) (rules .2))
     ∙ ap₂ (λ o k. written o k rows) w l

@@ -12,7 +12,7 @@ use lib.Seq.{drop-cons, getD-append-add, set-at, take-suc, length-take-le}
 use lib.Dec.{T, eqb, eqb→eq}
 use borrow.Author.Tests.{eqb-true, eqb-false}
 use Rattle.plan.specs.Test.{both, either, all}
-use Rattle.plan.specs.Plan.{Action, Job, Plan, Placed, job, size, action, work, placed, noAction, noPlaced}
+use Rattle.plan.specs.Plan.{Action, Job, Plan, Placed, job, size, action, total, placed, noAction, noPlaced}
 use Rattle.plan_table.specs.Table.{
   tableIn,
   tableFrom,
@@ -93,12 +93,12 @@ tableIn-length : (j f : ℕ) (l : List Action) → length (tableIn j f l) ≡ 4 
 tableIn-length j f [] = refl
 tableIn-length j f (a ∷ l) = omega (arith, tableIn-length j f l)
 
-tableFrom-length : (j : ℕ) (p : List Job) → length (tableFrom j p) ≡ 4 * work p
+tableFrom-length : (j : ℕ) (p : List Job) → length (tableFrom j p) ≡ 4 * total p
 tableFrom-length j [] = refl
 tableFrom-length j (b ∷ bs) =
     rw length-append (omega (arith, tableIn-length j (b .frame) (b .actions), tableFrom-length (suc j) bs))
 
-pub table-length : (p : Plan) → length (tableOf p) ≡ 4 * work p
+pub table-length : (p : Plan) → length (tableOf p) ≡ 4 * total p
 unfolding tableOf
 table-length p = tableFrom-length 0 p
 
@@ -106,7 +106,7 @@ rowsIn-length : (j f : ℕ) (l : List Action) → length (rowsIn j f l) ≡ leng
 rowsIn-length j f [] = refl
 rowsIn-length j f (a ∷ l) = ap suc (rowsIn-length j f l)
 
-pub rowsFrom-length : (j : ℕ) (p : List Job) → length (rowsFrom j p) ≡ work p
+pub rowsFrom-length : (j : ℕ) (p : List Job) → length (rowsFrom j p) ≡ total p
 rowsFrom-length j [] = refl
 rowsFrom-length j (b ∷ bs) = rw (length-append, rowsIn-length, rowsFrom-length (suc j) bs)
 
@@ -137,29 +137,29 @@ row-at p j i h b = rowsFrom-at 0 p j i j h b (zero-add j)
 abbrev pub rowPlaced : Plan → Placed → Row
 rowPlaced p a = record { job = a .job; frame = job p (a .job) .frame; spawn = a .spawn; join = a .join }
 
-pub row-placed : (p : Plan) (k : ℕ) → k < work p → getD (rowsFrom 0 p) k noRow ≡ rowPlaced p (getD (placed p) k noPlaced)
+pub row-placed : (p : Plan) (k : ℕ) → k < total p → getD (rowsFrom 0 p) k noRow ≡ rowPlaced p (getD (placed p) k noPlaced)
 row-placed p k h = found (getD (placed p) k noPlaced) (placed-of p k h)
   where
     found : (a : Placed) → Stands p k a → getD (rowsFrom 0 p) k noRow ≡ rowPlaced p a
     found a s = rw (s .place, row-at p (a .job) (a .position) (s .known) (s .within), s .spawn, s .join)
 
 -- what stands at 4 * k to 4 * k + 3 of a plan's table
-pub table-at : (p : Plan) (k : ℕ) → k < work p → rowAt (tableOf p) (4 * k) ≡ rowPlaced p (getD (placed p) k noPlaced)
+pub table-at : (p : Plan) (k : ℕ) → k < total p → rowAt (tableOf p) (4 * k) ≡ rowPlaced p (getD (placed p) k noPlaced)
 table-at p k h =
     sym (rowsOf-at (tableOf p) k (omega (arith, table-length p))) ∙ ap (λ l. getD l k noRow) (table-rows p) ∙ row-placed p k h
 
 -- arrays that hold a plan are long enough
-pub owners-few : (p : Plan) (l : List ℕ) → Jobs p l → work p ≤ length l
+pub owners-few : (p : Plan) (l : List ℕ) → Jobs p l → total p ≤ length l
 owners-few p l e =
-    let h : min (work p) (length l) ≡ work p
-    = sym (length-take (work p) l) ∙ ap length e ∙ length-map (placed p) (λ a. a .job) ∙ placed-length p in
+    let h : min (total p) (length l) ≡ total p
+    = sym (length-take (total p) l) ∙ ap length e ∙ length-map (placed p) (λ a. a .job) ∙ placed-length p in
     omega arith
 
 -- the k-th row of a plan's table, from the arrays that hold the plan
 pub row-given : (p : Plan) (n : ℕ) (frame owner spawn join : List ℕ) → RowsGiven p n frame owner spawn join → (k : ℕ) → k < n
     → rowAt (tableOf p) (4 * k) ≡ record { job = getD owner k 0; frame = getD frame (getD owner k 0) 0; spawn = getD spawn k 0; join = getD join k 0 }
 row-given p n frame owner spawn join g k h =
-    let l : k < work p = omega (arith, g .all) in
+    let l : k < total p = omega (arith, g .all) in
     let j = job-at p owner (g .owners) k l in
     table-at p k l
     ∙ rw (j, spawn-at p spawn (g .spawns) k l, join-at p join (g .joins) k l, frame-at p frame (g .frames) (getD (placed p) k noPlaced .job) (placed-of p k l .known))

@@ -18,7 +18,7 @@ use Rattle.plan.specs.declared.refusal.Refusal.the-variants.{Range}
 use Rattle.plan_table.specs.declared.rows.Jobs.{Jobs as Counted}
 use Rattle.plan_table.specs.declared.rows.Jobs.the-variants.{Refused, Count}
 use Rattle.plan.specs.Test.{both, all}
-use Rattle.plan.specs.Plan.{Job, Plan, Placed, job, size, action, work, placed, noJob, noPlaced}
+use Rattle.plan.specs.Plan.{Job, Plan, Placed, job, size, action, total, placed, noJob, noPlaced}
 use Rattle.plan.specs.Rules.{jobInRange, inRange}
 use Rattle.plan.specs.Flat.{starts}
 use Rattle.plan_table.specs.Table.{Row, rowsOf, small, rowRules, planOf}
@@ -33,7 +33,7 @@ use Rattle.plan.proofs.Laws.Placed.{
   placed-length,
   placed-of,
 }
-use Rattle.plan.proofs.Laws.Spawning.{jobs-in-range, size-in-range, frame-in-range, work-in-range}
+use Rattle.plan.proofs.Laws.Spawning.{jobs-in-range, size-in-range, frame-in-range, total-in-range}
 use Rattle.plan_table.proofs.Laws.Rows.{
   noRow,
   rowsOf-at,
@@ -91,12 +91,12 @@ zeros-small (suc n) b (suc k) = zeros-small n b k
 -- a plan in range
 
 pub range-in : (p : Plan) → 1 ≤ length p → length p ≤ 256
-    → ((j : ℕ) → j < length p → (1 ≤ job p j .frame) × (job p j .frame ≤ 65535) × (1 ≤ size p j) × (size p j ≤ 255)) → work p ≤ 2048 → T (inRange p)
+    → ((j : ℕ) → j < length p → (1 ≤ job p j .frame) × (job p j .frame ≤ 65535) × (1 ≤ size p j) × (size p j ≤ 255)) → total p ≤ 2048 → T (inRange p)
 unfolding inRange
 range-in p some jobs each actions =
-    both-intro (both (leb 1 (length p)) (leb (length p) 256)) (both (all jobInRange p) (leb (work p) 2048))
+    both-intro (both (leb 1 (length p)) (leb (length p) 256)) (both (all jobInRange p) (leb (total p) 2048))
     (both-intro (leb 1 (length p)) (leb (length p) 256) (le→leb 1 (length p) some) (le→leb (length p) 256 jobs))
-    (both-intro (all jobInRange p) (leb (work p) 2048) (all-by jobInRange p noJob (λ j h. one (job p j) (each j h))) (le→leb (work p) 2048 actions))
+    (both-intro (all jobInRange p) (leb (total p) 2048) (all-by jobInRange p noJob (λ j h. one (job p j) (each j h))) (le→leb (total p) 2048 actions))
   where
     one : (b : Job) → (1 ≤ b .frame) × (b .frame ≤ 65535) × (1 ≤ length (b .actions)) × (length (b .actions) ≤ 255) → T (jobInRange b)
     one b t =
@@ -116,7 +116,7 @@ pub record Sits (p : Plan) (k : ℕ) (a : Row) : Type 0 where
 
 pub row-sits : (p : Plan) (rows : List Row) → rowsFrom 0 p ≡ rows → (k : ℕ) → k < length rows → Sits p k (getD rows k noRow)
 row-sits p rows made k h =
-    let l : k < work p = omega (arith, rowsFrom-length 0 p, ap length made) in
+    let l : k < total p = omega (arith, rowsFrom-length 0 p, ap length made) in
     let s = placed-of p k l in
     let e : getD rows k noRow ≡ rowPlaced p (getD (placed p) k noPlaced) = ap (λ r. getD r k noRow) (sym made) ∙ row-placed p k l in
     rw e (record { position = getD (placed p) k noPlaced .position; known = s .known; within = s .within; place = s .place; frame = refl })
@@ -149,7 +149,7 @@ all-fit p rows made filled some few fit =
     (f .some, f .word, s, omega (arith, e .short)))
     (omega (arith, n))
   where
-    n : length rows ≡ work p
+    n : length rows ≡ total p
     n = sym (ap length made) ∙ rowsFrom-length 0 p
 
     at : (j i : ℕ) → j < length p → i < size p j → Fit p (rowOf j (job p j .frame) (action p j i)) (start p j + i)
@@ -157,7 +157,7 @@ all-fit p rows made filled some few fit =
         rw (ap (λ r. getD r (start p j + i) noRow) (sym made) ∙ row-at p j i h b)
         at (fit (start p j + i) (omega (arith, n, place-below p j i h b)))
 
-    first : (p : Plan) → 1 ≤ work p → 1 ≤ length p
+    first : (p : Plan) → 1 ≤ total p → 1 ≤ length p
     first [] h = h
     first (b ∷ bs) h = omega arith
 
@@ -228,7 +228,7 @@ begun-more p k jobs frame first a filled g s b c =
     framed i h (no e) l = getD-set-other frame (a .job) i (a .frame) 0 e ∙ g .framed i (omega arith)
 
 -- after all rows every job has begun
-begun-all : (p : Plan) (k jobs : ℕ) (frame first : List ℕ) → Filled p → Begun p k jobs frame first → k ≡ work p → jobs ≡ length p
+begun-all : (p : Plan) (k jobs : ℕ) (frame first : List ℕ) → Filled p → Begun p k jobs frame first → k ≡ total p → jobs ≡ length p
 begun-all p k jobs frame first filled g e = go (decLt jobs (length p))
   where
     go : Dec (jobs < length p) → jobs ≡ length p
@@ -295,7 +295,7 @@ took-all p rows k jobs frame first owner spawn join made filled some few e g =
       targets = g .targets;
     }
   where
-    n : length rows ≡ work p
+    n : length rows ≡ total p
     n = sym (ap length made) ∙ rowsFrom-length 0 p
 
     c : jobs ≡ length p
@@ -313,11 +313,11 @@ took-all p rows k jobs frame first owner spawn join made filled some few e g =
         omega (arith, n, start-all p, ap (start p) d)
     begins j h (no d) = omega (arith, g .begun .begun j (omega (arith, c)))
 
-    row : (i : ℕ) → i < work p → getD rows i noRow ≡ rowPlaced p (getD (placed p) i noPlaced)
+    row : (i : ℕ) → i < total p → getD rows i noRow ≡ rowPlaced p (getD (placed p) i noPlaced)
     row i h = ap (λ r. getD r i noRow) (sym made) ∙ row-placed p i h
 
-    placed-by : (f : Placed → ℕ) (l : List ℕ) → work p ≤ length l → ((i : ℕ) → i < work p → getD l i 0 ≡ f (getD (placed p) i noPlaced))
-        → take (work p) l ≡ map f (placed p)
+    placed-by : (f : Placed → ℕ) (l : List ℕ) → total p ≤ length l → ((i : ℕ) → i < total p → getD l i 0 ≡ f (getD (placed p) i noPlaced))
+        → take (total p) l ≡ map f (placed p)
     placed-by f l h e =
         rw (← placed-length p) (array-by f l (placed p) noPlaced (omega (arith, placed-length p)) (λ i b. e i (omega (arith, placed-length p))))
 
@@ -362,7 +362,7 @@ module _ (t : List ℕ) (n : ℕ) (whole : length t ≡ 4 * n) (few : n ≤ 2048
 -- a table of too many rows puts its plan out of range
 pub table-long : (t : List ℕ) (n : ℕ) → length t ≡ 4 * n → T (rowRules (rowsOf t)) → 2048 < n → inRange (planOf (rowsOf t)) ≡ false
 table-long t n whole rules h =
-    false-of (inRange (planOf (rowsOf t))) (λ r. omega (arith, work-in-range (planOf (rowsOf t)) r, rowsFrom-length 0 (planOf (rowsOf t)), ap length (plan-rows (rowsOf t) rules .0), rowsOf-length t n whole))
+    false-of (inRange (planOf (rowsOf t))) (λ r. omega (arith, total-in-range (planOf (rowsOf t)) r, rowsFrom-length 0 (planOf (rowsOf t)), ap length (plan-rows (rowsOf t) rules .0), rowsOf-length t n whole))
 
 pub took-none : (t : List ℕ) (n : ℕ) (frame first owner spawn join : List ℕ) → TakeGiven t n frame first owner spawn join
     → Took (planOf (rowsOf t)) (rowsOf t) 0 0 frame first owner spawn join

@@ -15,7 +15,7 @@ use lib.Dec.{T, leb→le, nleb→lt}
 use lib.ListN.{length, getD}
 use Rattle.runs.specs.declared.worker.Worker.{Worker}
 use Rattle.runs.specs.declared.worker.Worker.the-variants.{Idle, Holding, Waiting}
-use Rattle.plan.specs.Plan.{Plan, job, size, work}
+use Rattle.plan.specs.Plan.{Plan, job, size, total}
 use Rattle.plan.specs.Rules.{Accepted}
 use Rattle.plan_measure.specs.Measure.{longest, heaviest}
 use Rattle.courses.specs.Row.{noRow}
@@ -117,7 +117,7 @@ module _ (p : Plan) (ok : Accepted p) (n : ℕ) (some : 1 ≤ n) (most : n ≤ 1
   ones zero = refl
   ones (suc i) = omega (arith, ones i)
 
-  price-work : price (terms p n) ≡ work p
+  price-work : price (terms p n) ≡ total p
   price-work = sum-same (length p) (λ j. sum (size p j) (λ a. 1)) (size p) (λ j b. ones (size p j)) ∙ sizes-sum p
 
   module _ (choices : List ℕ) where
@@ -150,15 +150,15 @@ module _ (p : Plan) (ok : Accepted p) (n : ℕ) (some : 1 ≤ n) (most : n ≤ 1
         let going = not-ended p ok n some most choices t in
         Course.next-round (trace-course t) (held-hands s sound going n (handsOf b) (course-kept (terms p n) ok (trace-course t) .known)) (held-some s sound going)
 
-    pub rows-length : {r : ℕ} {b : List Worker} {g : Stage} {s : State} → Trace p n choices r b g s → length (s .rows) ≡ work p
+    pub rows-length : {r : ℕ} {b : List Worker} {g : Stage} {s : State} → Trace p n choices r b g s → length (s .rows) ≡ total p
     rows-length t = trace-sound p ok n some most choices t .rows
 
     -- no round comes after round T1, for each that begins does an action
-    pub round-most : {r : ℕ} {b : List Worker} {g : Stage} {s : State} → Trace p n choices r b g s → r ≤ work p
+    pub round-most : {r : ℕ} {b : List Worker} {g : Stage} {s : State} → Trace p n choices r b g s → r ≤ total p
     round-most t = omega (arith, price-work, course-most (terms p n) ok (λ j i h l. omega arith) (trace-course t))
 
     -- each turn of a worker that holds a job does one action
-    pub actions-most : {r : ℕ} {b : List Worker} {g : Stage} {s : State} → Trace p n choices r b g s → s .tally .actions ≤ work p
+    pub actions-most : {r : ℕ} {b : List Worker} {g : Stage} {s : State} → Trace p n choices r b g s → s .tally .actions ≤ total p
     actions-most t = omega (arith, price-work, turns-most (terms p n) ok (trace-course t))
 
     -- the end of a run
@@ -169,11 +169,11 @@ module _ (p : Plan) (ok : Accepted p) (n : ℕ) (some : 1 ≤ n) (most : n ≤ 1
       grows : (r r′ : ℕ) → r ≤ r′ → n * heaviest p ≤ n * heaviest p
       grows r r′ h = le-refl (n * heaviest p)
 
-      pub actions-all : s .tally .actions ≡ work p
+      pub actions-all : s .tally .actions ≡ total p
       actions-all = turns-all (terms p n) ok (trace-course t) over ∙ price-work
 
       -- every row is of a round from 1 to r, and of one of the workers
-      pub run-row : (k : ℕ) → k < work p → Done n r n (getD (s .rows) k noRow)
+      pub run-row : (k : ℕ) → k < total p → Done n r n (getD (s .rows) k noRow)
       run-row = course-row (terms p n) ok (trace-course t) over
 
       -- the rows keep the rules of a schedule

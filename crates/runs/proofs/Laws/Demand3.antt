@@ -7,14 +7,14 @@ use native.Mathlib.Omega.{arith}
 use lib.ListN.{length}
 use lib.Seq.{take-at}
 use lib.Dec.{T, leb, leb→le}
-use Rattle.plan.specs.Plan.{Plan, work}
+use Rattle.plan.specs.Plan.{Plan, total}
 use Rattle.runs.specs.Run.{run, workersFit}
 use Rattle.courses.specs.Schedule.{scheduleBytes, readSchedule}
 use Rattle.runs.specs.Claim.{Bounds, Bounded, Demand3}
 use Rattle.plan.proofs.Laws.Lists.{both-left, both-right}
 use Rattle.plan.specs.Rules.{Accepted}
 use Rattle.plan.proofs.Laws.Accepted.{accepted-kept}
-use Rattle.plan.proofs.Laws.Valid.{work-range}
+use Rattle.plan.proofs.Laws.Valid.{total-range}
 use Rattle.runs.proofs.Laws.Whole.{run-trace, round-most, rounds-most, lone-rounds}
 use Rattle.runs.proofs.Laws.Coursed.{rows-length, last-round, least-rounds, run-space, run-peak, lone-peak}
 use Rattle.courses.proofs.Laws.ScheduleBytes.{schedule-length}
@@ -43,11 +43,11 @@ pub run-bounded : (p : Plan) → Accepted p → (n : ℕ) → 1 ≤ n → n ≤ 
 run-bounded p ok n some most choices rest =
     let out = scheduleBytes n (run p n choices .rows) in
     let (r, b, t, e, q) = run-trace p ok n some most choices in
-    let few : r ≤ 4095 = omega (arith, round-most p ok n some most choices t, work-range p ok) in
-    let long : length out ≡ 4 + 2 * work p = schedule-length n (run p n choices .rows) ∙ ap (λ k. 4 + 2 * k) (rows-length p ok n some most choices t) in
+    let few : r ≤ 4095 = omega (arith, round-most p ok n some most choices t, total-range p ok) in
+    let long : length out ≡ 4 + 2 * total p = schedule-length n (run p n choices .rows) ∙ ap (λ k. 4 + 2 * k) (rows-length p ok n some most choices t) in
     record {
       rows = run p n choices .rows;
-      read = ap (λ l. readSchedule l (work p)) (take-at out rest (4 + 2 * work p) long) ∙ run-schedule p ok n some most choices t e few;
+      read = ap (λ l. readSchedule l (total p)) (take-at out rest (4 + 2 * total p) long) ∙ run-schedule p ok n some most choices t e few;
       bounds = run-bounds p ok n some most choices;
     }
 

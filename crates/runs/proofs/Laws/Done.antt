@@ -5,17 +5,17 @@ use mathlib.Core.Path.{_≡_, refl, _∙_}
 use native.Mathlib.Nat.{le-refl}
 use native.Mathlib.Omega.{arith}
 use lib.ListN.{length, getD, take, replicate}
-use Rattle.plan.specs.Plan.{Plan, size, work}
+use Rattle.plan.specs.Plan.{Plan, size, total}
 use Rattle.plan.proofs.Laws.Placed.{start-suc, start-all}
 use Rattle.runs.specs.State.{nextOf, start}
 use Rattle.lines.proofs.Laws.Sum.{sum}
 
 -- the sizes of the jobs add up to the work
-pub sizes-sum : (p : Plan) → sum (length p) (size p) ≡ work p
+pub sizes-sum : (p : Plan) → sum (length p) (size p) ≡ total p
 unfolding sum
 sizes-sum p = upTo (length p) (le-refl (length p)) ∙ start-all p
   where
-    upTo : (k : ℕ) → k ≤ length p → sum k (size p) ≡ work (take k p)
+    upTo : (k : ℕ) → k ≤ length p → sum k (size p) ≡ total (take k p)
     upTo zero h = refl
     upTo (suc k) h = omega (arith, upTo k (omega arith), start-suc p k h)
 

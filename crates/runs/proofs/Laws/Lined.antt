@@ -11,7 +11,7 @@ use lib.ListN.{length, getD, set}
 use lib.Seq.{getD-set-same, getD-set-other}
 use Rattle.runs.specs.declared.worker.Worker.{Worker}
 use Rattle.runs.specs.declared.worker.Worker.the-variants.{Idle, Holding, Waiting}
-use Rattle.plan.specs.Plan.{Plan, work}
+use Rattle.plan.specs.Plan.{Plan, total}
 use Rattle.runs.specs.State.{State, nextOf, workerOf, dequeOf}
 use Rattle.lines.proofs.Laws.Shape.{Good}
 use Rattle.lines.proofs.Laws.Member.{_∈_}
@@ -29,7 +29,7 @@ pub record Sound (p : Plan) (n : ℕ) (s : State) : Type 0 where
   pub nexts : length (s .next) ≡ length p
   pub workers : length (s .workers) ≡ 16
   pub deques : length (s .deques) ≡ 16
-  pub rows : length (s .rows) ≡ work p
+  pub rows : length (s .rows) ≡ total p
   pub good : Good (shape p) (nextOf s) (lineOf s)
   pub empty : (w : ℕ) → lineOf s w ≡ [] → dequeOf s w ≡ []
   pub absent : (w : ℕ) → n ≤ w → workerOf s w ≡ Idle

@@ -8,13 +8,13 @@ use lib.ListN.{length}
 use lib.Dec.{T}
 use Rattle.runs.specs.declared.worker.Worker.{Worker}
 use Rattle.plan.specs.Refusal.{Outcome, refused, accepted}
-use Rattle.plan.specs.Plan.{Plan, work}
+use Rattle.plan.specs.Plan.{Plan, total}
 use Rattle.plan.specs.Reader.{readPlan}
 use Rattle.runs.specs.State.{State}
 use Rattle.runs.specs.Run.{ended}
 use Rattle.courses.specs.Schedule.{scheduleBytes, keeps, readSchedule, ruled, judgedBy, checked}
 use Rattle.plan.specs.Rules.{Accepted}
-use Rattle.plan.proofs.Laws.Valid.{work-range}
+use Rattle.plan.proofs.Laws.Valid.{total-range}
 use Rattle.runs.specs.Trace.{turning, Trace}
 use Rattle.courses.proofs.Laws.ScheduleBytes.{Small, schedule-read}
 use Rattle.runs.proofs.Laws.Coursed.{rows-length, run-row, run-keeps}
@@ -27,16 +27,16 @@ unbroken false h = absurd h
 module _ (p : Plan) (ok : Accepted p) (n : ℕ) (some : 1 ≤ n) (most : n ≤ 16) (choices : List ℕ) {r : ℕ} {b : List Worker} {s : State}
     (t : Trace p n choices r b (turning n) s) (e : ended p s ≡ true) (few : r ≤ 4095) where
   -- its schedule is well formed
-  pub run-schedule : readSchedule (scheduleBytes n (s .rows)) (work p) ≡ accepted (record { workers = n; rows = s .rows })
+  pub run-schedule : readSchedule (scheduleBytes n (s .rows)) (total p) ≡ accepted (record { workers = n; rows = s .rows })
   run-schedule =
-      let long : length (s .rows) ≡ work p = rows-length p ok n some most choices t in
+      let long : length (s .rows) ≡ total p = rows-length p ok n some most choices t in
       let small : Small (s .rows) = λ k l.
       let d = run-row p ok n some most choices t e k (omega arith) in
       (d .first, omega (arith, d .latest), omega (arith, d .known)) in
-      rw (← long) (schedule-read n (s .rows) some most (omega (arith, work-range p ok)) small)
+      rw (← long) (schedule-read n (s .rows) some most (omega (arith, total-range p ok)) small)
 
   -- and the checker finds no rule broken
-  pub run-ruled : ruled p (readSchedule (scheduleBytes n (s .rows)) (work p)) ≡ accepted 0
+  pub run-ruled : ruled p (readSchedule (scheduleBytes n (s .rows)) (total p)) ≡ accepted 0
   unfolding ruled
   run-ruled = ap (ruled p) run-schedule ∙ unbroken (keeps p n (s .rows)) (run-keeps p ok n some most choices t e)
 

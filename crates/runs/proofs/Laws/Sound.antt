@@ -12,7 +12,7 @@ use lib.ListN.{length, getD, replicate, length-replicate}
 use lib.Dec.{leb→le, nleb→lt}
 use Rattle.runs.specs.declared.worker.Worker.{Worker}
 use Rattle.runs.specs.declared.worker.Worker.the-variants.{Idle, Holding}
-use Rattle.plan.specs.Plan.{Plan, size, work, parent, spawnAt}
+use Rattle.plan.specs.Plan.{Plan, size, total, parent, spawnAt}
 use Rattle.plan_measure.specs.Measure.{heaviest}
 use Rattle.runs.specs.State.{State, nextOf, workerOf, dequeOf, start}
 use Rattle.courses.specs.Row.{noRow}
@@ -56,7 +56,7 @@ module _ (p : Plan) (ok : Accepted p) (n : ℕ) (some : 1 ≤ n) (most : n ≤ 1
     nexts = length-replicate (length p) 0;
     workers = refl;
     deques = refl;
-    rows = length-replicate (work p) noRow;
+    rows = length-replicate (total p) noRow;
     good = start-good (shape p) (shape-valid p ok) (nextOf (start p)) (lineOf (start p)) (λ j. replicate-at (length p) j 0) refl
         (λ w f. line-of (start p) w Idle (start-idle w f));
     empty = λ w e. start-deque w;

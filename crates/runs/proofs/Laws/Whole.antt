@@ -9,13 +9,13 @@ use native.Mathlib.Nat.{le-refl, one-mul, mul-le-mul}
 use native.Mathlib.Omega.{arith}
 use lib.ListN.{length}
 use Rattle.runs.specs.declared.worker.Worker.{Worker}
-use Rattle.plan.specs.Plan.{Plan, size, work}
+use Rattle.plan.specs.Plan.{Plan, size, total}
 use Rattle.runs.specs.State.{State, nextOf, start}
 use Rattle.runs.specs.Turn.{turns}
 use Rattle.runs.specs.Steal.{lays, serves, waiting}
 use Rattle.runs.specs.Run.{ended, round, rounds, run}
 use Rattle.plan.specs.Rules.{Accepted}
-use Rattle.plan.proofs.Laws.Valid.{work-range}
+use Rattle.plan.proofs.Laws.Valid.{total-range}
 use Rattle.runs.specs.Trace.{Stage, turning, laying, serving, Trace, begins, turned, goes-on, laid, all-laid, served, next-round}
 use Rattle.runs.proofs.Laws.Sound.{trace-sound, all-done}
 use Rattle.runs.proofs.Laws.Rounds.{rounds-known, numbered-late, numbered-most, not-ended}
@@ -78,13 +78,13 @@ module _ (p : Plan) (ok : Accepted p) (n : ℕ) (some : 1 ≤ n) (most : n ≤ 1
       → (r ≤ 2048) × (s .tally .rounds ≤ r) × (s .tally .actions ≤ 2048) × (s .tally .idle ≤ 32768) × (s .tally .requests ≤ 32768)
       × (s .tally .steals ≤ 32768) × (s .tally .misses ≤ 32768)
   counts-small {r} {g = g} {s} t =
-      let few : r ≤ 2048 = omega (arith, round-most p ok n some most choices t, work-range p ok) in
+      let few : r ≤ 2048 = omega (arith, round-most p ok n some most choices t, total-range p ok) in
       let all : n * r ≤ 16 * 2048 = mul-le-mul most few in
       let requests : s .tally .requests ≤ 32768 = omega (arith, requests-most p ok n some most choices t) in
       let settled = requests-sum p ok n some most choices t in (
         few,
         numbered-most g r (s .tally .rounds) (rounds-known p ok n some most choices t),
-        omega (arith, actions-most p ok n some most choices t, work-range p ok),
+        omega (arith, actions-most p ok n some most choices t, total-range p ok),
         omega (arith, turns-most p ok n some most choices t),
         requests,
         omega arith,
@@ -92,7 +92,7 @@ module _ (p : Plan) (ok : Accepted p) (n : ℕ) (some : 1 ≤ n) (most : n ≤ 1
       )
 
   -- fuel for the rounds that are left of T1 is enough
-  pub rounds-finish : (k r : ℕ) (s : State) → Trace p n choices r (s .workers) (turning 0) s → work p < k + r → Finished p n choices (rounds k p n choices s)
+  pub rounds-finish : (k r : ℕ) (s : State) → Trace p n choices r (s .workers) (turning 0) s → total p < k + r → Finished p n choices (rounds k p n choices s)
   rounds-finish zero r s t h = absurd (omega (arith, round-most p ok n some most choices t))
   rounds-finish (suc k) r s t h = rw (rounds-on p n choices k s (not-ended p ok n some most choices t)) (go (ended p half) refl (rounds-finish k))
     where
@@ -106,7 +106,7 @@ module _ (p : Plan) (ok : Accepted p) (n : ℕ) (some : 1 ≤ n) (most : n ≤ 1
       taken = turns-trace p n choices t n (le-refl n)
 
       go : (x : Bool) → ended p half ≡ x
-          → ((r : ℕ) (s : State) → Trace p n choices r (s .workers) (turning 0) s → work p < k + r → Finished p n choices (rounds k p n choices s))
+          → ((r : ℕ) (s : State) → Trace p n choices r (s .workers) (turning 0) s → total p < k + r → Finished p n choices (rounds k p n choices s))
           → Finished p n choices (rounds k p n choices (round p n choices s))
       go true f rec =
           rw (round-last p n choices r s known f, rounds-stop p n choices k half f)
@@ -118,9 +118,9 @@ module _ (p : Plan) (ok : Accepted p) (n : ℕ) (some : 1 ≤ n) (most : n ≤ 1
   -- T1 rounds are enough
   pub run-trace : Finished p n choices (run p n choices)
   unfolding run
-  run-trace = rounds-finish (work p) 1 (start p) begins (omega arith)
+  run-trace = rounds-finish (total p) 1 (start p) begins (omega arith)
 
-  pub rounds-most : run p n choices .tally .rounds ≤ work p
+  pub rounds-most : run p n choices .tally .rounds ≤ total p
   rounds-most = let (r, b, t, e, q) = run-trace in omega (arith, round-most p ok n some most choices t)
 
   -- every action is done
@@ -128,7 +128,7 @@ module _ (p : Plan) (ok : Accepted p) (n : ℕ) (some : 1 ≤ n) (most : n ≤ 1
   run-done = let (r, b, t, e, q) = run-trace in all-done p ok n some most (run p n choices) (trace-sound p ok n some most choices t) e
 
   -- and each once
-  pub run-actions : run p n choices .tally .actions ≡ work p
+  pub run-actions : run p n choices .tally .actions ≡ total p
   run-actions =
       let (r, b, t, e, q) = run-trace in
       actions-all p ok n some most choices t e
@@ -143,7 +143,7 @@ module _ (p : Plan) (ok : Accepted p) (n : ℕ) (some : 1 ≤ n) (most : n ≤ 1
   run-requests = let (r, b, t, e, q) = run-trace in requests-sum p ok n some most choices t
 
   -- a worker that is alone does one action in each round
-  pub lone-rounds : n ≡ 1 → run p n choices .tally .rounds ≡ work p
+  pub lone-rounds : n ≡ 1 → run p n choices .tally .rounds ≡ total p
   lone-rounds lone =
       let (r, b, t, e, q) = run-trace in
       let m = run p n choices .tally .rounds in

@@ -10,10 +10,10 @@ use lib.ListN.{length, getD, take, drop, length-drop}
 use lib.Seq.{take-all}
 use borrow.Author.Tests.{le-leb, lt-ltb, le-ltb}
 use Rattle.plan.specs.Refusal.{Outcome, refused, accepted}
-use Rattle.plan.specs.Plan.{Plan, work}
+use Rattle.plan.specs.Plan.{Plan, total}
 use Rattle.plan.specs.Rules.{Accepted}
 use Rattle.plan.specs.Reader.{readPlan}
-use Rattle.plan.proofs.Laws.Valid.{work-range}
+use Rattle.plan.proofs.Laws.Valid.{total-range}
 use Rattle.plan_measure.specs.declared.Measures.{Measures}
 use Rattle.plan_measure.specs.Measure.{longest, heaviest, measured}
 use Rattle.plan_measure.specs.Times.{MeasureGiven}
@@ -69,7 +69,7 @@ module _ (p : Plan) (ok : Accepted p) (n : ℕ) (choices schedule : List ℕ) (l
   unfolding resulted
   went-answer w =
       let fits : length (scheduleBytes n (run p n choices .rows)) ≤ length schedule =
-      omega (arith, run-fits p ok n (w .some) (w .most) choices, work-range p ok) in
+      omega (arith, run-fits p ok n (w .some) (w .most) choices, total-range p ok) in
       let whole : resulted (admitted (accepted p) n choices) n schedule ≡ record {
         answer = accepted (run p n choices .tally);
         schedule = scheduleBytes n (run p n choices .rows) ++ drop (length (scheduleBytes n (run p n choices .rows))) schedule;
@@ -101,7 +101,7 @@ module _ (p : Plan) (ok : Accepted p) (n : ℕ) (choices schedule : List ℕ) (l
       go (inr w) =
           let x : _≡_ {A = Outcome Tally} (accepted t) (accepted (run p n choices .tally)) = e ∙ went-answer w in
           let i : t ≡ run p n choices .tally = cc in
-          let j : m ≡ record { actions = work p; longest = longest p; path = heaviest p } = cc in
+          let j : m ≡ record { actions = total p; longest = longest p; path = heaviest p } = cc in
           ap₂ (λ t m. accepted (counted t m)) i j ∙ sym (ap (countsOf (accepted p)) (w .ran))
 
 -- the build of bytes, by what reading them tells

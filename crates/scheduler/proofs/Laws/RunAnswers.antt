@@ -11,11 +11,11 @@ use lib.Dec.{leb, leb→le, le→leb}
 use borrow.Author.Tests.{le-leb, lt-leb}
 use Rattle.plan.specs.declared.refusal.Refusal.{Refusal}
 use Rattle.plan.specs.Refusal.{refused, accepted, numberOf}
-use Rattle.plan.specs.Plan.{Plan, work}
+use Rattle.plan.specs.Plan.{Plan, total}
 use Rattle.plan.specs.Reader.{readPlan}
 use Rattle.plan.specs.Flat.{FlatPlan}
 use Rattle.plan.proofs.Laws.Found.{Given}
-use Rattle.plan.proofs.Laws.Valid.{work-range}
+use Rattle.plan.proofs.Laws.Valid.{total-range}
 use Rattle.plan.proofs.Laws.Lists.{both-intro, both-left, both-right, true-of, false-of, of-true}
 use Rattle.runs.specs.declared.tally.Tally.{Tally}
 use Rattle.scheduler.specs.declared.run.Ran.{Ran}
@@ -69,7 +69,7 @@ module _ (bytes : List ℕ) (n : ℕ) (choices schedule : List ℕ) where
 
 module _ (p : Plan) (actions : ℕ) (frame first spawn join parent missing : List ℕ) (g : Loaded p actions frame first spawn join parent missing) where
   pub loaded-few : actions ≤ 2048
-  loaded-few = omega (arith, g .all, work-range p (g .planned .accepted))
+  loaded-few = omega (arith, g .all, total-range p (g .planned .accepted))
 
   module _ (n : ℕ) (choices schedule : List ℕ) where
     refuses : (cause : Refusal) → admitted (accepted p) n choices ≡ refused (numberOf cause)
@@ -132,16 +132,16 @@ module _ (p : Plan) (actions : ℕ) (frame first spawn join parent missing : Lis
           behind : drop rest (drop 4 headed) ≡ []
           behind = ap (λ k. drop k (drop 4 headed)) (sym (length-drop 4 headed)) ∙ drop-length (drop 4 headed)
 
-          room : 2 * work p ≤ length (take rest (drop 4 headed))
+          room : 2 * total p ≤ length (take rest (drop 4 headed))
           room = rw (part, length-drop) (omega (arith, g .all))
 
           -- what the runner is asked for
-          pub run-asked : (q : Plan) × RunGiven q n choices frame first spawn join parent missing × (2 * work q ≤ length (take rest (drop 4 headed)))
+          pub run-asked : (q : Plan) × RunGiven q n choices frame first spawn join parent missing × (2 * total q ≤ length (take rest (drop 4 headed)))
           run-asked = (p, run-given, room)
 
           -- and what it then answers
           pub run-answers : (t : Tally) (rows : List ℕ)
-              → ((q : Plan) → RunGiven q n choices frame first spawn join parent missing → 2 * work q ≤ length (take rest (drop 4 headed))
+              → ((q : Plan) → RunGiven q n choices frame first spawn join parent missing → 2 * total q ≤ length (take rest (drop 4 headed))
               → (t ≡ run q n choices .tally) × Printed q (run q n choices) rows × RowsKept q (take rest (drop 4 headed)) rows)
               → Answered p n choices schedule (Done t) (take 4 headed ++ (rows ++ drop rest (drop 4 headed)))
           unfolding resulted

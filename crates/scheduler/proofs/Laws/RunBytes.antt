@@ -6,10 +6,10 @@ use mathlib.Core.List.{List, [], _∷_, _++_, append-assoc}
 use native.Mathlib.Omega.{arith}
 use lib.ListN.{length, getD, take, drop, take-append-drop}
 use lib.Seq.{drop-drop}
-use Rattle.plan.specs.Plan.{Plan, work}
+use Rattle.plan.specs.Plan.{Plan, total}
 use Rattle.plan.specs.Rules.{Accepted}
 use Rattle.plan.proofs.Laws.Placed.{locate}
-use Rattle.plan.proofs.Laws.Valid.{work-range}
+use Rattle.plan.proofs.Laws.Valid.{total-range}
 use Rattle.courses.specs.Row.{Row, noRow}
 use Rattle.runs.specs.State.{nextOf}
 use Rattle.runs.specs.Run.{run}
@@ -44,34 +44,34 @@ module _ (p : Plan) (ok : Accepted p) (n : ℕ) (some : 1 ≤ n) (most : n ≤ 1
   abbrev rows : List Row
   rows = run p n choices .rows
 
-  pub run-long : length rows ≡ work p
+  pub run-long : length rows ≡ total p
   run-long = let (r, b, t, e, q) = run-trace p ok n some most choices in rows-length p ok n some most choices t
 
   run-narrow : Narrow rows
   run-narrow k h =
       let (r, b, t, e, q) = run-trace p ok n some most choices in
       let d = run-row p ok n some most choices t e k (omega (arith, run-long)) in
-      (omega (arith, d .latest, round-most p ok n some most choices t, work-range p ok), omega (arith, d .known))
+      (omega (arith, d .latest, round-most p ok n some most choices t, total-range p ok), omega (arith, d .known))
 
-  run-printed : (bytes : List ℕ) → Printed p (run p n choices) bytes → take (2 * work p) bytes ≡ rowBytes rows
+  run-printed : (bytes : List ℕ) → Printed p (run p n choices) bytes → take (2 * total p) bytes ≡ rowBytes rows
   run-printed bytes q =
       rw (← run-long) (rows-written rows bytes (omega (arith, run-long, q .room)) (λ k h.
       let l = locate p k (omega (arith, run-long)) in
       let i : l .position < nextOf (run p n choices) (l .job) = omega (arith, run-done p ok n some most choices (l .job) (l .known), l .within) in
       (rw (l .place) (q .high (l .job) (l .position) (l .known) i), rw (l .place) (q .down (l .job) (l .position) (l .known) i))))
 
-  pub run-bytes : scheduleBytes n rows ≡ headerBytes n (work p) ++ rowBytes rows
+  pub run-bytes : scheduleBytes n rows ≡ headerBytes n (total p) ++ rowBytes rows
   run-bytes =
-      rw (← run-long) (schedule-bytes n rows most (omega (arith, run-long, work-range p ok)) run-narrow)
+      rw (← run-long) (schedule-bytes n rows most (omega (arith, run-long, total-range p ok)) run-narrow)
 
-  pub run-fits : length (scheduleBytes n rows) ≡ 4 + 2 * work p
+  pub run-fits : length (scheduleBytes n rows) ≡ 4 + 2 * total p
   run-fits = schedule-length n rows ∙ ap (λ k. 4 + 2 * k) run-long
 
   -- the header, the rows, and what stood behind them
   pub run-written : (before after : List ℕ) → Printed p (run p n choices) after → Kept p (drop 4 before) after
-      → headerBytes n (work p) ++ after ≡ scheduleBytes n rows ++ drop (length (scheduleBytes n rows)) before
+      → headerBytes n (total p) ++ after ≡ scheduleBytes n rows ++ drop (length (scheduleBytes n rows)) before
   run-written before after q k =
       let e : after ≡ rowBytes rows ++ drop (length (scheduleBytes n rows)) before =
-      sym (take-append-drop (2 * work p) after)
-      ∙ ap₂ _++_ (run-printed after q) (k .1 ∙ (drop-drop (2 * work p) 4 before ∙ ap (λ m. drop m before) (sym run-fits))) in
-      ap (λ l. headerBytes n (work p) ++ l) e ∙ ap (λ l. l ++ drop (length (scheduleBytes n rows)) before) (sym run-bytes)
+      sym (take-append-drop (2 * total p) after)
+      ∙ ap₂ _++_ (run-printed after q) (k .1 ∙ (drop-drop (2 * total p) 4 before ∙ ap (λ m. drop m before) (sym run-fits))) in
+      ap (λ l. headerBytes n (total p) ++ l) e ∙ ap (λ l. l ++ drop (length (scheduleBytes n rows)) before) (sym run-bytes)

@@ -9,11 +9,11 @@ use native.Mathlib.Decide.{ℕ-discrete}
 use lib.Dec.{T}
 use lib.ListN.{length, getD, set, length-set}
 use lib.Seq.{getD-set-same, getD-set-other, set-getD}
-use Rattle.plan.specs.Plan.{Plan, size, action, work, placed, noPlaced, spawnAt, parent as parentOf}
+use Rattle.plan.specs.Plan.{Plan, size, action, total, placed, noPlaced, spawnAt, parent as parentOf}
 use Rattle.plan.specs.Rules.{Accepted}
 use Rattle.plan.proofs.Laws.Lists.{true-of, false-of}
 use Rattle.plan.proofs.Laws.Placed.{placed-at, place-below, first-at, join-at, spawn-at}
-use Rattle.plan.proofs.Laws.Valid.{jobs-range, size-range, work-range, older, join-target}
+use Rattle.plan.proofs.Laws.Valid.{jobs-range, size-range, total-range, older, join-target}
 use Rattle.runs.specs.declared.worker.Worker.{Worker}
 use Rattle.runs.specs.State.{State, nextOf, dequeOf}
 use Rattle.courses.specs.Row.{place}
@@ -39,12 +39,12 @@ module _ {p : Plan} {n : ℕ} {choices : List ℕ} {r : ℕ} {b : List Worker} {
   pub acting-job : (j < length p) × (nextOf s j < size p j) × (1 ≤ j → spawnAt p j < nextOf s (parentOf p j))
   acting-job = held-job p ok n (a .run .some) (a .run .most) s acting-sound w j (a .holding)
 
-  pub acting-room : (j < 256) × (k < work p) × (k < 2048) × (nextOf s j < 255) × (w < 16)
+  pub acting-room : (j < 256) × (k < total p) × (k < 2048) × (nextOf s j < 255) × (w < 16)
   acting-room =
       let (h, l, o) = acting-job in
       let z = size-range p ok j h in
       let m = place-below p j (nextOf s j) h l in
-      omega (arith, jobs-range p ok, work-range p ok, a .here, a .known, a .run .most)
+      omega (arith, jobs-range p ok, total-range p ok, a .here, a .known, a .run .most)
 
   pub acting-first : getD first j 0 + nextOf s j ≡ k
   acting-first = omega (arith, first-at p first (a .planned .firsts) j (omega (arith, acting-job)), a .here)
@@ -134,7 +134,7 @@ module _ {p : Plan} {n : ℕ} {choices : List ℕ} {r : ℕ} {b : List Worker} {
         omega (arith, ap (λ x. getD first x 0) is-parent, first-at p first (g .acting .planned .firsts) (parentOf p j) (omega (arith, target)))
 
     pub send-place : f + (sent - 1) < 2048
-    send-place = omega (arith, is-place, place-below p (parentOf p j) (sent - 1) (target .3) (target .1), work-range p ok′)
+    send-place = omega (arith, is-place, place-below p (parentOf p j) (sent - 1) (target .3) (target .1), total-range p ok′)
 
     -- one less is missing there
     pub send-misses : getD missing (f + (sent - 1)) 0 ≡ suc (missingTo p (afterOf s j) (parentOf p j) (sent - 1))

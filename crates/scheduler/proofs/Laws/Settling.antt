@@ -15,7 +15,7 @@ use Rattle.plan.specs.Plan.{Plan, job, size, action, parent as parentOf}
 use Rattle.plan.specs.Rules.{Accepted}
 use Rattle.plan.proofs.Laws.Lists.{both-intro, both-left, both-right, true-of, false-of}
 use Rattle.plan.proofs.Laws.Placed.{start-suc, first-at, frame-at, place-below}
-use Rattle.plan.proofs.Laws.Valid.{older, frame-range, jobs-range, work-range, spawned-once, join-target}
+use Rattle.plan.proofs.Laws.Valid.{older, frame-range, jobs-range, total-range, spawned-once, join-target}
 use Rattle.scheduler.specs.declared.turn.Turned.{Turned}
 use Rattle.runs.specs.declared.worker.Worker.{Worker}
 use Rattle.runs.specs.declared.worker.Worker.the-variants.{Idle, Holding}
@@ -180,7 +180,7 @@ module _ {p : Plan} {n : ℕ} {choices : List ℕ} {r : ℕ} {b : List Worker} {
 
     pub settle-room : k + 1 < 2048
     settle-room =
-        omega (arith, g .acting .here, place-below p j (suc (nextOf s j)) (known .0) more, work-range p (g .acting .planned .accepted))
+        omega (arith, g .acting .here, place-below p j (suc (nextOf s j)) (known .0) more, total-range p (g .acting .planned .accepted))
 
     misses : getD missing (k + 1) 0 ≡ missingTo p (afterOf s j) j (suc (nextOf s j))
     misses =

@@ -9,7 +9,7 @@ use native.Mathlib.Nat.{zero-mod}
 use native.Mathlib.Omega.{arith}
 use lib.ListN.{length, getD, drop, replicate}
 use borrow.Author.Tests.{le-leb, lt-leb}
-use Rattle.plan.specs.Plan.{Plan, size, work}
+use Rattle.plan.specs.Plan.{Plan, size, total}
 use Rattle.plan.proofs.Laws.Placed.{start-suc, first-at}
 use Rattle.plan.proofs.Laws.Valid.{jobs-range}
 use Rattle.scheduler.specs.declared.account.Account.{Account}
@@ -38,7 +38,7 @@ module _ (p : Plan) (n : ℕ) (choices frame first spawn join parent entering : 
   unfolding start
   first-pointed = sym (zero-mod (length choices))
 
-  pub first-stands : (weight : ℕ) (rows : List ℕ) → weight ≡ getD frame 0 0 → 2 * work p ≤ length rows
+  pub first-stands : (weight : ℕ) (rows : List ℕ) → weight ≡ getD frame 0 0 → 2 * total p ≤ length rows
       → Standing p n choices (firstAccount weight) 0 rows firstSeats (replicate 32 0) firstEnds rows (replicate 256 0) entering (replicate 4096 0) (replicate 16 0) (replicate 16 0)
   first-stands weight rows e room =
       record {

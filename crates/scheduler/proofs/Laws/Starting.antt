@@ -5,7 +5,7 @@ use mathlib.Core.Path.{_≡_, refl, sym, ap, _∙_}
 use mathlib.Core.List.{List, [], _∷_}
 use native.Mathlib.Omega.{arith}
 use lib.ListN.{length, getD, replicate, getD-replicate}
-use Rattle.plan.specs.Plan.{Plan, job, size, work, placed, noPlaced, entering as enteringOf}
+use Rattle.plan.specs.Plan.{Plan, job, size, total, placed, noPlaced, entering as enteringOf}
 use Rattle.plan.proofs.Laws.Lists.{array-at}
 use Rattle.plan.proofs.Laws.Placed.{placed-length, placed-at, place-below, frame-at}
 use Rattle.plan.proofs.Laws.Valid.{jobs-range}
@@ -57,7 +57,7 @@ module _ (p : Plan) (n : ℕ) (choices frame first spawn join parent entering : 
   first-missing : (j i : ℕ) → j < length p → i < size p j → getD entering (place p j i) 0 ≡ missingTo p (start p .next) j i
   unfolding start
   first-missing j i h k =
-      array-at (λ a. enteringOf p (a .job) (a .position)) entering (placed p) noPlaced (work p) (g .entered) (placed-length p) (place p j i) (place-below p j i h k)
+      array-at (λ a. enteringOf p (a .job) (a .position)) entering (placed p) noPlaced (total p) (g .entered) (placed-length p) (place p j i) (place-below p j i h k)
       ∙ (ap (λ a. enteringOf p (a .job) (a .position)) (placed-at p j i h k) ∙ sym (missing-start p j i))
 
   first-progress : Progressed p (start p .next) (replicate 256 0) entering
@@ -76,7 +76,7 @@ module _ (p : Plan) (n : ℕ) (choices frame first spawn join parent entering : 
       let f : weight ≡ job p 0 .frame = e ∙ frame-at p frame (g .planned .frames) 0 (jobs-range p ok .0) in
       record { seated = first-seats p; weighs = f ∙ sym (start-weight p ok); counts = rw f refl }
 
-  pub first-machine : (weight : ℕ) (rows : List ℕ) → weight ≡ getD frame 0 0 → 2 * work p ≤ length rows
+  pub first-machine : (weight : ℕ) (rows : List ℕ) → weight ≡ getD frame 0 0 → 2 * total p ≤ length rows
       → Machine p (start p) (firstAccount weight) firstSeats rows (replicate 256 0) entering (replicate 4096 0) (replicate 16 0) (replicate 16 0)
   first-machine weight rows e room =
       record {

@@ -10,7 +10,7 @@ use native.Mathlib.Omega.{arith}
 use native.Mathlib.Nat.{le-refl}
 use lib.ListN.{length, getD, set, length-set}
 use lib.Seq.{getD-set-same, getD-set-other, drop-set-lt}
-use Rattle.plan.specs.Plan.{Plan, size, work}
+use Rattle.plan.specs.Plan.{Plan, size, total}
 use Rattle.plan.proofs.Laws.Valid.{jobs-range}
 use Rattle.plan.proofs.Laws.Placed.{place-below, first-at}
 use Rattle.scheduler.specs.declared.account.Account.{Account}
@@ -51,16 +51,16 @@ module _ (rows : List ℕ) (k r w : ℕ) where
   written-other x f g =
       getD-set-other (set rows (2 * k) (r / 16)) (2 * k + 1) x (r % 16 * 16 + w) 0 g ∙ getD-set-other rows (2 * k) x (r / 16) 0 f
 
-  written-kept : (p : Plan) → k < work p → Kept p rows (written rows k r w)
+  written-kept : (p : Plan) → k < total p → Kept p rows (written rows k r w)
   written-kept p h = (
     written-length,
-    drop-set-lt (2 * work p) (set rows (2 * k) (r / 16)) (2 * k + 1) (r % 16 * 16 + w) (omega arith)
-        ∙ drop-set-lt (2 * work p) rows (2 * k) (r / 16) (omega arith),
+    drop-set-lt (2 * total p) (set rows (2 * k) (r / 16)) (2 * k + 1) (r % 16 * 16 + w) (omega arith)
+        ∙ drop-set-lt (2 * total p) rows (2 * k) (r / 16) (omega arith),
   )
 
 -- the rows after an action
 acts-printed : (p : Plan) (r w j : ℕ) (s s′ : State) (rows : List ℕ) → Acts p r w j (core s) (core s′)
-    → ((h : ℕ) → h < length p → nextOf s h ≤ size p h) → place p j (nextOf s j) < work p → Printed p s rows
+    → ((h : ℕ) → h < length p → nextOf s h ≤ size p h) → place p j (nextOf s j) < total p → Printed p s rows
     → Printed p s′ (written rows (place p j (nextOf s j)) r w)
 acts-printed p r w j s s′ rows a bound within printed = record {
   room = omega (arith, written-length rows k r w, printed .room);
@@ -91,7 +91,7 @@ acts-printed p r w j s s′ rows a bound within printed = record {
 pub record Ahead (p : Plan) (r w j : ℕ) (s : State) : Type 0 where
   pub known : j < length p
   pub small : j < 256
-  pub within : place p j (nextOf s j) < work p
+  pub within : place p j (nextOf s j) < total p
   pub early : r ≤ 2048
   pub few : s .tally .actions ≤ 2048
   pub bound : (h : ℕ) → h < length p → nextOf s h ≤ size p h

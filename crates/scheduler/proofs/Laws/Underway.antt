@@ -7,9 +7,9 @@ use mathlib.Core.Bool.{Bool, true, false}
 use mathlib.Core.List.{List}
 use native.Mathlib.Nat.{le-refl, suc-inj}
 use native.Mathlib.Omega.{arith}
-use Rattle.plan.specs.Plan.{Plan, work}
+use Rattle.plan.specs.Plan.{Plan, total}
 use Rattle.plan.specs.Rules.{Accepted}
-use Rattle.plan.proofs.Laws.Valid.{work-range}
+use Rattle.plan.proofs.Laws.Valid.{total-range}
 use Rattle.runs.specs.State.{State, start}
 use Rattle.runs.specs.Turn.{turns}
 use Rattle.runs.specs.Run.{ended, round, rounds, run}
@@ -18,7 +18,7 @@ use Rattle.runs.proofs.Laws.Rounds.{rounds-known, numbered-late, not-ended}
 use Rattle.runs.proofs.Laws.Whole.{turns-trace, lays-trace, serves-trace, round-last, round-on, rounds-stop, rounds-on, round-most}
 
 pub data Underway (p : Plan) (n : ℕ) (choices : List ℕ) (s : State) : Type 0 where
-  begun : (r k : ℕ) → Trace p n choices r (s .workers) (turning 0) s → run p n choices ≡ rounds k p n choices s → work p < k + r
+  begun : (r k : ℕ) → Trace p n choices r (s .workers) (turning 0) s → run p n choices ≡ rounds k p n choices s → total p < k + r
       → Underway p n choices s
   over : ended p s ≡ true → run p n choices ≡ s → Underway p n choices s
 
@@ -31,7 +31,7 @@ pub record Rounded (p : Plan) (n : ℕ) (choices : List ℕ) (s : State) : Type 
 module _ (p : Plan) (n : ℕ) (choices : List ℕ) where
   pub underway-start : Underway p n choices (start p)
   unfolding run
-  underway-start = begun 1 (work p) begins refl (omega arith)
+  underway-start = begun 1 (total p) begins refl (omega arith)
 
   pub underway-over : (s : State) → Underway p n choices s → ended p s ≡ true → run p n choices ≡ s
   underway-over s (over e q) f = q
@@ -54,7 +54,7 @@ module _ (p : Plan) (ok : Accepted p) (n : ℕ) (some : 1 ≤ n) (most : n ≤ 1
       known = rounds-known p ok n some most choices t
 
       low : r ≤ 2048
-      low = omega (arith, round-most p ok n some most choices t, work-range p ok)
+      low = omega (arith, round-most p ok n some most choices t, total-range p ok)
 
       taken : Trace p n choices r (s .workers) (turning n) half
       taken = turns-trace p n choices t n (le-refl n)

@@ -9,7 +9,7 @@ use native.Mathlib.Omega.{arith}
 use borrow.Author.Needs.{needs}
 use lib.ListN.{length, take, length-set, getD-replicate}
 use lib.Seq.{getD-set-same, getD-set-other}
-use Rattle.plan.specs.Plan.{Plan, work}
+use Rattle.plan.specs.Plan.{Plan, total}
 use Rattle.courses.specs.Row.{Row}
 use Rattle.plan.proofs.Laws.Counts.{passed, not-passed}
 use Rattle.checker.specs.Given.{RulesGiven}
@@ -42,7 +42,7 @@ abbrev Inv-jobs : tie.InvT-jobs
 Inv-jobs schedule workers jobs first spawn join parent last₀ earlier₀ kept₀ j₀ last earlier kept j =
     (kept ≡ true) × (length last ≡ 4096) × (length earlier ≡ 2048) × (jobs ≤ 256) × (j ≤ jobs)
     × ((p : Plan) (rows : List Row) → RulesGiven p rows jobs schedule first spawn join parent
-    → Seen p workers (work (take j p)) (work (take j p)) (word schedule) (entry last) (entry earlier))
+    → Seen p workers (total (take j p)) (total (take j p)) (word schedule) (entry last) (entry earlier))
 
 abbrev μ-jobs : tie.MeasureT-jobs
 μ-jobs schedule workers jobs first spawn join parent last₀ earlier₀ kept₀ j₀ last earlier kept j = jobs - j

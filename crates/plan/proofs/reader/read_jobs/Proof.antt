@@ -15,7 +15,7 @@ use Rattle.plan.specs.Field.{Step, stop, step}
 use Rattle.plan.specs.Reader.{jobsAt}
 use Rattle.plan.specs.Progress.{Arrays, ArraysLong, Held, JobRead, JobLaid, jobAt}
 use Rattle.plan.proofs.Laws.Steps.{after, job-next, jobs-more, jobs-stop}
-use Rattle.plan.proofs.Laws.Written.{work-append, frames-more, firsts-more, placed-more, laid-long}
+use Rattle.plan.proofs.Laws.Written.{total-append, frames-more, firsts-more, placed-more, laid-long}
 use Rattle.plan.proofs.reader.read_jobs.Statement.{statement}
 use Rattle.plan.proofs.reader.read_jobs.Tie as tie
 
@@ -67,7 +67,7 @@ module _ (s : List ℕ) (at jobs : ℕ) (a : Arrays) (place actions j : ℕ) (h 
         let w = h .held .all in
         record {
           count = omega (arith, c, length-append (h .p) (x ∷ []));
-          all = omega (arith, w, l .ends, work-append (h .p) (x ∷ []));
+          all = omega (arith, w, l .ends, total-append (h .p) (x ∷ []));
           frames = frames-more (h .p) x (a .frame) (b .frame) (h .held .frames) (rw c at (l .frames));
           firsts = firsts-more (h .p) x end (a .first) (b .first) (h .held .firsts) (omega (arith, w, l .ends)) (rw (add-one, c) at (l .firsts));
           owners = placed-more (h .p) x (λ a. a .job) (a .rows .job) (b .rows .job) (h .held .owners) (rw (w, c) at (l .rows .owners));

@@ -4,7 +4,7 @@ use Prim.Native.Nat.{_+_, _-_, _<_}
 use native.Mathlib.Omega.{arith}
 use denote.Ref.{now}
 use borrow.Author.Needs.{needs}
-use Rattle.plan.proofs.Laws.Spawning.{work-in-range}
+use Rattle.plan.proofs.Laws.Spawning.{total-in-range}
 use Rattle.plan.proofs.Laws.Joining.{counted-root, told-last, refused-root, refused-early, refused-outside, refused-after-spawn, refused-ninth, counted-more, Target, target-small}
 use Rattle.plan.proofs.rules.join_rule.Statement.{statement}
 use Rattle.plan.proofs.rules.join_rule.Tie as tie
@@ -30,16 +30,16 @@ small c =
     target-small (x .0) _ _ _ _ _ _ _ (x .1) (x .2) _ (x .3) _ _ (c .before .before .before .before .before .before .before .before .before .before .before .before .before .before .wide8 .ensures .0) (c .before .before .before .before .before .before .before .before .before .before .before .before .wide16 .ensures .0) _ _ _ _ (target (c .before)) (c .if5 .left)
 
 element-copy-out-wide8 : tie.Need-element-copy-out-wide8
-element-copy-out-wide8 c = let x = c .pre in omega (arith, work-in-range (x .0) (x .1 .range), x .2)
+element-copy-out-wide8 c = let x = c .pre in omega (arith, total-in-range (x .0) (x .1 .range), x .2)
 
 wide8-requires : tie.Need-wide8-requires
 wide8-requires c κs = tt
 
 mul-wide16 : tie.Need-mul-wide16
-mul-wide16 c = let x = c .before .before .pre in omega (arith, work-in-range (x .0) (x .1 .range), x .2)
+mul-wide16 c = let x = c .before .before .pre in omega (arith, total-in-range (x .0) (x .1 .range), x .2)
 
 element-copy-out-wide16 : tie.Need-element-copy-out-wide16
-element-copy-out-wide16 c = let x = c .before .before .pre in omega (arith, work-in-range (x .0) (x .1 .range), x .2)
+element-copy-out-wide16 c = let x = c .before .before .pre in omega (arith, total-in-range (x .0) (x .1 .range), x .2)
 
 wide16-requires : tie.Need-wide16-requires
 wide16-requires c κs = tt
@@ -49,7 +49,7 @@ returns c =
     λ p g b r. counted-root p _ _ _ _ _ _ _ g b _ r _ _ (c .before .before .before .before .wide8 .ensures .0) (c .before .before .wide16 .ensures .0) (c .before .if1 .taken) (c .if2 .taken)
 
 add-result : tie.Need-add-result
-add-result c = let x = c .before .before .before .before .before .before .pre in omega (arith, work-in-range (x .0) (x .1 .range), x .2)
+add-result c = let x = c .before .before .before .before .before .before .pre in omega (arith, total-in-range (x .0) (x .1 .range), x .2)
 
 add-wide16 : tie.Need-add-wide16
 add-wide16 c = omega arith

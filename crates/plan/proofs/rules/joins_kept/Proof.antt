@@ -4,7 +4,7 @@ use Prim.Native.Nat.{_≤_, _-_}
 use mathlib.Core.Path.{_≡_}
 use native.Mathlib.Omega.{arith}
 use native.Mathlib.Numerals.{add-one}
-use Rattle.plan.specs.Plan.{Plan, work}
+use Rattle.plan.specs.Plan.{Plan, total}
 use Rattle.plan.specs.Given.{JoinsGiven}
 use Rattle.plan.specs.Kept.{Counted}
 use Rattle.plan.proofs.Laws.Counts.{passed, not-passed}
@@ -50,7 +50,7 @@ loop-again c = (
 
 returns-2 : tie.Need-returns-2 Inv-loop μ-loop
 returns-2 c = λ p g r.
-    let e : c .before .loop .k ≡ work p = omega (arith, g .all) in
+    let e : c .before .loop .k ≡ total p = omega (arith, g .all) in
     told-kept p _ _ (rw e at (c .before .loop .inv .1 p g r))
 
 pub joins-kept-spec : {M : Type 1} → statement M

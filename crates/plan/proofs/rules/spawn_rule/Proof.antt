@@ -2,16 +2,16 @@
 -- Assumes nothing.
 use native.Mathlib.Omega.{arith}
 use borrow.Author.Needs.{needs}
-use Rattle.plan.proofs.Laws.Spawning.{jobs-in-range, work-in-range}
+use Rattle.plan.proofs.Laws.Spawning.{jobs-in-range, total-in-range}
 use Rattle.plan.proofs.Laws.Recording.{position-here, recorded-none, refused-many, refused-older, refused-twice, recorded-new}
 use Rattle.plan.proofs.rules.spawn_rule.Statement.{statement}
 use Rattle.plan.proofs.rules.spawn_rule.Tie as tie
 
 mul-wide16 : tie.Need-mul-wide16
-mul-wide16 c = omega (arith, work-in-range (c .pre .0) (c .pre .1 .range), c .pre .2)
+mul-wide16 c = omega (arith, total-in-range (c .pre .0) (c .pre .1 .range), c .pre .2)
 
 element-copy-out-wide16 : tie.Need-element-copy-out-wide16
-element-copy-out-wide16 c = omega (arith, work-in-range (c .pre .0) (c .pre .1 .range), c .pre .2)
+element-copy-out-wide16 c = omega (arith, total-in-range (c .pre .0) (c .pre .1 .range), c .pre .2)
 
 wide16-requires : tie.Need-wide16-requires
 wide16-requires c κs = search needs
@@ -28,7 +28,7 @@ returns-2 c =
     λ p g h r. refused-many p _ _ _ _ _ g h _ _ r _ (c .before .before .wide16 .ensures .0) (c .before .if1 .left) (c .if2 .taken)
 
 element-copy-out-wide8 : tie.Need-element-copy-out-wide8
-element-copy-out-wide8 c = let x = c .before .before .before .before .pre in omega (arith, work-in-range (x .0) (x .1 .range), x .2)
+element-copy-out-wide8 c = let x = c .before .before .before .before .pre in omega (arith, total-in-range (x .0) (x .1 .range), x .2)
 
 wide8-requires : tie.Need-wide8-requires
 wide8-requires c κs = search needs
@@ -45,7 +45,7 @@ returns-4 c =
     λ p g h r. refused-twice p _ _ _ _ _ g h _ _ r _ (c .before .before .before .before .before .before .before .wide16 .ensures .0) (c .before .before .before .before .before .before .if1 .left) (c .before .before .before .before .before .if2 .left) (c .if4 .taken)
 
 element-copy-out-parent : tie.Need-element-copy-out-parent
-element-copy-out-parent c = let x = c .before .before .before .before .before .before .before .before .before .pre in omega (arith, work-in-range (x .0) (x .1 .range), x .2)
+element-copy-out-parent c = let x = c .before .before .before .before .before .before .before .before .before .pre in omega (arith, total-in-range (x .0) (x .1 .range), x .2)
 
 element-write-parent : tie.Need-element-write-parent
 element-write-parent c = let x = c .before .before .before .before .before .before .before .before .before .before .pre in omega (arith, jobs-in-range (x .0) (x .1 .range), x .1 .count)

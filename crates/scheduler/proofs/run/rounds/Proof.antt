@@ -4,7 +4,7 @@ use Prim.Native.Nat.{_*_, _-_, _≤_, _<_}
 use native.Mathlib.Omega.{arith}
 use borrow.Author.Needs.{needs}
 use lib.ListN.{length, getD}
-use Rattle.plan.specs.Plan.{Plan, work}
+use Rattle.plan.specs.Plan.{Plan, total}
 use Rattle.scheduler.specs.Machine.{RunGiven}
 use Rattle.scheduler.proofs.Laws.Standing.{Standing, first-stands, ends, round-given, round-less, round-stands}
 use Rattle.scheduler.proofs.run.rounds.Statement.{statement}
@@ -12,8 +12,8 @@ use Rattle.scheduler.proofs.run.rounds.Tie as tie
 
 abbrev Inv-loop : tie.InvT-loop
 Inv-loop n choices rows₀ frame first spawn join parent missing₀ next₀ slots₀ top₀ len₀ seats₀ cursor₀ after₀ last₀ weight a₀ rows missing next slots top len seats cursor after last a =
-    ((p : Plan) × RunGiven p n choices frame first spawn join parent missing₀ × (2 * work p ≤ length rows₀))
-    × ((p : Plan) → RunGiven p n choices frame first spawn join parent missing₀ → 2 * work p ≤ length rows₀
+    ((p : Plan) × RunGiven p n choices frame first spawn join parent missing₀ × (2 * total p ≤ length rows₀))
+    × ((p : Plan) → RunGiven p n choices frame first spawn join parent missing₀ → 2 * total p ≤ length rows₀
     → Standing p n choices a cursor rows₀ seats after last rows next missing slots top len)
 
 abbrev μ-loop : tie.MeasureT-loop
