@@ -16,6 +16,7 @@ use Rattle.plan.specs.Plan.{Action, Job, Plan, spawnAt, entering}
 use Rattle.plan.specs.Rules.{inRange, spawnRules, joinRules, Accepted}
 use Rattle.courses.specs.Row.{Row, noRow, place}
 use Rattle.runs.specs.State.{State}
+use Rattle.runs.specs.Setting.{setting}
 use Rattle.runs.specs.Run.{run}
 use Rattle.runs.specs.Cases.{row}
 
@@ -70,16 +71,16 @@ unfolding inRange spawnRules joinRules entering spawnAt
 L-accepted = record { range = tt; spawns = tt; joins = tt }
 
 abbrev G-run : State
-G-run = run G 2 (0 ∷ [])
+G-run = run (setting G 2 (0 ∷ []))
 
 abbrev H-run : State
-H-run = run H 2 (1 ∷ 0 ∷ [])
+H-run = run (setting H 2 (1 ∷ 0 ∷ []))
 
 abbrev K-run : State
-K-run = run K 2 (0 ∷ [])
+K-run = run (setting K 2 (0 ∷ []))
 
 abbrev L-run : State
-L-run = run L 3 (0 ∷ [])
+L-run = run (setting L 3 (0 ∷ []))
 
 abbrev done : Plan → State → ℕ → ℕ → Row
 done p s j i = getD (s .rows) (place p j i) noRow

@@ -1,4 +1,5 @@
 -- What holds of the definitions in specs/, in named modules.
+pub mod Fit
 pub mod Admitted
 pub mod Lined
 pub mod TurnSound
@@ -19,3 +20,4 @@ pub mod Served
 pub mod OwnSchedule
 pub mod Demand3
 pub mod Starred
+pub mod Plain

@@ -1,4 +1,5 @@
 -- What a reader must believe of a run, in document 01's order. Parts names steps for proofs alone.
+pub mod Setting
 pub mod State
 pub mod Turn
 pub mod Steal

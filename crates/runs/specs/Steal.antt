@@ -1,7 +1,7 @@
 -- Requests and services, the second half of a round (document 01, "Worker and round").
---   lay, lays       == worker w lays a request, if it held nothing when the round began and has none; the workers below k
+--   lay S r w, lays S r k == worker w lays a request in round r, if it held nothing when the round began and has none; the workers below k
 --   oldest v k ws   == which of the workers below k has the request that victim v serves: the worker's number plus 1, or 0
---   serve, serves   == victim v serves one request; the victims below k
+--   serve v, serves S r k == victim v serves one request; the victims below k in round r
 --   waits x         == 1 where the worker x waits with a request, or 0
 --   waiting k ws    == how many requests wait, of the workers below k
 -- Assumes nothing.
@@ -12,12 +12,14 @@ use lib.ListN.{length, getD, set}
 use lib.Dec.{eqb, ltb}
 use Rattle.runs.specs.declared.worker.Worker.{Worker}
 use Rattle.runs.specs.declared.worker.Worker.the-variants.{Idle, Holding, Waiting}
+use Rattle.runs.specs.Setting.{Setting, countIn}
 use Rattle.runs.specs.State.{State, dequeOf}
 
 -- "request number k (from 0) reads entry k modulo the length"
-unfoldable pub laid : List ℕ → ℕ → ℕ → State → State
-laid choices r w s =
+unfoldable pub laid : Setting → ℕ → ℕ → State → State
+laid S r w s =
     let t = s .tally in
+    let choices = S .choices in
     record {
       next = s .next;
       workers = set (s .workers) w (Waiting (getD choices ((t .requests) % length choices) 0) r);
@@ -35,16 +37,16 @@ laid choices r w s =
     }
 
 -- "the other workers that hold nothing since the round's start .. each lay a request if they have none"
-unfoldable pub lay : List ℕ → ℕ → ℕ → Worker → State → State
+unfoldable pub lay : Setting → ℕ → ℕ → Worker → State → State
 unfolding laid
-lay choices r w Idle s = laid choices r w s
-lay choices r w (Holding j) s = s
-lay choices r w (Waiting v l) s = s
+lay S r w Idle s = laid S r w s
+lay S r w (Holding j) s = s
+lay S r w (Waiting v l) s = s
 
-unfoldable pub lays : List ℕ → ℕ → ℕ → List Worker → State → State
+unfoldable pub lays : Setting → ℕ → ℕ → List Worker → State → State
 unfolding lay
-lays choices r zero began s = s
-lays choices r (suc k) began s = lay choices r k (getD began k Idle) (lays choices r k began s)
+lays S r zero began s = s
+lays S r (suc k) began s = lay S r k (getD began k Idle) (lays S r k began s)
 
 pub record Pick : Type 0 where
   pub who : ℕ
@@ -121,10 +123,10 @@ serve v zero s = s
 serve v (suc w) s = given v w (dequeOf s v) s
 
 -- "every victim, in rising number, serves one request"
-unfoldable pub serves : ℕ → ℕ → State → State
+unfoldable pub serves : Setting → ℕ → ℕ → State → State
 unfolding serve oldest
-serves n zero s = s
-serves n (suc k) s = let t = serves n k s in serve k (oldest k n (t .workers) .who) t
+serves S r zero s = s
+serves S r (suc k) s = let t = serves S r k s in serve k (oldest k (countIn S r) (t .workers) .who) t
 
 -- "requests still waiting": a worker has at most one
 abbrev pub waits : Worker → ℕ

@@ -1,5 +1,4 @@
 -- An accepted plan is run, or turned down for its worker count or its choices.
--- Assumes nothing.
 use Prim.Native.Nat.{ℕ, _≤_}
 use mathlib.Core.Path.{_≡_, refl}
 use mathlib.Core.Logic.{_⊎_, inl, inr}
@@ -9,6 +8,7 @@ use lib.Dec.{leb, leb→le}
 use Rattle.plan.specs.Refusal.{refused, accepted}
 use Rattle.plan.specs.Plan.{Plan}
 use Rattle.plan.proofs.Laws.Lists.{both-left, both-right, of-true}
+use Rattle.runs.specs.Setting.{setting}
 use Rattle.runs.specs.Run.{run, workersFit, choicesFit, admitted}
 
 module _ (p : Plan) (n : ℕ) (choices : List ℕ) where
@@ -17,7 +17,7 @@ module _ (p : Plan) (n : ℕ) (choices : List ℕ) where
     pub not-run : admitted (accepted p) n choices ≡ refused cause
 
   pub record Went : Type 0 where
-    pub ran : admitted (accepted p) n choices ≡ accepted (run p n choices)
+    pub ran : admitted (accepted p) n choices ≡ accepted (run (setting p n choices))
     pub some : 1 ≤ n
     pub most : n ≤ 16
 

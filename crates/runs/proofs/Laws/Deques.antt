@@ -1,6 +1,5 @@
 -- The deques of every state of a run: with the job that is held below it, a deque is a chain of jobs, each the child of the one
 -- above it, so that it has room in 255 places; a worker that holds nothing has none.
--- Assumes nothing.
 use Prim.Native.Nat.{ℕ, _≤_, _<_}
 use mathlib.Core.Path.{_≡_, refl}
 use mathlib.Core.Logic.{inl, inr}
@@ -10,12 +9,14 @@ use lib.ListN.{length}
 use Rattle.runs.specs.declared.worker.Worker.{Worker}
 use Rattle.runs.specs.declared.worker.Worker.the-variants.{Idle, Holding, Waiting}
 use Rattle.plan.specs.Plan.{Plan}
+use Rattle.runs.specs.Setting.{Setting, countIn}
 use Rattle.runs.specs.State.{State, workerOf, dequeOf}
 use Rattle.lines.proofs.Laws.Member.{_∈_}
 use Rattle.lines.proofs.Laws.Shape.{Shape, Valid, Chain}
 use Rattle.plan.specs.Rules.{Accepted}
 use Rattle.plan.proofs.Laws.Valid.{jobs-range}
 use Rattle.courses.proofs.Laws.PlanShape.{shape-valid}
+use Rattle.runs.proofs.Laws.Fit.{Fit}
 use Rattle.runs.proofs.Laws.Lined.{line-of}
 use Rattle.runs.specs.Trace.{Stage, Trace}
 use Rattle.runs.proofs.Laws.Sound.{shape, Sound, trace-sound}
@@ -66,17 +67,17 @@ module _ (p : Plan) (ok : Accepted p) (n : ℕ) (s : State) (sound : Sound p n s
           let h = chain-length (shape p) (shape-valid p ok) j (dequeOf s w) in-line (sound-chain w j e) in
           omega (arith, in-line j (inl refl), jobs-range p ok)
 
-module _ (p : Plan) (ok : Accepted p) (n : ℕ) (some : 1 ≤ n) (most : n ≤ 16) (choices : List ℕ) {r : ℕ} {b : List Worker} {g : Stage} {s : State}
-    (t : Trace p n choices r b g s) where
+module _ (S : Setting) (fit : Fit S) {r : ℕ} {b : List Worker} {g : Stage} {s : State}
+    (t : Trace S r b g s) where
   -- the held job is lowest, and each job on the deque, from the bottom up, is the parent of the one below it
-  pub deque-chain : (w j : ℕ) → workerOf s w ≡ Holding j → Chain (shape p) (j ∷ dequeOf s w)
-  deque-chain = sound-chain p ok n s (trace-sound p ok n some most choices t)
+  pub deque-chain : (w j : ℕ) → workerOf s w ≡ Holding j → Chain (shape (S .plan)) (j ∷ dequeOf s w)
+  deque-chain = sound-chain (S .plan) (fit .plan) (countIn S r) s (trace-sound S fit t)
 
   pub deque-empty : (w : ℕ) → ((j : ℕ) → workerOf s w ≡ Holding j → ⊥) → dequeOf s w ≡ []
-  deque-empty = sound-empty p ok n s (trace-sound p ok n some most choices t)
+  deque-empty = sound-empty (S .plan) (fit .plan) (countIn S r) s (trace-sound S fit t)
 
-  pub deque-known : (w x : ℕ) → x ∈ dequeOf s w → x < length p
-  deque-known = sound-known p ok n s (trace-sound p ok n some most choices t)
+  pub deque-known : (w x : ℕ) → x ∈ dequeOf s w → x < length (S .plan)
+  deque-known = sound-known (S .plan) (fit .plan) (countIn S r) s (trace-sound S fit t)
 
   pub deque-height : (w : ℕ) → length (dequeOf s w) ≤ 255
-  deque-height = sound-height p ok n s (trace-sound p ok n some most choices t)
+  deque-height = sound-height (S .plan) (fit .plan) (countIn S r) s (trace-sound S fit t)

@@ -8,14 +8,15 @@ use lib.ListN.{length}
 use lib.Dec.{T}
 use Rattle.runs.specs.declared.worker.Worker.{Worker}
 use Rattle.plan.specs.Refusal.{Outcome, refused, accepted}
-use Rattle.plan.specs.Plan.{Plan, total}
+use Rattle.plan.specs.Plan.{total}
 use Rattle.plan.specs.Reader.{readPlan}
 use Rattle.runs.specs.State.{State}
 use Rattle.runs.specs.Run.{ended}
+use Rattle.runs.specs.Setting.{Setting, countIn}
 use Rattle.courses.specs.Schedule.{scheduleBytes, keeps, readSchedule, ruled, judgedBy, checked}
-use Rattle.plan.specs.Rules.{Accepted}
 use Rattle.plan.proofs.Laws.Valid.{total-range}
 use Rattle.runs.specs.Trace.{turning, Trace}
+use Rattle.runs.proofs.Laws.Fit.{Fit}
 use Rattle.courses.proofs.Laws.ScheduleBytes.{Small, schedule-read}
 use Rattle.runs.proofs.Laws.Coursed.{rows-length, run-row, run-keeps}
 
@@ -24,22 +25,24 @@ unbroken true h = refl
 unbroken false h = absurd h
 
 -- the end of a run
-module _ (p : Plan) (ok : Accepted p) (n : ℕ) (some : 1 ≤ n) (most : n ≤ 16) (choices : List ℕ) {r : ℕ} {b : List Worker} {s : State}
-    (t : Trace p n choices r b (turning n) s) (e : ended p s ≡ true) (few : r ≤ 4095) where
+module _ (S : Setting) (fit : Fit S) {r : ℕ} {b : List Worker} {s : State}
+    (t : Trace S r b (turning (countIn S r)) s) (e : ended (S .plan) s ≡ true) (few : r ≤ 4095) where
+  open Setting S using (plan)
+
   -- its schedule is well formed
-  pub run-schedule : readSchedule (scheduleBytes n (s .rows)) (total p) ≡ accepted (record { workers = n; rows = s .rows })
+  pub run-schedule : readSchedule (scheduleBytes (S .workers) (s .rows)) (total plan) ≡ accepted (record { workers = S .workers; rows = s .rows })
   run-schedule =
-      let long : length (s .rows) ≡ total p = rows-length p ok n some most choices t in
+      let long : length (s .rows) ≡ total plan = rows-length S fit t in
       let small : Small (s .rows) = λ k l.
-      let d = run-row p ok n some most choices t e k (omega arith) in
+      let d = run-row S fit t e k (omega arith) in
       (d .first, omega (arith, d .latest), omega (arith, d .known)) in
-      rw (← long) (schedule-read n (s .rows) some most (omega (arith, total-range p ok)) small)
+      rw (← long) (schedule-read (S .workers) (s .rows) (fit .some) (fit .most) (omega (arith, total-range plan (fit .plan))) small)
 
   -- and the checker finds no rule broken
-  pub run-ruled : ruled p (readSchedule (scheduleBytes n (s .rows)) (total p)) ≡ accepted 0
+  pub run-ruled : ruled plan (readSchedule (scheduleBytes (S .workers) (s .rows)) (total plan)) ≡ accepted 0
   unfolding ruled
-  run-ruled = ap (ruled p) run-schedule ∙ unbroken (keeps p n (s .rows)) (run-keeps p ok n some most choices t e)
+  run-ruled = ap (ruled plan) run-schedule ∙ unbroken (keeps plan (S .workers) (s .rows)) (run-keeps S fit t e)
 
-  pub run-checked : (bytes : List ℕ) → readPlan bytes ≡ accepted p → checked bytes (scheduleBytes n (s .rows)) ≡ accepted 0
+  pub run-checked : (bytes : List ℕ) → readPlan bytes ≡ accepted plan → checked bytes (scheduleBytes (S .workers) (s .rows)) ≡ accepted 0
   unfolding checked judgedBy
-  run-checked bytes f = ap (λ o. judgedBy o (scheduleBytes n (s .rows))) f ∙ run-ruled
+  run-checked bytes f = ap (λ o. judgedBy o (scheduleBytes (S .workers) (s .rows))) f ∙ run-ruled

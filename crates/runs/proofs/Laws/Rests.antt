@@ -1,11 +1,11 @@
 -- What a request and a service leave as it was: all that a schedule and the counts of turns rest on.
 --   Rests s t == the state t has the actions, the rows and the counts of turns of s
--- Assumes nothing.
 use Prim.Native.Nat.{ℕ, zero, suc}
 use mathlib.Core.Path.{_≡_, refl}
 use mathlib.Core.List.{List, [], _∷_}
 use Rattle.runs.specs.declared.worker.Worker.{Worker}
 use Rattle.runs.specs.declared.worker.Worker.the-variants.{Idle, Holding, Waiting}
+use Rattle.runs.specs.Setting.{Setting}
 use Rattle.runs.specs.State.{State, dequeOf}
 use Rattle.runs.specs.Steal.{laid, lay, given, serve}
 
@@ -20,11 +20,11 @@ pub record Rests (s t : State) : Type 0 where
 pub same-rests : (s : State) → Rests s s
 same-rests s = record { next = refl; rows = refl; rounds = refl; actions = refl; idle = refl; peak = refl }
 
-pub lay-rests : (choices : List ℕ) (r w : ℕ) (x : Worker) (s : State) → Rests s (lay choices r w x s)
+pub lay-rests : (S : Setting) (r w : ℕ) (x : Worker) (s : State) → Rests s (lay S r w x s)
 unfolding lay laid
-lay-rests choices r w Idle s = record { next = refl; rows = refl; rounds = refl; actions = refl; idle = refl; peak = refl }
-lay-rests choices r w (Holding j) s = same-rests s
-lay-rests choices r w (Waiting v l) s = same-rests s
+lay-rests S r w Idle s = record { next = refl; rows = refl; rounds = refl; actions = refl; idle = refl; peak = refl }
+lay-rests S r w (Holding j) s = same-rests s
+lay-rests S r w (Waiting v l) s = same-rests s
 
 given-rests : (v w : ℕ) (d : List ℕ) (s : State) → Rests s (given v w d s)
 unfolding given

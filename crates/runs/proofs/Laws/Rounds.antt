@@ -1,5 +1,4 @@
 -- The rounds of a run: how they are counted, and that each begins with a worker that holds a job.
--- Assumes nothing.
 use Prim.Native.Nat.{ℕ, zero, suc, _≤_, _<_}
 use mathlib.Core.Path.{_≡_, refl, ap, _∙_}
 use mathlib.Core.Bool.{false}
@@ -12,13 +11,14 @@ use borrow.Author.Tests.{lt-leb}
 use Rattle.runs.specs.declared.worker.Worker.{Worker}
 use Rattle.runs.specs.declared.worker.Worker.the-variants.{Idle, Holding, Waiting}
 use Rattle.plan.specs.Plan.{Plan, size}
+use Rattle.runs.specs.Setting.{Setting, countIn}
 use Rattle.runs.specs.State.{State, nextOf, start}
 use Rattle.runs.specs.Turn.{turn, idled, turnOf}
 use Rattle.runs.specs.Steal.{oldest}
 use Rattle.runs.specs.Run.{ended}
-use Rattle.plan.specs.Rules.{Accepted}
 use Rattle.plan.proofs.Laws.Valid.{jobs-range, size-range}
 use Rattle.runs.specs.Trace.{Stage, turning, laying, serving, Trace, begins, turned, goes-on, laid, all-laid, served, next-round}
+use Rattle.runs.proofs.Laws.Fit.{Fit, count-some}
 use Rattle.runs.proofs.Laws.Sound.{trace-sound, busy}
 use Rattle.runs.proofs.Laws.Rests.{Rests, lay-rests, serve-rests}
 use Rattle.runs.proofs.Laws.Done.{none-done}
@@ -50,42 +50,44 @@ Going p (serving k) s = ended p s ≡ false
 ended-rests : (p : Plan) {s t : State} → Rests s t → ended p s ≡ false → ended p t ≡ false
 ended-rests p q i = ap (λ l. leb (size p 0) (getD l 0 0)) (q .next) ∙ i
 
-module _ (p : Plan) (ok : Accepted p) (n : ℕ) (some : 1 ≤ n) (most : n ≤ 16) (choices : List ℕ) where
+module _ (S : Setting) (fit : Fit S) where
+  open Setting S using (plan)
+
   -- the tally counts the rounds
-  pub rounds-known : {r : ℕ} {b : List Worker} {g : Stage} {s : State} → Trace p n choices r b g s → Numbered g r (s .tally .rounds)
+  pub rounds-known : {r : ℕ} {b : List Worker} {g : Stage} {s : State} → Trace S r b g s → Numbered g r (s .tally .rounds)
   unfolding turnOf turn idled start
   rounds-known begins = refl
   rounds-known (turned {r} {k} {b} {s} t h) = go (getD b k Idle)
     where
-      go : (x : Worker) → turnOf p r k x s .tally .rounds ≡ r
+      go : (x : Worker) → turnOf plan r k x s .tally .rounds ≡ r
       go Idle = refl
       go (Holding j) = refl
       go (Waiting v l) = refl
-  rounds-known (goes-on {r} {b} {s} t e) = numbered-late n r (s .tally .rounds) some (rounds-known t)
-  rounds-known (laid {r} {k} {b} {s} t h) = lay-rests choices r k (getD b k Idle) s .rounds ∙ rounds-known t
+  rounds-known (goes-on {r} {b} {s} t e) = numbered-late (countIn S r) r (s .tally .rounds) (count-some S fit r) (rounds-known t)
+  rounds-known (laid {r} {k} {b} {s} t h) = lay-rests S r k (getD b k Idle) s .rounds ∙ rounds-known t
   rounds-known (all-laid t) = rounds-known t
-  rounds-known (served {r} {k} {b} {s} t h) = serve-rests k (oldest k n (s .workers) .who) s .rounds ∙ rounds-known t
+  rounds-known (served {r} {k} {b} {s} t h) = serve-rests k (oldest k (countIn S r) (s .workers) .who) s .rounds ∙ rounds-known t
   rounds-known (next-round t) = ap suc (rounds-known t)
 
   -- a run goes on from round to round only while job 0 has not ended
-  pub not-ended : {r : ℕ} {b : List Worker} {g : Stage} {s : State} → Trace p n choices r b g s → Going p g s
+  pub not-ended : {r : ℕ} {b : List Worker} {g : Stage} {s : State} → Trace S r b g s → Going plan g s
   not-ended begins =
-      let z = none-done p 0 in
-      lt-leb (size p 0) (nextOf (start p) 0) (omega (arith, size-range p ok 0 (jobs-range p ok .0)))
+      let z = none-done plan 0 in
+      lt-leb (size plan 0) (nextOf (start plan) 0) (omega (arith, size-range plan (fit .plan) 0 (jobs-range plan (fit .plan) .0)))
   not-ended (turned t h) = tt
   not-ended (goes-on t e) = e
-  not-ended (laid {r} {k} {b} {s} t h) = ended-rests p (lay-rests choices r k (getD b k Idle) s) (not-ended t)
+  not-ended (laid {r} {k} {b} {s} t h) = ended-rests plan (lay-rests S r k (getD b k Idle) s) (not-ended t)
   not-ended (all-laid t) = not-ended t
-  not-ended (served {r} {k} {b} {s} t h) = ended-rests p (serve-rests k (oldest k n (s .workers) .who) s) (not-ended t)
+  not-ended (served {r} {k} {b} {s} t h) = ended-rests plan (serve-rests k (oldest k (countIn S r) (s .workers) .who) s) (not-ended t)
   not-ended (next-round t) = not-ended t
 
   -- as each round begins some worker holds a job
-  pub began-busy : {r : ℕ} {b : List Worker} {g : Stage} {s : State} → Trace p n choices r b g s
-      → (w : ℕ) × (j : ℕ) × (w < n) × (getD b w Idle ≡ Holding j)
-  began-busy begins = busy p ok n some most (start p) (trace-sound p ok n some most choices begins) (not-ended begins)
+  pub began-busy : {r : ℕ} {b : List Worker} {g : Stage} {s : State} → Trace S r b g s
+      → (w : ℕ) × (j : ℕ) × (w < countIn S r) × (getD b w Idle ≡ Holding j)
+  began-busy begins = busy plan (fit .plan) (countIn S 1) (start plan) (trace-sound S fit begins) (not-ended begins)
   began-busy (turned t h) = began-busy t
   began-busy (goes-on t e) = began-busy t
   began-busy (laid t h) = began-busy t
   began-busy (all-laid t) = began-busy t
   began-busy (served t h) = began-busy t
-  began-busy (next-round {r} {b} {s} t) = busy p ok n some most s (trace-sound p ok n some most choices t) (not-ended t)
+  began-busy (next-round {r} {b} {s} t) = busy plan (fit .plan) (countIn S (suc r)) s (trace-sound S fit t) (not-ended t)

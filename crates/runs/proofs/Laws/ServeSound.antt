@@ -1,5 +1,4 @@
 -- A request and a service keep a state sound: a request and a miss change no line, and a steal is a theft.
--- Assumes nothing.
 use Prim.Native.Nat.{ℕ, zero, suc, _%_, _≤_, _<_}
 use mathlib.Core.Path.{_≡_, refl, ap, ap₂, sym, subst, fun-ext, _∙_}
 use mathlib.Core.Logic.{_⊎_, inl, inr, _≢_, by-cases}
@@ -14,6 +13,7 @@ use Rattle.runs.specs.declared.tally.Tally.{Tally}
 use Rattle.runs.specs.declared.worker.Worker.{Worker}
 use Rattle.runs.specs.declared.worker.Worker.the-variants.{Idle, Holding, Waiting}
 use Rattle.plan.specs.Plan.{Plan}
+use Rattle.runs.specs.Setting.{Setting}
 use Rattle.runs.specs.State.{State, nextOf, workerOf, dequeOf}
 use Rattle.runs.specs.Steal.{laid, lay, Pick, older, oldest, dropTop, topOf, given, serve}
 use Rattle.lines.proofs.Laws.Shape.{Good}
@@ -46,21 +46,21 @@ free-sound p n most s sound w b free k is t =
         (λ q. rw q (ap (λ x. lineIn x (dequeOf s w)) (getD-set-same (s .workers) w k Idle (omega (arith, sound .workers))) ∙ is (dequeOf s w) ∙ sym free))
         (λ f. ap (λ x. lineIn x (dequeOf s v)) (getD-set-other (s .workers) w v k Idle f))
 
-pub lay-sound : (p : Plan) (n : ℕ) → n ≤ 16 → (choices : List ℕ) (r w : ℕ) (k : Worker) (s : State) → w < n
-    → (k ≡ Idle → workerOf s w ≡ Idle) → Sound p n s → Sound p n (lay choices r w k s)
+pub lay-sound : (p : Plan) (n : ℕ) → n ≤ 16 → (S : Setting) (r w : ℕ) (k : Worker) (s : State) → w < n
+    → (k ≡ Idle → workerOf s w ≡ Idle) → Sound p n s → Sound p n (lay S r w k s)
 unfolding lay
-lay-sound p n most choices r w Idle s b i sound =
-    free-sound p n most s sound w b (line-of s w Idle (i refl)) (Waiting (getD choices (s .tally .requests % length choices) 0) r) (λ d. refl)
-    (laid choices r w s .tally)
-lay-sound p n most choices r w (Holding j) s b i sound = sound
-lay-sound p n most choices r w (Waiting v l) s b i sound = sound
+lay-sound p n most S r w Idle s b i sound =
+    free-sound p n most s sound w b (line-of s w Idle (i refl)) (Waiting (getD (S .choices) (s .tally .requests % length (S .choices)) 0) r) (λ d. refl)
+    (laid S r w s .tally)
+lay-sound p n most S r w (Holding j) s b i sound = sound
+lay-sound p n most S r w (Waiting v l) s b i sound = sound
 
 -- a request changes no other worker
-pub lay-others : (choices : List ℕ) (r w : ℕ) (k : Worker) (s : State) (v : ℕ) → v ≢ w → workerOf (lay choices r w k s) v ≡ workerOf s v
+pub lay-others : (S : Setting) (r w : ℕ) (k : Worker) (s : State) (v : ℕ) → v ≢ w → workerOf (lay S r w k s) v ≡ workerOf s v
 unfolding lay
-lay-others choices r w Idle s v f = getD-set-other (s .workers) w v _ Idle f
-lay-others choices r w (Holding j) s v f = refl
-lay-others choices r w (Waiting u l) s v f = refl
+lay-others S r w Idle s v f = getD-set-other (s .workers) w v _ Idle f
+lay-others S r w (Holding j) s v f = refl
+lay-others S r w (Waiting u l) s v f = refl
 
 -- the request that is picked is the one before, or this one
 abbrev Picked : ℕ → ℕ → ℕ → ℕ → Pick → Pick → Type 0

@@ -1,5 +1,4 @@
 -- What holds of every state of a run: its lines are good, and a worker that holds nothing has an empty deque.
--- Assumes nothing.
 use Prim.Native.Nat.{ℕ, zero, suc, _*_, _≤_, _<_}
 use mathlib.Core.Path.{_≡_, refl, _∙_}
 use mathlib.Core.Logic.{_≢_, by-cases}
@@ -17,6 +16,7 @@ use Rattle.plan_measure.specs.Measure.{heaviest}
 use Rattle.runs.specs.State.{State, nextOf, workerOf, dequeOf, start}
 use Rattle.courses.specs.Row.{noRow}
 use Rattle.courses.specs.Ready.{weight}
+use Rattle.runs.specs.Setting.{Setting, countIn}
 use Rattle.runs.specs.Run.{ended}
 use Rattle.lines.proofs.Laws.Shape.{Living, Leaves}
 use Rattle.lines.proofs.Laws.Start.{start-good}
@@ -29,6 +29,7 @@ use Rattle.plan.specs.Rules.{Accepted}
 use Rattle.plan.proofs.Laws.Valid.{jobs-range}
 use Rattle.runs.specs.Trace.{Stage, turning, laying, Trace, begins, turned, goes-on, laid, all-laid, served, next-round}
 use Rattle.courses.proofs.Laws.PlanShape.{shape-valid}
+use Rattle.runs.proofs.Laws.Fit.{Fit, count-some, count-most}
 use Rattle.runs.proofs.Laws.Lined.{line-of, held-in, line-held, held-below}
 use Rattle.runs.proofs.Laws.TurnSound.{turn-others, turn-still, turnOf-sound}
 use Rattle.runs.proofs.Laws.ServeSound.{lay-others, lay-sound, serve-sound}
@@ -40,7 +41,7 @@ replicate-at zero i a = refl
 replicate-at (suc n) zero a = refl
 replicate-at (suc n) (suc i) a = replicate-at n i a
 
-module _ (p : Plan) (ok : Accepted p) (n : ℕ) (some : 1 ≤ n) (most : n ≤ 16) where
+module _ (p : Plan) (ok : Accepted p) (n : ℕ) (some : 1 ≤ n) where
   start-idle : (w : ℕ) → w ≢ 0 → workerOf (start p) w ≡ Idle
   unfolding start
   start-idle zero f = absurd (f refl)
@@ -63,76 +64,78 @@ module _ (p : Plan) (ok : Accepted p) (n : ℕ) (some : 1 ≤ n) (most : n ≤ 1
     absent = λ w h. start-idle w (λ e. omega arith);
   }
 
+module _ (p : Plan) (ok : Accepted p) (n : ℕ) (s : State) (sound : Sound p n s) where
+  leaves : Leaves (shape p) (nextOf s) (lineOf s)
+  leaves = good-leaves (shape p) (shape-valid p ok) (nextOf s) (lineOf s) (sound .good)
+
+  -- the living frames weigh at most the number of workers times the heaviest path
+  pub space : weight p (s .next) ≤ n * heaviest p
+  space =
+      le-trans (leaves-space p ok (s .next) (lineOf s) leaves n (λ w h. line-of s w Idle (sound .absent w h)))
+      (mul-le-mul (filled-most n (lineOf s)) (le-refl (heaviest p)))
+
+  -- until job 0 has ended some worker holds a job
+  pub busy : ended p s ≡ false → (w : ℕ) × (j : ℕ) × (w < n) × (workerOf s w ≡ Holding j)
+  busy e =
+      let root : Living (shape p) (nextOf s) 0 = record {
+        below = jobs-range p ok .0;
+        begun = λ o. absurd (omega arith);
+        left = nleb→lt (size p 0) (nextOf s 0) (rw e tt);
+      } in
+      let (w, h, l, i) = Cover.busy (shape p) (shape-valid p ok) (nextOf s) (lineOf s) leaves root in
+      let q = line-held (workerOf s w) (dequeOf s w) h l i .0 in
+      (w, h, held-below p n s sound w h q, q)
+
+  -- when job 0 has ended every action is done
+  pub all-done : ended p s ≡ true → (j : ℕ) → j < length p → nextOf s j ≡ size p j
+  all-done e =
+      Progress.all-done (shape p) (shape-valid p ok) (nextOf s) (sound .good .closed) (leb→le (size p 0) (nextOf s 0) (rw e tt))
+
+  pub next-bound : (j : ℕ) → j < length p → nextOf s j ≤ size p j
+  next-bound = sound .good .closed .bound
+
+  -- the job that a worker holds: its next action is there, and its spawner is done
+  pub held-job : (w j : ℕ) → workerOf s w ≡ Holding j → (j < length p) × (nextOf s j < size p j) × (1 ≤ j → spawnAt p j < nextOf s (parent p j))
+  held-job w j e = let a = sound .good .here w j (held-in s w j e) .0 in (a .below, a .left, a .begun)
+
+  -- no job is held by two workers
+  pub held-once : (v w j : ℕ) → workerOf s v ≡ Holding j → workerOf s w ≡ Holding j → v ≡ w
+  held-once v w j e f = sound .good .apart v w j (held-in s v j e) (held-in s w j f)
+
+module _ (S : Setting) where
   -- while the turns of a round are taken, a worker that has not had its turn is as the round began
-  pub trace-began : (choices : List ℕ) {r k : ℕ} {b : List Worker} {s : State} → Trace p n choices r b (turning k) s
+  pub trace-began : {r k : ℕ} {b : List Worker} {s : State} → Trace S r b (turning k) s
       → (w : ℕ) → k ≤ w → workerOf s w ≡ getD b w Idle
-  trace-began choices begins w h = refl
-  trace-began choices (next-round t) w h = refl
-  trace-began choices (turned {r} {k} {b} {s} t l) w h =
-      turn-others p r k (getD b k Idle) s w (λ e. omega arith) ∙ trace-began choices t w (omega arith)
+  trace-began begins w h = refl
+  trace-began (next-round t) w h = refl
+  trace-began (turned {r} {k} {b} {s} t l) w h =
+      turn-others (S .plan) r k (getD b k Idle) s w (λ e. omega arith) ∙ trace-began t w (omega arith)
 
   -- a worker that was idle as the round began is so after the turns
-  pub trace-idle : (choices : List ℕ) {r k : ℕ} {b : List Worker} {s : State} → Trace p n choices r b (turning k) s
+  pub trace-idle : {r k : ℕ} {b : List Worker} {s : State} → Trace S r b (turning k) s
       → (w : ℕ) → getD b w Idle ≡ Idle → workerOf s w ≡ Idle
-  trace-idle choices begins w e = e
-  trace-idle choices (next-round t) w e = e
-  trace-idle choices (turned {r} {k} {b} {s} t l) w e =
-      by-cases (ℕ-discrete w k) (λ q. turn-still p r k (getD b k Idle) s w (rw q at e)) (turn-others p r k (getD b k Idle) s w)
-      ∙ trace-idle choices t w e
+  trace-idle begins w e = e
+  trace-idle (next-round t) w e = e
+  trace-idle (turned {r} {k} {b} {s} t l) w e =
+      by-cases (ℕ-discrete w k) (λ q. turn-still (S .plan) r k (getD b k Idle) s w (rw q at e)) (turn-others (S .plan) r k (getD b k Idle) s w)
+      ∙ trace-idle t w e
 
   -- and until it lays a request
-  pub laying-idle : (choices : List ℕ) {r k : ℕ} {b : List Worker} {s : State} → Trace p n choices r b (laying k) s
+  pub laying-idle : {r k : ℕ} {b : List Worker} {s : State} → Trace S r b (laying k) s
       → (w : ℕ) → k ≤ w → getD b w Idle ≡ Idle → workerOf s w ≡ Idle
-  laying-idle choices (goes-on t f) w h e = trace-idle choices t w e
-  laying-idle choices (laid {r} {k} {b} {s} t l) w h e =
-      lay-others choices r k (getD b k Idle) s w (λ q. omega arith) ∙ laying-idle choices t w (omega arith) e
+  laying-idle (goes-on t f) w h e = trace-idle t w e
+  laying-idle (laid {r} {k} {b} {s} t l) w h e =
+      lay-others S r k (getD b k Idle) s w (λ q. omega arith) ∙ laying-idle t w (omega arith) e
 
-  -- the state of every stage of a run is sound
-  pub trace-sound : (choices : List ℕ) {r : ℕ} {b : List Worker} {g : Stage} {s : State} → Trace p n choices r b g s → Sound p n s
-  trace-sound choices begins = start-sound
-  trace-sound choices (turned {r} {k} {b} {s} t l) =
-      turnOf-sound p ok n most r k (getD b k Idle) s (trace-began choices t k (le-refl k)) (trace-sound choices t)
-  trace-sound choices (goes-on t f) = trace-sound choices t
-  trace-sound choices (laid {r} {k} {b} {s} t l) =
-      lay-sound p n most choices r k (getD b k Idle) s l (laying-idle choices t k (le-refl k)) (trace-sound choices t)
-  trace-sound choices (all-laid t) = trace-sound choices t
-  trace-sound choices (served {r} {k} {b} {s} t l) = serve-sound p ok n most s (trace-sound choices t) k l
-  trace-sound choices (next-round t) = trace-sound choices t
-
-  module _ (s : State) (sound : Sound p n s) where
-    leaves : Leaves (shape p) (nextOf s) (lineOf s)
-    leaves = good-leaves (shape p) (shape-valid p ok) (nextOf s) (lineOf s) (sound .good)
-
-    -- the living frames weigh at most the number of workers times the heaviest path
-    pub space : weight p (s .next) ≤ n * heaviest p
-    space =
-        le-trans (leaves-space p ok (s .next) (lineOf s) leaves n (λ w h. line-of s w Idle (sound .absent w h)))
-        (mul-le-mul (filled-most n (lineOf s)) (le-refl (heaviest p)))
-
-    -- until job 0 has ended some worker holds a job
-    pub busy : ended p s ≡ false → (w : ℕ) × (j : ℕ) × (w < n) × (workerOf s w ≡ Holding j)
-    busy e =
-        let root : Living (shape p) (nextOf s) 0 = record {
-          below = jobs-range p ok .0;
-          begun = λ o. absurd (omega arith);
-          left = nleb→lt (size p 0) (nextOf s 0) (rw e tt);
-        } in
-        let (w, h, l, i) = Cover.busy (shape p) (shape-valid p ok) (nextOf s) (lineOf s) leaves root in
-        let q = line-held (workerOf s w) (dequeOf s w) h l i .0 in
-        (w, h, held-below p n s sound w h q, q)
-
-    -- when job 0 has ended every action is done
-    pub all-done : ended p s ≡ true → (j : ℕ) → j < length p → nextOf s j ≡ size p j
-    all-done e =
-        Progress.all-done (shape p) (shape-valid p ok) (nextOf s) (sound .good .closed) (leb→le (size p 0) (nextOf s 0) (rw e tt))
-
-    pub next-bound : (j : ℕ) → j < length p → nextOf s j ≤ size p j
-    next-bound = sound .good .closed .bound
-
-    -- the job that a worker holds: its next action is there, and its spawner is done
-    pub held-job : (w j : ℕ) → workerOf s w ≡ Holding j → (j < length p) × (nextOf s j < size p j) × (1 ≤ j → spawnAt p j < nextOf s (parent p j))
-    held-job w j e = let a = sound .good .here w j (held-in s w j e) .0 in (a .below, a .left, a .begun)
-
-    -- no job is held by two workers
-    pub held-once : (v w j : ℕ) → workerOf s v ≡ Holding j → workerOf s w ≡ Holding j → v ≡ w
-    held-once v w j e f = sound .good .apart v w j (held-in s v j e) (held-in s w j f)
+  module _ (fit : Fit S) where
+    -- the state of every stage of a run is sound
+    pub trace-sound : {r : ℕ} {b : List Worker} {g : Stage} {s : State} → Trace S r b g s → Sound (S .plan) (countIn S r) s
+    trace-sound begins = start-sound (S .plan) (fit .plan) (countIn S 1) (count-some S fit 1)
+    trace-sound (turned {r} {k} {b} {s} t l) =
+        turnOf-sound (S .plan) (fit .plan) (countIn S r) (count-most S fit r) r k (getD b k Idle) s (trace-began t k (le-refl k)) (trace-sound t)
+    trace-sound (goes-on t f) = trace-sound t
+    trace-sound (laid {r} {k} {b} {s} t l) =
+        lay-sound (S .plan) (countIn S r) (count-most S fit r) S r k (getD b k Idle) s l (laying-idle t k (le-refl k)) (trace-sound t)
+    trace-sound (all-laid t) = trace-sound t
+    trace-sound (served {r} {k} {b} {s} t l) = serve-sound (S .plan) (fit .plan) (countIn S r) (count-most S fit r) s (trace-sound t) k l
+    trace-sound (next-round t) = trace-sound t

@@ -1,5 +1,4 @@
 -- The victims that waiting workers name are workers that there are, and a worker that is alone never waits.
--- Assumes nothing.
 use Prim.Native.Nat.{ℕ, zero, suc, _≤_, _<_, _%_}
 use mathlib.Core.Path.{_≡_, refl, sym, ap, _∙_}
 use mathlib.Core.Logic.{_⊎_, inl, inr, by-cases, ⊎-elim}
@@ -13,15 +12,15 @@ use lib.ListN.{length, getD, set, List·getD-eq-default}
 use Rattle.plan.specs.Test.{either, all}
 use Rattle.runs.specs.declared.worker.Worker.{Worker}
 use Rattle.runs.specs.declared.worker.Worker.the-variants.{Idle, Holding, Waiting}
-use Rattle.plan.specs.Plan.{Plan}
+use Rattle.runs.specs.Setting.{Setting, countIn}
 use Rattle.runs.specs.State.{State, workerOf, dequeOf, start}
 use Rattle.runs.specs.Turn.{turn, idled, turnOf}
 use Rattle.runs.specs.Steal.{laid as laidBy, lay, oldest, topOf, given, serve, waits}
 use Rattle.runs.specs.Run.{choicesFit}
 use Rattle.lines.proofs.Laws.Sum.{sum-term}
 use Rattle.plan.proofs.Laws.Lists.{both-left, both-right, all-at}
-use Rattle.plan.specs.Rules.{Accepted}
 use Rattle.runs.specs.Trace.{Stage, Trace, begins, turned, goes-on, laid, all-laid, served, next-round}
+use Rattle.runs.proofs.Laws.Fit.{Fit}
 use Rattle.runs.proofs.Laws.Sound.{trace-sound}
 use Rattle.runs.proofs.Laws.Tallies.{lone-holds, lone-requests}
 use Rattle.runs.proofs.Laws.Waits.{waiting-sum, start-calm, seated, seated-waits}
@@ -55,8 +54,10 @@ choice-below n choices some t i =
     by-cases (decLt i (length choices)) (λ h. ltb→lt (getD choices i 0) n (all-at (λ c. ltb c n) choices t 0 i h))
     (λ f. rw (List·getD-eq-default choices 0 {n = i} (omega arith)) some)
 
-module _ (p : Plan) (ok : Accepted p) (n : ℕ) (some : 1 ≤ n) (most : n ≤ 16) (choices : List ℕ) where
-  round-first : {r : ℕ} {b : List Worker} {g : Stage} {s : State} → Trace p n choices r b g s → 1 ≤ r
+module _ (S : Setting) (fit : Fit S) where
+  open Setting S using (plan, choices)
+
+  round-first : {r : ℕ} {b : List Worker} {g : Stage} {s : State} → Trace S r b g s → 1 ≤ r
   round-first begins = omega arith
   round-first (turned t h) = round-first t
   round-first (goes-on t e) = round-first t
@@ -65,70 +66,70 @@ module _ (p : Plan) (ok : Accepted p) (n : ℕ) (some : 1 ≤ n) (most : n ≤ 1
   round-first (served t h) = round-first t
   round-first (next-round t) = omega arith
 
-  named-all : T (all (λ c. ltb c n) choices) → {r : ℕ} {b : List Worker} {g : Stage} {s : State} → Trace p n choices r b g s
-      → (w : ℕ) → Named n r (workerOf s w)
+  named-all : T (all (λ c. ltb c (S .workers)) choices) → {r : ℕ} {b : List Worker} {g : Stage} {s : State} → Trace S r b g s
+      → (w : ℕ) → Named (countIn S r) r (workerOf s w)
   unfolding turnOf turn idled lay laidBy serve given start
-  named-all fit begins = λ w. named-calm n 1 (workerOf (start p) w) (start-calm p w)
-  named-all fit (turned {r} {k} {b} {s} t h) = go (getD b k Idle) (named-all fit t)
+  named-all named begins = λ w. named-calm (countIn S 1) 1 (workerOf (start plan) w) (start-calm plan w)
+  named-all named (turned {r} {k} {b} {s} t h) = go (getD b k Idle) (named-all named t)
     where
-      go : (x : Worker) → ((w : ℕ) → Named n r (workerOf s w)) → (w : ℕ) → Named n r (workerOf (turnOf p r k x s) w)
+      go : (x : Worker) → ((w : ℕ) → Named (countIn S r) r (workerOf s w)) → (w : ℕ) → Named (countIn S r) r (workerOf (turnOf plan r k x s) w)
       go Idle i = i
       go (Waiting v l) i = i
-      go (Holding j) i = named-set n r (s .workers) k (seated p k j s) (named-calm n r (seated p k j s) (seated-waits p k j s)) i
-  named-all fit (goes-on t e) = named-all fit t
-  named-all fit (laid {r} {k} {b} {s} t h) = go (getD b k Idle) (named-all fit t)
+      go (Holding j) i = named-set (countIn S r) r (s .workers) k (seated plan k j s) (named-calm (countIn S r) r (seated plan k j s) (seated-waits plan k j s)) i
+  named-all named (goes-on t e) = named-all named t
+  named-all named (laid {r} {k} {b} {s} t h) = go (getD b k Idle) (named-all named t)
     where
-      go : (x : Worker) → ((w : ℕ) → Named n r (workerOf s w)) → (w : ℕ) → Named n r (workerOf (lay choices r k x s) w)
+      go : (x : Worker) → ((w : ℕ) → Named (countIn S r) r (workerOf s w)) → (w : ℕ) → Named (countIn S r) r (workerOf (lay S r k x s) w)
       go Idle i =
           let at = s .tally .requests % length choices in
           let v = getD choices at 0 in
-          named-set n r (s .workers) k (Waiting v r) (named-laid n r v (choice-below n choices some fit at) (round-first t)) i
+          named-set (countIn S r) r (s .workers) k (Waiting v r) (named-laid (countIn S r) r v (choice-below (S .workers) choices (fit .some) named at) (round-first t)) i
       go (Holding j) i = i
       go (Waiting v l) i = i
-  named-all fit (all-laid t) = named-all fit t
-  named-all fit (served {r} {k} {b} {s} t h) = go (oldest k n (s .workers) .who) (named-all fit t)
+  named-all named (all-laid t) = named-all named t
+  named-all named (served {r} {k} {b} {s} t h) = go (oldest k (countIn S r) (s .workers) .who) (named-all named t)
     where
-      go : (who : ℕ) → ((w : ℕ) → Named n r (workerOf s w)) → (w : ℕ) → Named n r (workerOf (serve k who s) w)
+      go : (who : ℕ) → ((w : ℕ) → Named (countIn S r) r (workerOf s w)) → (w : ℕ) → Named (countIn S r) r (workerOf (serve k who s) w)
       go zero i = i
       go (suc x) i = gives (dequeOf s k)
         where
-          gives : (d : List ℕ) → (w : ℕ) → Named n r (workerOf (given k x d s) w)
-          gives [] = named-set n r (s .workers) x Idle (named-calm n r Idle refl) i
-          gives (y ∷ d) = named-set n r (s .workers) x (Holding (topOf y d)) (named-calm n r (Holding (topOf y d)) refl) i
-  named-all fit (next-round t) = λ w v l e. omega (arith, named-all fit t w v l e)
+          gives : (d : List ℕ) → (w : ℕ) → Named (countIn S r) r (workerOf (given k x d s) w)
+          gives [] = named-set (countIn S r) r (s .workers) x Idle (named-calm (countIn S r) r Idle refl) i
+          gives (y ∷ d) = named-set (countIn S r) r (s .workers) x (Holding (topOf y d)) (named-calm (countIn S r) r (Holding (topOf y d)) refl) i
+  named-all named (next-round t) = λ w v l e. omega (arith, named-all named t w v l e)
 
   -- a worker that waits names a victim that there is, and a round that has begun
-  pub victim-below : T (choicesFit n choices) → {r : ℕ} {b : List Worker} {g : Stage} {s : State} → Trace p n choices r b g s
-      → (w v l : ℕ) → workerOf s w ≡ Waiting v l → (v < n) × (1 ≤ l) × (l ≤ r)
+  pub victim-below : T (choicesFit (S .workers) choices) → {r : ℕ} {b : List Worker} {g : Stage} {s : State} → Trace S r b g s
+      → (w v l : ℕ) → workerOf s w ≡ Waiting v l → (v < countIn S r) × (1 ≤ l) × (l ≤ r)
   unfolding choicesFit
-  victim-below fit = named-all (both-left (all (λ c. ltb c n) choices) _ fit)
+  victim-below chosen = named-all (both-left (all (λ c. ltb c (S .workers)) choices) _ chosen)
 
   -- a worker that held nothing as a round began is not alone
-  pub unheld-more : {r : ℕ} {b : List Worker} {g : Stage} {s : State} → Trace p n choices r b g s → (w : ℕ) → w < n → Unheld (getD b w Idle) → 2 ≤ n
+  pub unheld-more : {r : ℕ} {b : List Worker} {g : Stage} {s : State} → Trace S r b g s → (w : ℕ) → w < countIn S r → Unheld (getD b w Idle) → 2 ≤ S .workers
   unheld-more t w h u =
-      lt-of-not-le (λ (f : n ≤ 1). let (j, e) = lone-holds p ok n some most choices (omega arith) t w h in u j e)
+      lt-of-not-le (λ (f : S .workers ≤ 1). let (j, e) = lone-holds S fit (omega arith) t w h in u j e)
 
   -- so there is a choice for each request
-  pub laid-choices : T (choicesFit n choices) → {r : ℕ} {b : List Worker} {g : Stage} {s : State} → Trace p n choices r b g s
-      → (w : ℕ) → w < n → Unheld (getD b w Idle) → 1 ≤ length choices
+  pub laid-choices : T (choicesFit (S .workers) choices) → {r : ℕ} {b : List Worker} {g : Stage} {s : State} → Trace S r b g s
+      → (w : ℕ) → w < countIn S r → Unheld (getD b w Idle) → 1 ≤ length choices
   unfolding choicesFit
-  laid-choices fit t w h u =
-      go (leb n 1) (leb→le n 1) (both-right (leb (length choices) 4096) _ (both-right (all (λ c. ltb c n) choices) _ fit))
+  laid-choices chosen t w h u =
+      go (leb (S .workers) 1) (leb→le (S .workers) 1) (both-right (leb (length choices) 4096) _ (both-right (all (λ c. ltb c (S .workers)) choices) _ chosen))
     where
-      go : (x : Bool) → (T x → n ≤ 1) → T (either x (leb 1 (length choices))) → 1 ≤ length choices
+      go : (x : Bool) → (T x → S .workers ≤ 1) → T (either x (leb 1 (length choices))) → 1 ≤ length choices
       go true f a = absurd (omega (arith, f tt, unheld-more t w h u))
       go false f a = leb→le 1 (length choices) a
 
   -- a worker that is alone never waits
-  pub lone-waits : n ≡ 1 → {r : ℕ} {b : List Worker} {g : Stage} {s : State} → Trace p n choices r b g s
+  pub lone-waits : S .workers ≡ 1 → {r : ℕ} {b : List Worker} {g : Stage} {s : State} → Trace S r b g s
       → (w v l : ℕ) → workerOf s w ≡ Waiting v l → ⊥
-  lone-waits lone {s = s} t w v l e =
-      by-cases (decLt w n) (λ h. omega (
+  lone-waits lone {r} {s = s} t w v l e =
+      by-cases (decLt w (countIn S r)) (λ h. omega (
         arith,
         ap waits e,
-        waiting-sum n (s .workers),
-        sum-term n (λ w. waits (workerOf s w)) w h,
-        requests-sum p ok n some most choices t,
-        lone-requests p ok n some most choices lone t,
+        waiting-sum (countIn S r) (s .workers),
+        sum-term (countIn S r) (λ w. waits (workerOf s w)) w h,
+        requests-sum S fit t,
+        lone-requests S fit lone t,
       ))
-      (λ f. let z : _≡_ {A = ℕ} 0 1 = cc (trace-sound p ok n some most choices t .absent w (omega arith)) in omega arith)
+      (λ f. let z : _≡_ {A = ℕ} 0 1 = cc (trace-sound S fit t .absent w (omega arith)) in omega arith)

@@ -1,0 +1,104 @@
+-- The run of document 01 in its own terms, a plan, a number of workers that is the same in every round, and choices: it is the run of
+-- the setting that has these three and nothing else.
+--   plainLay, .., plainRun == as `lay`, .., `run` of specs/, of the three apart
+--   run-plain              == the two are the same function
+use Prim.Native.Nat.{ℕ, zero, suc, _%_}
+use mathlib.Core.Path.{_≡_, refl, ap, _∙_}
+use mathlib.Core.Bool.{Bool, true, false}
+use mathlib.Core.List.{List}
+use lib.ListN.{length, getD, set}
+use Rattle.runs.specs.declared.worker.Worker.{Worker}
+use Rattle.runs.specs.declared.worker.Worker.the-variants.{Idle, Holding, Waiting}
+use Rattle.plan.specs.Plan.{Plan, total}
+use Rattle.plan_measure.proofs.Laws.Work.{work-total}
+use Rattle.runs.specs.Setting.{setting}
+use Rattle.runs.specs.State.{State, start}
+use Rattle.runs.specs.Turn.{turns}
+use Rattle.runs.specs.Steal.{laid, lay, lays, oldest, serve, serves}
+use Rattle.runs.specs.Run.{ended, round, rounds, run}
+
+unfoldable plainLay : List ℕ → ℕ → ℕ → Worker → State → State
+plainLay choices r w Idle s =
+    let t = s .tally in
+    record {
+      next = s .next;
+      workers = set (s .workers) w (Waiting (getD choices ((t .requests) % length choices) 0) r);
+      deques = s .deques;
+      rows = s .rows;
+      tally = record {
+        rounds = t .rounds;
+        actions = t .actions;
+        idle = t .idle;
+        requests = suc (t .requests);
+        steals = t .steals;
+        misses = t .misses;
+        peak = t .peak;
+      };
+    }
+plainLay choices r w (Holding j) s = s
+plainLay choices r w (Waiting v l) s = s
+
+unfoldable plainLays : List ℕ → ℕ → ℕ → List Worker → State → State
+unfolding plainLay
+plainLays choices r zero began s = s
+plainLays choices r (suc k) began s = plainLay choices r k (getD began k Idle) (plainLays choices r k began s)
+
+unfoldable plainServes : ℕ → ℕ → State → State
+plainServes n zero s = s
+plainServes n (suc k) s = let t = plainServes n k s in serve k (oldest k n (t .workers) .who) t
+
+unfoldable plainRound : Plan → ℕ → List ℕ → State → State
+unfolding plainLays plainServes
+plainRound p n choices s =
+    let r = suc (s .tally .rounds) in
+    let half = turns p r n (s .workers) s in
+    elim (ended p half) [ true ↦ half | false ↦ plainServes n n (plainLays choices r n (s .workers) half) ]
+
+unfoldable plainRounds : ℕ → Plan → ℕ → List ℕ → State → State
+unfolding plainRound
+plainRounds zero p n choices s = s
+plainRounds (suc k) p n choices s = elim (ended p s) [ true ↦ s | false ↦ plainRounds k p n choices (plainRound p n choices s) ]
+
+unfoldable pub plainRun : Plan → ℕ → List ℕ → State
+unfolding plainRounds
+plainRun p n choices = plainRounds (total p) p n choices (start p)
+
+chosen : (b : Bool) (s : State) {t u : State} → t ≡ u
+    → _≡_ {A = State} (elim b [ true ↦ s | false ↦ t ]) (elim b [ true ↦ s | false ↦ u ])
+chosen true s e = refl
+chosen false s e = e
+
+module _ (p : Plan) (n : ℕ) (choices : List ℕ) where
+  lay-plain : (r w : ℕ) (x : Worker) (s : State) → lay (setting p n choices) r w x s ≡ plainLay choices r w x s
+  unfolding lay laid plainLay
+  lay-plain r w Idle s = refl
+  lay-plain r w (Holding j) s = refl
+  lay-plain r w (Waiting v l) s = refl
+
+  lays-plain : (r k : ℕ) (b : List Worker) (s : State) → lays (setting p n choices) r k b s ≡ plainLays choices r k b s
+  unfolding lays plainLays
+  lays-plain r zero b s = refl
+  lays-plain r (suc k) b s =
+      lay-plain r k (getD b k Idle) (lays (setting p n choices) r k b s) ∙ ap (plainLay choices r k (getD b k Idle)) (lays-plain r k b s)
+
+  serves-plain : (r k : ℕ) (s : State) → serves (setting p n choices) r k s ≡ plainServes n k s
+  unfolding serves plainServes
+  serves-plain r zero s = refl
+  serves-plain r (suc k) s = ap (λ t. serve k (oldest k n (t .workers) .who) t) (serves-plain r k s)
+
+  round-plain : (s : State) → round (setting p n choices) s ≡ plainRound p n choices s
+  unfolding round plainRound
+  round-plain s =
+      let r = suc (s .tally .rounds) in
+      let half = turns p r n (s .workers) s in
+      chosen (ended p half) half (serves-plain r n (lays (setting p n choices) r n (s .workers) half) ∙ ap (plainServes n n) (lays-plain r n (s .workers) half))
+
+  rounds-plain : (k : ℕ) (s : State) → rounds k (setting p n choices) s ≡ plainRounds k p n choices s
+  unfolding rounds plainRounds
+  rounds-plain zero s = refl
+  rounds-plain (suc k) s =
+      chosen (ended p s) s (rounds-plain k (round (setting p n choices) s) ∙ ap (plainRounds k p n choices) (round-plain s))
+
+  pub run-plain : run (setting p n choices) ≡ plainRun p n choices
+  unfolding run plainRun
+  run-plain = ap (λ k. rounds k (setting p n choices) (start p)) (work-total p) ∙ rounds-plain (total p) (start p)
