@@ -26,6 +26,7 @@ use Rattle.plan.specs.Rules.{Accepted}
 use Rattle.plan.specs.Flat.{Frames, Firsts, Spawns, Joins, Entered}
 use Rattle.scheduler.specs.declared.account.Account.{Account}
 use Rattle.scheduler.specs.declared.turn.Turned.{Turned}
+use Rattle.runs.specs.Setting.{setting}
 use Rattle.runs.specs.declared.worker.Worker.{Worker}
 use Rattle.runs.specs.declared.worker.Worker.the-variants.{Idle, Holding, Waiting}
 use Rattle.courses.specs.Row.{Row, noRow, place}
@@ -102,7 +103,7 @@ pub record InRun (p : Plan) (n : ℕ) (choices : List ℕ) (r : ℕ) (began : Li
   pub some : 1 ≤ n
   pub most : n ≤ 16
   pub fit : T (choicesFit n choices)
-  pub trace : Trace p n choices r began g s
+  pub trace : Trace (setting p n choices) r began g s
 
 -- worker w, which holds job j, whose next action stands at place k, is about to act
 pub record Acting (p : Plan) (n : ℕ) (choices : List ℕ) (r : ℕ) (began : List Worker) (s : State) (k j w weighs : ℕ)

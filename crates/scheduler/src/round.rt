@@ -9,6 +9,7 @@ ghost use Rattle.runs.specs.declared.worker.Worker.{Worker};
 ghost use Rattle.runs.specs.declared.worker.Worker.the-variants.{Idle, Holding};
 ghost use Rattle.runs.specs.State.{State, workerOf};
 ghost use Rattle.runs.specs.Turn.{turn as turnAt, turnOf, turns as turnsOf, idled as idledOf};
+ghost use Rattle.runs.specs.Setting.{setting};
 ghost use Rattle.runs.specs.Run.{round as roundOf, ended};
 ghost use Rattle.runs.specs.Trace.{turning};
 ghost use Rattle.scheduler.specs.Machine.{InRun, Planned, Machine, Kept, Manned};
@@ -204,7 +205,7 @@ pub fn round(
     len: &mut [u16; 16],
 ) -> Account
     requires { ⌜ ((p : Plan) × (r : ℕ) × (s : State) × InRun p n (now choices) r (s .workers) (turning 0) s × Planned p (now frame) (now first) (now spawn) (now join) (now parent) × Machine p s account (now seats) (now rows) (now next) (now missing) (now slots) (now top) (now len) × Pointed (now choices) s (now cursor) × Queued (r * 16) (s .workers) (now after) (now last) × (ended p s ≡ false)) ⌝ }
-    ensures { λ a. ⌜ ((p : Plan) (r : ℕ) (s : State) → InRun p n (now (choices .entry)) r (s .workers) (turning 0) s → Planned p (now (frame .entry)) (now (first .entry)) (now (spawn .entry)) (now (join .entry)) (now (parent .entry)) → Machine p s account (now (seats .entry)) (now (rows .entry)) (now (next .entry)) (now (missing .entry)) (now (slots .entry)) (now (top .entry)) (now (len .entry)) → Pointed (now (choices .entry)) s (now (cursor .entry)) → Queued (r * 16) (s .workers) (now (after .entry)) (now (last .entry)) → ended p s ≡ false → Machine p (roundOf p n (now (choices .entry)) s) a (now (seats .exit)) (now (rows .exit)) (now (next .exit)) (now (missing .exit)) (now (slots .exit)) (now (top .exit)) (now (len .exit)) × Kept p (now (rows .entry)) (now (rows .exit)) × Pointed (now (choices .entry)) (roundOf p n (now (choices .entry)) s) (now (cursor .exit)) × Queued (suc r * 16) (roundOf p n (now (choices .entry)) s .workers) (now (after .exit)) (now (last .exit))) ⌝ }
+    ensures { λ a. ⌜ ((p : Plan) (r : ℕ) (s : State) → InRun p n (now (choices .entry)) r (s .workers) (turning 0) s → Planned p (now (frame .entry)) (now (first .entry)) (now (spawn .entry)) (now (join .entry)) (now (parent .entry)) → Machine p s account (now (seats .entry)) (now (rows .entry)) (now (next .entry)) (now (missing .entry)) (now (slots .entry)) (now (top .entry)) (now (len .entry)) → Pointed (now (choices .entry)) s (now (cursor .entry)) → Queued (r * 16) (s .workers) (now (after .entry)) (now (last .entry)) → ended p s ≡ false → Machine p (roundOf (setting p n (now (choices .entry))) s) a (now (seats .exit)) (now (rows .exit)) (now (next .exit)) (now (missing .exit)) (now (slots .exit)) (now (top .exit)) (now (len .exit)) × Kept p (now (rows .entry)) (now (rows .exit)) × Pointed (now (choices .entry)) (roundOf (setting p n (now (choices .entry))) s) (now (cursor .exit)) × Queued (suc r * 16) (roundOf (setting p n (now (choices .entry))) s .workers) (now (after .exit)) (now (last .exit))) ⌝ }
 {
     let r = account.tally.rounds as usize + 1;
     let began = *seats;

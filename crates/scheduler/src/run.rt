@@ -4,6 +4,7 @@ ghost use Prim.Native.Nat.{_*_, _≤_, _<_};
 ghost use mathlib.Core.List.{_++_};
 ghost use lib.ListN.{length, drop};
 ghost use Rattle.plan.specs.Plan.{Plan, total};
+ghost use Rattle.runs.specs.Setting.{setting};
 ghost use Rattle.runs.specs.Run.{run as runOfPlan, choicesFit};
 ghost use Rattle.scheduler.specs.Entry.{runInto, ranOf, Claimed};
 ghost use Rattle.scheduler.specs.Machine.{RunGiven, Printed, Kept};
@@ -42,7 +43,7 @@ fn rounds<'a>(
     missing: &mut [u8; 2048],
 ) -> Tally
     requires { ⌜ ((p : Plan) × RunGiven p n (now choices) (now frame) (now first) (now spawn) (now join) (now parent) (now missing) × (2 * total p ≤ length (now rows))) ⌝ }
-    ensures { λ t. ⌜ ((p : Plan) → RunGiven p n (now (choices .entry)) (now (frame .entry)) (now (first .entry)) (now (spawn .entry)) (now (join .entry)) (now (parent .entry)) (now (missing .entry)) → 2 * total p ≤ length (now (rows .entry)) → (t ≡ runOfPlan p n (now (choices .entry)) .tally) × Printed p (runOfPlan p n (now (choices .entry))) (now (rows .exit)) × Kept p (now (rows .entry)) (now (rows .exit))) ⌝ }
+    ensures { λ t. ⌜ ((p : Plan) → RunGiven p n (now (choices .entry)) (now (frame .entry)) (now (first .entry)) (now (spawn .entry)) (now (join .entry)) (now (parent .entry)) (now (missing .entry)) → 2 * total p ≤ length (now (rows .entry)) → (t ≡ runOfPlan (setting p n (now (choices .entry))) .tally) × Printed p (runOfPlan (setting p n (now (choices .entry)))) (now (rows .exit)) × Kept p (now (rows .entry)) (now (rows .exit))) ⌝ }
 {
     let mut next = [0u8; 256];
     let mut slots = [0u8; 4096];

@@ -9,6 +9,7 @@ ghost use Rattle.plan.specs.Plan.{Plan};
 ghost use Rattle.runs.specs.declared.worker.Worker.{Worker};
 ghost use Rattle.runs.specs.declared.worker.Worker.the-variants.{Idle, Waiting};
 ghost use Rattle.runs.specs.State.{State};
+ghost use Rattle.runs.specs.Setting.{setting};
 ghost use Rattle.runs.specs.Steal.{lay as layOf, lays as laysOf, oldest, serve as serveOf, serves as servesOf};
 ghost use Rattle.runs.specs.Trace.{laying, serving};
 ghost use Rattle.scheduler.specs.Machine.{InRun, Manned, Dequed, codeOf, Fitting, isIdle, Seated};
@@ -102,7 +103,7 @@ fn lay(
     last: &mut [u8; 16],
 ) -> Account
     requires { ⌜ ((p : Plan) × (n : ℕ) × (b : List Worker) × (s : State) × InRun p n (now choices) round b (laying w) s × Manned p s account (now seats) × (getD b w Idle ≡ Idle) × Pointed (now choices) s (now cursor) × Queued (round * 16 + w) (s .workers) (now after) (now last) × (w < n)) ⌝ }
-    ensures { λ a. ⌜ ((p : Plan) (n : ℕ) (b : List Worker) (s : State) → InRun p n (now (choices .entry)) round b (laying w) s → Manned p s account (now (seats .entry)) → getD b w Idle ≡ Idle → Pointed (now (choices .entry)) s (now (cursor .entry)) → Queued (round * 16 + w) (s .workers) (now (after .entry)) (now (last .entry)) → w < n → Manned p (layOf (now (choices .entry)) round w (getD b w Idle) s) a (now (seats .exit)) × Pointed (now (choices .entry)) (layOf (now (choices .entry)) round w (getD b w Idle) s) (now (cursor .exit)) × Queued (suc (round * 16 + w)) (layOf (now (choices .entry)) round w (getD b w Idle) s .workers) (now (after .exit)) (now (last .exit))) ⌝ }
+    ensures { λ a. ⌜ ((p : Plan) (n : ℕ) (b : List Worker) (s : State) → InRun p n (now (choices .entry)) round b (laying w) s → Manned p s account (now (seats .entry)) → getD b w Idle ≡ Idle → Pointed (now (choices .entry)) s (now (cursor .entry)) → Queued (round * 16 + w) (s .workers) (now (after .entry)) (now (last .entry)) → w < n → Manned p (layOf (setting p n (now (choices .entry))) round w (getD b w Idle) s) a (now (seats .exit)) × Pointed (now (choices .entry)) (layOf (setting p n (now (choices .entry))) round w (getD b w Idle) s) (now (cursor .exit)) × Queued (suc (round * 16 + w)) (layOf (setting p n (now (choices .entry))) round w (getD b w Idle) s .workers) (now (after .exit)) (now (last .exit))) ⌝ }
 {
     let at = *cursor;
     let victim = choice_at(at, choices);
@@ -154,7 +155,7 @@ fn lays(
     last: &mut [u8; 16],
 ) -> Account
     requires { ⌜ ((p : Plan) × (b : List Worker) × (s : State) × InRun p n (now choices) round b (laying 0) s × Manned p s account (now seats) × Seated b (now began) × Pointed (now choices) s (now cursor) × Queued (round * 16) (s .workers) (now after) (now last)) ⌝ }
-    ensures { λ a. ⌜ ((p : Plan) (b : List Worker) (s : State) → InRun p n (now (choices .entry)) round b (laying 0) s → Manned p s account (now (seats .entry)) → Seated b (now (began .entry)) → Pointed (now (choices .entry)) s (now (cursor .entry)) → Queued (round * 16) (s .workers) (now (after .entry)) (now (last .entry)) → Manned p (laysOf (now (choices .entry)) round n b s) a (now (seats .exit)) × Pointed (now (choices .entry)) (laysOf (now (choices .entry)) round n b s) (now (cursor .exit)) × Queued (round * 16 + n) (laysOf (now (choices .entry)) round n b s .workers) (now (after .exit)) (now (last .exit))) ⌝ }
+    ensures { λ a. ⌜ ((p : Plan) (b : List Worker) (s : State) → InRun p n (now (choices .entry)) round b (laying 0) s → Manned p s account (now (seats .entry)) → Seated b (now (began .entry)) → Pointed (now (choices .entry)) s (now (cursor .entry)) → Queued (round * 16) (s .workers) (now (after .entry)) (now (last .entry)) → Manned p (laysOf (setting p n (now (choices .entry))) round n b s) a (now (seats .exit)) × Pointed (now (choices .entry)) (laysOf (setting p n (now (choices .entry))) round n b s) (now (cursor .exit)) × Queued (round * 16 + n) (laysOf (setting p n (now (choices .entry))) round n b s .workers) (now (after .exit)) (now (last .exit))) ⌝ }
 {
     let mut idle = [0u8; 16];
     let count = note_idle(n, began, &mut idle);
@@ -293,7 +294,7 @@ fn serves(
     len: &mut [u16; 16],
 ) -> Account
     requires { ⌜ ((p : Plan) × (choices : List ℕ) × (r : ℕ) × (b : List Worker) × (hi : ℕ) × (s : State) × InRun p n choices r b (serving 0) s × Manned p s account (now seats) × Queued hi (s .workers) (now after) (now last) × Dequed (s .deques) (now slots) (now top) (now len)) ⌝ }
-    ensures { λ a. ⌜ ((p : Plan) (choices : List ℕ) (r : ℕ) (b : List Worker) (hi : ℕ) (s : State) → InRun p n choices r b (serving 0) s → Manned p s account (now (seats .entry)) → Queued hi (s .workers) (now (after .entry)) (now (last .entry)) → Dequed (s .deques) (now (slots .entry)) (now (top .entry)) (now (len .entry)) → Manned p (servesOf n n s) a (now (seats .exit)) × Queued hi (servesOf n n s .workers) (now (after .exit)) (now (last .exit)) × Dequed (servesOf n n s .deques) (now (slots .entry)) (now (top .exit)) (now (len .exit))) ⌝ }
+    ensures { λ a. ⌜ ((p : Plan) (choices : List ℕ) (r : ℕ) (b : List Worker) (hi : ℕ) (s : State) → InRun p n choices r b (serving 0) s → Manned p s account (now (seats .entry)) → Queued hi (s .workers) (now (after .entry)) (now (last .entry)) → Dequed (s .deques) (now (slots .entry)) (now (top .entry)) (now (len .entry)) → Manned p (servesOf (setting p n choices) r n s) a (now (seats .exit)) × Queued hi (servesOf (setting p n choices) r n s .workers) (now (after .exit)) (now (last .exit)) × Dequed (servesOf (setting p n choices) r n s .deques) (now (slots .entry)) (now (top .exit)) (now (len .exit))) ⌝ }
 {
     let mut asked = [0u8; 16];
     let count = note_asked(n, after, &mut asked);
@@ -322,7 +323,7 @@ pub fn second_half(
     len: &mut [u16; 16],
 ) -> Account
     requires { ⌜ ((p : Plan) × (b : List Worker) × (s : State) × InRun p n (now choices) round b (laying 0) s × Manned p s account (now seats) × Seated b (now began) × Pointed (now choices) s (now cursor) × Queued (round * 16) (s .workers) (now after) (now last) × Dequed (s .deques) (now slots) (now top) (now len)) ⌝ }
-    ensures { λ a. ⌜ ((p : Plan) (b : List Worker) (s : State) → InRun p n (now (choices .entry)) round b (laying 0) s → Manned p s account (now (seats .entry)) → Seated b (now (began .entry)) → Pointed (now (choices .entry)) s (now (cursor .entry)) → Queued (round * 16) (s .workers) (now (after .entry)) (now (last .entry)) → Dequed (s .deques) (now (slots .entry)) (now (top .entry)) (now (len .entry)) → Manned p (servesOf n n (laysOf (now (choices .entry)) round n b s)) a (now (seats .exit)) × Dequed (servesOf n n (laysOf (now (choices .entry)) round n b s) .deques) (now (slots .entry)) (now (top .exit)) (now (len .exit)) × Pointed (now (choices .entry)) (servesOf n n (laysOf (now (choices .entry)) round n b s)) (now (cursor .exit)) × Queued (round * 16 + 16) (servesOf n n (laysOf (now (choices .entry)) round n b s) .workers) (now (after .exit)) (now (last .exit))) ⌝ }
+    ensures { λ a. ⌜ ((p : Plan) (b : List Worker) (s : State) → InRun p n (now (choices .entry)) round b (laying 0) s → Manned p s account (now (seats .entry)) → Seated b (now (began .entry)) → Pointed (now (choices .entry)) s (now (cursor .entry)) → Queued (round * 16) (s .workers) (now (after .entry)) (now (last .entry)) → Dequed (s .deques) (now (slots .entry)) (now (top .entry)) (now (len .entry)) → Manned p (servesOf (setting p n (now (choices .entry))) round n (laysOf (setting p n (now (choices .entry))) round n b s)) a (now (seats .exit)) × Dequed (servesOf (setting p n (now (choices .entry))) round n (laysOf (setting p n (now (choices .entry))) round n b s) .deques) (now (slots .entry)) (now (top .exit)) (now (len .exit)) × Pointed (now (choices .entry)) (servesOf (setting p n (now (choices .entry))) round n (laysOf (setting p n (now (choices .entry))) round n b s)) (now (cursor .exit)) × Queued (round * 16 + 16) (servesOf (setting p n (now (choices .entry))) round n (laysOf (setting p n (now (choices .entry))) round n b s) .workers) (now (after .exit)) (now (last .exit))) ⌝ }
 {
     let a = lays(
         account,

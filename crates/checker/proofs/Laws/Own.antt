@@ -15,10 +15,12 @@ use Rattle.plan.specs.Plan.{Plan}
 use Rattle.plan.specs.Rules.{Accepted}
 use Rattle.plan.specs.Reader.{readPlan}
 use Rattle.plan.proofs.Laws.Accepted.{accepted-kept}
-use Rattle.plan.proofs.Laws.Valid.{total-range}
+use Rattle.plan_measure.proofs.Laws.Work.{work-total, work-range}
+use Rattle.runs.specs.Setting.{setting}
 use Rattle.runs.specs.declared.tally.Tally.{Tally}
 use Rattle.runs.specs.Run.{run, admitted, runOf}
 use Rattle.courses.specs.Schedule.{scheduleBytes, checked}
+use Rattle.runs.proofs.Laws.Fit.{Fit}
 use Rattle.runs.proofs.Laws.Admitted.{Stopped, Went, outcome}
 use Rattle.runs.proofs.Laws.OwnSchedule.{run-checked}
 use Rattle.runs.proofs.Laws.Whole.{run-trace, round-most, run-actions}
@@ -40,8 +42,8 @@ module _ (plan : List ℕ) (n : ℕ) (choices schedule : List ℕ) where
     read : readPlan plan ≡ accepted p
     some : 1 ≤ n
     most : n ≤ 16
-    tally : t ≡ run p n choices .tally
-    written : result .schedule ≡ scheduleBytes n (run p n choices .rows) ++ drop (length (scheduleBytes n (run p n choices .rows))) schedule
+    tally : t ≡ run (setting p n choices) .tally
+    written : result .schedule ≡ scheduleBytes n (run (setting p n choices) .rows) ++ drop (length (scheduleBytes n (run (setting p n choices) .rows))) schedule
 
   module _ (t : Tally) (answer : result .answer ≡ accepted t) where
     refuses : {P : Type 0} (k : ℕ) → result .answer ≡ refused k → P
@@ -53,15 +55,15 @@ module _ (plan : List ℕ) (n : ℕ) (choices schedule : List ℕ) where
     unfolding runInto resulted runOf admitted
     wrote = by-plan (readPlan plan) refl
       where
-        by-room : (p : Plan) → readPlan plan ≡ accepted p → 1 ≤ n → n ≤ 16 → runOf plan n choices ≡ accepted (run p n choices)
-            → (b : Bool) → leb (length (scheduleBytes n (run p n choices .rows))) (length schedule) ≡ b → Wrote t
+        by-room : (p : Plan) → readPlan plan ≡ accepted p → 1 ≤ n → n ≤ 16 → runOf plan n choices ≡ accepted (run (setting p n choices))
+            → (b : Bool) → leb (length (scheduleBytes n (run (setting p n choices) .rows))) (length schedule) ≡ b → Wrote t
         by-room p e some most q false f = refuses 9 (rw (q, resulted, f))
         by-room p e some most q true f =
             let whole : result ≡ record {
-              answer = accepted (run p n choices .tally);
-              schedule = scheduleBytes n (run p n choices .rows) ++ drop (length (scheduleBytes n (run p n choices .rows))) schedule;
+              answer = accepted (run (setting p n choices) .tally);
+              schedule = scheduleBytes n (run (setting p n choices) .rows) ++ drop (length (scheduleBytes n (run (setting p n choices) .rows))) schedule;
             } = rw (q, resulted, f) in
-            let x : _≡_ {A = Outcome Tally} (accepted t) (accepted (run p n choices .tally)) = sym answer ∙ ap (λ (r : Result). r .answer) whole in
+            let x : _≡_ {A = Outcome Tally} (accepted t) (accepted (run (setting p n choices) .tally)) = sym answer ∙ ap (λ (r : Result). r .answer) whole in
             record { p = p; read = e; some = some; most = most; tally = cc; written = ap (λ (r : Result). r .schedule) whole }
 
         by-run : (p : Plan) → readPlan plan ≡ accepted p → Stopped p n choices ⊎ Went p n choices → Wrote t
@@ -74,17 +76,21 @@ module _ (plan : List ℕ) (n : ℕ) (choices schedule : List ℕ) where
 
     module _ (w : Wrote t) where
       abbrev bytes : List ℕ
-      bytes = scheduleBytes n (run (w .p) n choices .rows)
+      bytes = scheduleBytes n (run (setting (w .p) n choices) .rows)
 
       kept : Accepted (w .p)
       kept = accepted-kept plan (w .p) (w .read)
+
+      fit : Fit (setting (w .p) n choices)
+      fit = record { plan = kept; some = w .some; most = w .most }
 
       long : length bytes ≡ 4 + 2 * t .actions
       long =
           omega (
             arith,
-            run-fits (w .p) kept n (w .some) (w .most) choices,
-            run-actions (w .p) kept n (w .some) (w .most) choices,
+            run-fits (w .p) n choices fit,
+            run-actions (setting (w .p) n choices) fit,
+            work-total (w .p),
             ap (λ (t : Tally). t .actions) (w .tally),
           )
 
@@ -93,10 +99,10 @@ module _ (plan : List ℕ) (n : ℕ) (choices schedule : List ℕ) where
 
       own-accepted : checked plan (take (4 + 2 * t .actions) (result .schedule)) ≡ accepted 0
       own-accepted =
-          let (r, b, trace, e, q) = run-trace (w .p) kept n (w .some) (w .most) choices in
-          let few : r ≤ 4095 = omega (arith, round-most (w .p) kept n (w .some) (w .most) choices trace, total-range (w .p) kept) in
+          let (r, b, trace, e, q) = run-trace (setting (w .p) n choices) fit in
+          let few : r ≤ 4095 = omega (arith, round-most (setting (w .p) n choices) fit trace, work-range (w .p) kept) in
           let part = ap (take (4 + 2 * t .actions)) (w .written) ∙ take-at bytes (drop (length bytes) schedule) (4 + 2 * t .actions) long in
-          ap (checked plan) part ∙ run-checked (w .p) kept n (w .some) (w .most) choices trace e few plan (w .read)
+          ap (checked plan) part ∙ run-checked (setting (w .p) n choices) fit trace e few plan (w .read)
 
 -- the schedule is as long as its actions say
 pub run-room : (plan : List ℕ) (n : ℕ) (choices schedule : List ℕ) (t : Tally) → runInto plan n choices schedule .answer ≡ accepted t

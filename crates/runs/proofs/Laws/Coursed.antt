@@ -83,6 +83,14 @@ start-peak p = refl
 pub start-weight : (p : Plan) → Accepted p → weight p (start p .next) ≡ job p 0 .frame
 start-weight p ok = none-weight p ok (start p .next) (none-done p)
 
+-- the turn of a worker that holds a job
+module _ (p : Plan) (ok : Accepted p) (n : ℕ) (s : State) (sound : Sound p n s) where
+  pub turn-ends : (r k j : ℕ) → workerOf s k ≡ Holding j → Ends p r k j (core s) (core (turn p r k j s))
+  unfolding turn
+  turn-ends r k j e =
+      let held = held-job p ok n s sound k j e in
+      finished-ends p r k j (core s) (sound .nexts) (sound .rows) (held .0) (held .1)
+
 module _ (S : Setting) (fit : Fit S) where
   open Setting S using (plan)
 
@@ -106,16 +114,6 @@ module _ (S : Setting) (fit : Fit S) where
   held-some : (r : ℕ) (s : State) → Sound plan (countIn S r) s → ended plan s ≡ false → Paced (terms S) 0 0 (handsOf (s .workers))
   held-some r s sound e = let (w, j, l, q) = busy plan (fit .plan) (countIn S r) s sound e in inl (refl, (w, j, ap handsIn q))
 
-  -- the turn of a worker that holds a job
-  turn-ends : (r : ℕ) (s : State) → Sound plan (countIn S r) s → (k j : ℕ) → workerOf s k ≡ Holding j → Ends plan r k j (core s) (core (turn plan r k j s))
-  unfolding turn
-  turn-ends r s sound k j e =
-      let held = held-job plan (fit .plan) (countIn S r) s sound k j e in
-      finished-ends plan r k j (core s) (sound .nexts) (sound .rows) (held .0) (held .1)
-
-  pub turn-acts : (r : ℕ) (s : State) → Sound plan (countIn S r) s → (k j : ℕ) → workerOf s k ≡ Holding j → Acts plan r k j (core s) (core (turn plan r k j s))
-  turn-acts r s sound k j e = turn-ends r s sound k j e .acts
-
   ones : (i : ℕ) → sum i (λ a. 1) ≡ i
   unfolding sum
   ones zero = refl
@@ -131,7 +129,7 @@ module _ (S : Setting) (fit : Fit S) where
   turned-course t (Waiting v l) e sound c = Course.rests c (ap handsIn e)
   turned-course {r} {k} {b} {s} t (Holding j) e sound c =
       let held : workerOf s k ≡ Holding j = trace-began S t k (le-refl k) ∙ e in
-      Course.ends c (ap handsIn e) refl (turn-ends r s (trace-sound S fit t) k j held)
+      Course.ends c (ap handsIn e) refl (turn-ends plan (fit .plan) (countIn S r) s (trace-sound S fit t) r k j held)
       (space plan (fit .plan) (countIn S r) (turn plan r k j s) sound)
 
   -- every state of a run is one of a course

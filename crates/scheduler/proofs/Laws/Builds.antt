@@ -10,13 +10,14 @@ use lib.ListN.{length, getD, take, drop, length-drop}
 use lib.Seq.{take-all}
 use borrow.Author.Tests.{le-leb, lt-ltb, le-ltb}
 use Rattle.plan.specs.Refusal.{Outcome, refused, accepted}
-use Rattle.plan.specs.Plan.{Plan, total}
+use Rattle.plan.specs.Plan.{Plan}
 use Rattle.plan.specs.Rules.{Accepted}
 use Rattle.plan.specs.Reader.{readPlan}
 use Rattle.plan.proofs.Laws.Valid.{total-range}
 use Rattle.plan_measure.specs.declared.Measures.{Measures}
-use Rattle.plan_measure.specs.Measure.{longest, heaviest, measured}
+use Rattle.plan_measure.specs.Measure.{work, longest, heaviest, measured}
 use Rattle.plan_measure.specs.Times.{MeasureGiven}
+use Rattle.runs.specs.Setting.{setting}
 use Rattle.runs.specs.declared.tally.Tally.{Tally}
 use Rattle.runs.specs.Run.{run, admitted, runOf}
 use Rattle.courses.specs.Schedule.{scheduleBytes}
@@ -65,14 +66,14 @@ module _ (p : Plan) (ok : Accepted p) (n : ℕ) (choices schedule : List ℕ) (l
   unfolding resulted
   stopped-answer s = ap (λ o. resulted o n schedule .answer) (s .not-run)
 
-  went-answer : Went p n choices → answer ≡ accepted (run p n choices .tally)
+  went-answer : Went p n choices → answer ≡ accepted (run (setting p n choices) .tally)
   unfolding resulted
   went-answer w =
-      let fits : length (scheduleBytes n (run p n choices .rows)) ≤ length schedule =
-      omega (arith, run-fits p ok n (w .some) (w .most) choices, total-range p ok) in
+      let fits : length (scheduleBytes n (run (setting p n choices) .rows)) ≤ length schedule =
+      omega (arith, run-fits p n choices (record { plan = ok; some = w .some; most = w .most }), total-range p ok) in
       let whole : resulted (admitted (accepted p) n choices) n schedule ≡ record {
-        answer = accepted (run p n choices .tally);
-        schedule = scheduleBytes n (run p n choices .rows) ++ drop (length (scheduleBytes n (run p n choices .rows))) schedule;
+        answer = accepted (run (setting p n choices) .tally);
+        schedule = scheduleBytes n (run (setting p n choices) .rows) ++ drop (length (scheduleBytes n (run (setting p n choices) .rows))) schedule;
       } = rw (w .ran, resulted, le-leb _ _ fits) in
       ap (λ (r : Result). r .answer) whole
 
@@ -86,7 +87,7 @@ module _ (p : Plan) (ok : Accepted p) (n : ℕ) (choices schedule : List ℕ) (l
           let i : k ≡ s .cause = cc in
           ap (λ m. refused m) i ∙ sym (ap (countsOf (accepted p)) (s .not-run))
       go (inr w) =
-          let x : _≡_ {A = Outcome Tally} (refused k) (accepted (run p n choices .tally)) = e ∙ went-answer w in
+          let x : _≡_ {A = Outcome Tally} (refused k) (accepted (run (setting p n choices) .tally)) = e ∙ went-answer w in
           absurd (let z : _≡_ {A = ℕ} 0 1 = cc in omega arith)
 
   pub build-counted : (t : Tally) (m : Measures) → _≡_ {A = Outcome Tally} (accepted t) answer
@@ -99,9 +100,9 @@ module _ (p : Plan) (ok : Accepted p) (n : ℕ) (choices schedule : List ℕ) (l
           let x : _≡_ {A = Outcome Tally} (accepted t) (refused (s .cause)) = e ∙ stopped-answer s in
           absurd (let z : _≡_ {A = ℕ} 0 1 = cc in omega arith)
       go (inr w) =
-          let x : _≡_ {A = Outcome Tally} (accepted t) (accepted (run p n choices .tally)) = e ∙ went-answer w in
-          let i : t ≡ run p n choices .tally = cc in
-          let j : m ≡ record { actions = total p; longest = longest p; path = heaviest p } = cc in
+          let x : _≡_ {A = Outcome Tally} (accepted t) (accepted (run (setting p n choices) .tally)) = e ∙ went-answer w in
+          let i : t ≡ run (setting p n choices) .tally = cc in
+          let j : m ≡ record { actions = work p; longest = longest p; path = heaviest p } = cc in
           ap₂ (λ t m. accepted (counted t m)) i j ∙ sym (ap (countsOf (accepted p)) (w .ran))
 
 -- the build of bytes, by what reading them tells

@@ -14,6 +14,7 @@ use Rattle.plan.specs.Plan.{Plan, size}
 use Rattle.plan.proofs.Laws.Valid.{jobs-range}
 use Rattle.plan.proofs.Laws.Placed.{first-at, start-suc}
 use Rattle.scheduler.specs.declared.account.Account.{Account}
+use Rattle.runs.specs.Setting.{Setting, setting, countIn}
 use Rattle.runs.specs.declared.worker.Worker.{Worker}
 use Rattle.runs.specs.declared.worker.Worker.the-variants.{Idle, Holding, Waiting}
 use Rattle.runs.specs.State.{State, nextOf}
@@ -27,25 +28,25 @@ use Rattle.runs.proofs.Laws.Rounds.{rounds-known}
 use Rattle.runs.proofs.Laws.Rests.{lay-rests, serve-rests}
 use Rattle.runs.proofs.Laws.Tallies.{turn-requests, serve-requests}
 use Rattle.runs.proofs.Laws.Whole.{round-last, round-on}
-use Rattle.scheduler.proofs.Laws.Running.{run-sound, run-at, run-turns}
+use Rattle.scheduler.proofs.Laws.Running.{run-fit, run-sound, run-at, run-turns}
 use Rattle.scheduler.proofs.Laws.Picks.{turns-queued}
 
-lays-still : (choices : List ℕ) (r k : ℕ) (b : List Worker) (s : State)
-    → (lays choices r k b s .next ≡ s .next) × (lays choices r k b s .rows ≡ s .rows)
+lays-still : (S : Setting) (r k : ℕ) (b : List Worker) (s : State)
+    → (lays S r k b s .next ≡ s .next) × (lays S r k b s .rows ≡ s .rows)
 unfolding lays
-lays-still choices r zero b s = (refl, refl)
-lays-still choices r (suc k) b s =
-    let q = lay-rests choices r k (getD b k Idle) (lays choices r k b s) in
-    let (g, h) = lays-still choices r k b s in
+lays-still S r zero b s = (refl, refl)
+lays-still S r (suc k) b s =
+    let q = lay-rests S r k (getD b k Idle) (lays S r k b s) in
+    let (g, h) = lays-still S r k b s in
     (q .next ∙ g, q .rows ∙ h)
 
-serves-still : (n k : ℕ) (s : State) → (serves n k s .next ≡ s .next) × (serves n k s .rows ≡ s .rows)
+serves-still : (S : Setting) (r k : ℕ) (s : State) → (serves S r k s .next ≡ s .next) × (serves S r k s .rows ≡ s .rows)
 unfolding serves
-serves-still n zero s = (refl, refl)
-serves-still n (suc k) s =
-    let t = serves n k s in
-    let q = serve-rests k (oldest k n (t .workers) .who) t in
-    let (g, h) = serves-still n k s in
+serves-still S r zero s = (refl, refl)
+serves-still S r (suc k) s =
+    let t = serves S r k s in
+    let q = serve-rests k (oldest k (countIn S r) (t .workers) .who) t in
+    let (g, h) = serves-still S r k s in
     (q .next ∙ g, q .rows ∙ h)
 
 -- turns and services lay no request
@@ -54,31 +55,31 @@ unfolding turns
 turns-requests p r zero b s = refl
 turns-requests p r (suc k) b s = turn-requests p r k (getD b k Idle) (turns p r k b s) ∙ turns-requests p r k b s
 
-pub serves-requests : (n k : ℕ) (s : State) → serves n k s .tally .requests ≡ s .tally .requests
+pub serves-requests : (S : Setting) (r k : ℕ) (s : State) → serves S r k s .tally .requests ≡ s .tally .requests
 unfolding serves
-serves-requests n zero s = refl
-serves-requests n (suc k) s =
-    let t = serves n k s in serve-requests k (oldest k n (t .workers) .who) t ∙ serves-requests n k s
+serves-requests S r zero s = refl
+serves-requests S r (suc k) s =
+    let t = serves S r k s in serve-requests k (oldest k (countIn S r) (t .workers) .who) t ∙ serves-requests S r k s
 
 -- the second half leaves the actions and the rows
-second-still : (n : ℕ) (choices : List ℕ) (r : ℕ) (b : List Worker) (s : State)
-    → (serves n n (lays choices r n b s) .next ≡ s .next) × (serves n n (lays choices r n b s) .rows ≡ s .rows)
-second-still n choices r b s =
-    let (e, f) = serves-still n n (lays choices r n b s) in
-    let (g, h) = lays-still choices r n b s in
+second-still : (S : Setting) (n r : ℕ) (b : List Worker) (s : State)
+    → (serves S r n (lays S r n b s) .next ≡ s .next) × (serves S r n (lays S r n b s) .rows ≡ s .rows)
+second-still S n r b s =
+    let (e, f) = serves-still S r n (lays S r n b s) in
+    let (g, h) = lays-still S r n b s in
     (e ∙ g, f ∙ h)
 
-lay-deques : (choices : List ℕ) (r w : ℕ) (x : Worker) (s : State) → lay choices r w x s .deques ≡ s .deques
+lay-deques : (S : Setting) (r w : ℕ) (x : Worker) (s : State) → lay S r w x s .deques ≡ s .deques
 unfolding lay laid
-lay-deques choices r w Idle s = refl
-lay-deques choices r w (Holding j) s = refl
-lay-deques choices r w (Waiting v l) s = refl
+lay-deques S r w Idle s = refl
+lay-deques S r w (Holding j) s = refl
+lay-deques S r w (Waiting v l) s = refl
 
 -- requests leave the deques
-pub lays-deques : (choices : List ℕ) (r k : ℕ) (b : List Worker) (s : State) → lays choices r k b s .deques ≡ s .deques
+pub lays-deques : (S : Setting) (r k : ℕ) (b : List Worker) (s : State) → lays S r k b s .deques ≡ s .deques
 unfolding lays
-lays-deques choices r zero b s = refl
-lays-deques choices r (suc k) b s = lay-deques choices r k (getD b k Idle) (lays choices r k b s) ∙ lays-deques choices r k b s
+lays-deques S r zero b s = refl
+lays-deques S r (suc k) b s = lay-deques S r k (getD b k Idle) (lays S r k b s) ∙ lays-deques S r k b s
 
 -- what stands for a state stands for one with the same actions and rows, with another account and other deques
 machine-rests : (p : Plan) (s t : State) (c c′ : Account) (seats seats′ rows next missing slots top len top′ len′ : List ℕ)
@@ -122,7 +123,7 @@ module _ {p : Plan} {n : ℕ} {choices : List ℕ} {r : ℕ} {s : State} {c : Ac
   round-counted = omega (arith, ap (λ t. t .rounds) (manned .counts))
 
   pub round-known : c .tally .rounds + 1 ≡ r
-  round-known = omega (arith, round-counted, rounds-known p (run .accepted) n (run .some) (run .most) choices (run .trace))
+  round-known = omega (arith, round-counted, rounds-known (setting p n choices) (run-fit run) (run .trace))
 
   -- the round that begins is the one after those that the tally counts
   pub round-now : InRun p n choices (c .tally .rounds + 1) (s .workers) (turning 0) s
@@ -132,22 +133,22 @@ module _ {p : Plan} {n : ℕ} {choices : List ℕ} {r : ℕ} {s : State} {c : Ac
   module _ {frame first spawn join parent seats′ rows next missing slots top len : List ℕ} {c′ : Account}
       (planned : Planned p frame first spawn join parent)
       (half : Machine p (turns p (c .tally .rounds + 1) n (s .workers) s) c′ seats′ rows next missing slots top len) where
-    pub round-ends : getD next 0 0 ≡ getD first 1 0 → Machine p (round p n choices s) c′ seats′ rows next missing slots top len
+    pub round-ends : getD next 0 0 ≡ getD first 1 0 → Machine p (round (setting p n choices) s) c′ seats′ rows next missing slots top len
     round-ends e =
         let last = ended-there (run-turns round-now n (le-refl n)) planned (half .progressed) e in
-        rw (round-last p n choices (c .tally .rounds + 1) s round-counted last) half
+        rw (round-last (setting p n choices) (c .tally .rounds + 1) s round-counted last) half
 
-    pub ends-pointed : {k : ℕ} → Pointed choices s k → getD next 0 0 ≡ getD first 1 0 → Pointed choices (round p n choices s) k
+    pub ends-pointed : {k : ℕ} → Pointed choices s k → getD next 0 0 ≡ getD first 1 0 → Pointed choices (round (setting p n choices) s) k
     ends-pointed e q =
         let last = ended-there (run-turns round-now n (le-refl n)) planned (half .progressed) q in
-        rw (round-last p n choices (c .tally .rounds + 1) s round-counted last, turns-requests p (c .tally .rounds + 1) n (s .workers) s) e
+        rw (round-last (setting p n choices) (c .tally .rounds + 1) s round-counted last, turns-requests p (c .tally .rounds + 1) n (s .workers) s) e
 
     pub ends-queued : {hi : ℕ} {after last : List ℕ} → Queued hi (s .workers) after last → getD next 0 0 ≡ getD first 1 0
-        → Queued hi (round p n choices s .workers) after last
+        → Queued hi (round (setting p n choices) s .workers) after last
     ends-queued e q =
         let turned = run-turns round-now n (le-refl n) in
         let last = ended-there turned planned (half .progressed) q in
-        rw (round-last p n choices (c .tally .rounds + 1) s round-counted last) (turns-queued round-now n (le-refl n) e)
+        rw (round-last (setting p n choices) (c .tally .rounds + 1) s round-counted last) (turns-queued round-now n (le-refl n) e)
 
     module _ (more : getD next 0 0 ≢ getD first 1 0) where
       pub round-lays : InRun p n choices (c .tally .rounds + 1) (s .workers) (laying 0) (turns p (c .tally .rounds + 1) n (s .workers) s)
@@ -156,27 +157,27 @@ module _ {p : Plan} {n : ℕ} {choices : List ℕ} {r : ℕ} {s : State} {c : Ac
           run-at turned (goes-on (turned .trace) (ended-not turned planned (half .progressed) more))
 
       pub round-serves : {c″ : Account} {seats″ top′ len′ : List ℕ}
-          → Manned p (serves n n (lays choices (c .tally .rounds + 1) n (s .workers) (turns p (c .tally .rounds + 1) n (s .workers) s))) c″ seats″
-          → Dequed (serves n n (lays choices (c .tally .rounds + 1) n (s .workers) (turns p (c .tally .rounds + 1) n (s .workers) s)) .deques)
+          → Manned p (serves (setting p n choices) (c .tally .rounds + 1) n (lays (setting p n choices) (c .tally .rounds + 1) n (s .workers) (turns p (c .tally .rounds + 1) n (s .workers) s))) c″ seats″
+          → Dequed (serves (setting p n choices) (c .tally .rounds + 1) n (lays (setting p n choices) (c .tally .rounds + 1) n (s .workers) (turns p (c .tally .rounds + 1) n (s .workers) s)) .deques)
           slots top′ len′
-          → Machine p (round p n choices s) c″ seats″ rows next missing slots top′ len′
+          → Machine p (round (setting p n choices) s) c″ seats″ rows next missing slots top′ len′
       round-serves crew deques =
           let turned = run-turns round-now n (le-refl n) in
-          let (e, f) = second-still n choices (c .tally .rounds + 1) (s .workers) (turns p (c .tally .rounds + 1) n (s .workers) s) in
-          rw (round-on p n choices (c .tally .rounds + 1) s round-counted (ended-not turned planned (half .progressed) more))
+          let (e, f) = second-still (setting p n choices) n (c .tally .rounds + 1) (s .workers) (turns p (c .tally .rounds + 1) n (s .workers) s) in
+          rw (round-on (setting p n choices) (c .tally .rounds + 1) s round-counted (ended-not turned planned (half .progressed) more))
           (machine-rests p _ _ _ _ _ _ _ _ _ _ _ _ _ _ half e f crew deques)
 
       pub serves-pointed : {k : ℕ}
-          → Pointed choices (serves n n (lays choices (c .tally .rounds + 1) n (s .workers) (turns p (c .tally .rounds + 1) n (s .workers) s))) k
-          → Pointed choices (round p n choices s) k
+          → Pointed choices (serves (setting p n choices) (c .tally .rounds + 1) n (lays (setting p n choices) (c .tally .rounds + 1) n (s .workers) (turns p (c .tally .rounds + 1) n (s .workers) s))) k
+          → Pointed choices (round (setting p n choices) s) k
       serves-pointed e =
           let turned = run-turns round-now n (le-refl n) in
-          rw (round-on p n choices (c .tally .rounds + 1) s round-counted (ended-not turned planned (half .progressed) more)) e
+          rw (round-on (setting p n choices) (c .tally .rounds + 1) s round-counted (ended-not turned planned (half .progressed) more)) e
 
       pub serves-queued : {hi : ℕ} {after last : List ℕ}
-          → Queued hi (serves n n (lays choices (c .tally .rounds + 1) n (s .workers) (turns p (c .tally .rounds + 1) n (s .workers) s)) .workers)
+          → Queued hi (serves (setting p n choices) (c .tally .rounds + 1) n (lays (setting p n choices) (c .tally .rounds + 1) n (s .workers) (turns p (c .tally .rounds + 1) n (s .workers) s)) .workers)
           after last
-          → Queued hi (round p n choices s .workers) after last
+          → Queued hi (round (setting p n choices) s .workers) after last
       serves-queued e =
           let turned = run-turns round-now n (le-refl n) in
-          rw (round-on p n choices (c .tally .rounds + 1) s round-counted (ended-not turned planned (half .progressed) more)) e
+          rw (round-on (setting p n choices) (c .tally .rounds + 1) s round-counted (ended-not turned planned (half .progressed) more)) e

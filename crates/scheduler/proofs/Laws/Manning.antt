@@ -10,6 +10,7 @@ use lib.ListN.{length, getD, set}
 use lib.Seq.{getD-set-same, getD-set-other}
 use Rattle.plan.specs.Plan.{Plan}
 use Rattle.scheduler.specs.declared.account.Account.{Account}
+use Rattle.runs.specs.Setting.{Setting}
 use Rattle.runs.specs.declared.tally.Tally.{Tally}
 use Rattle.runs.specs.declared.worker.Worker.{Worker}
 use Rattle.runs.specs.declared.worker.Worker.the-variants.{Idle, Holding, Waiting}
@@ -23,11 +24,11 @@ use Rattle.scheduler.proofs.Laws.Running.{run-sound, run-seats, run-at}
 use Rattle.scheduler.proofs.Laws.Picks.{served-below}
 
 -- a worker that was not idle as the round began lays no request
-pub lay-rests : (choices : List ℕ) (r w : ℕ) (x : Worker) (s : State) → isIdle x ≡ false → lay choices r w x s ≡ s
+pub lay-rests : (S : Setting) (r w : ℕ) (x : Worker) (s : State) → isIdle x ≡ false → lay S r w x s ≡ s
 unfolding lay
-lay-rests choices r w Idle s f = absurd (true≢false f)
-lay-rests choices r w (Holding j) s f = refl
-lay-rests choices r w (Waiting v l) s f = refl
+lay-rests S r w Idle s f = absurd (true≢false f)
+lay-rests S r w (Holding j) s f = refl
+lay-rests S r w (Waiting v l) s f = refl
 
 -- the counts after a request, a steal and a miss
 abbrev pub asked : Tally → Tally
@@ -69,17 +70,17 @@ module _ (p : Plan) (s : State) (c : Account) (seats : List ℕ) (sixteen : leng
       seated-set (s .workers) (set (s .workers) w x) seats w x h (sym (getD-set-same (s .workers) w x Idle (omega arith)))
       (λ v f. getD-set-other (s .workers) w v x Idle f) (m .seated)
 
-  module _ (choices : List ℕ) (r : ℕ) where
+  module _ (S : Setting) (r : ℕ) where
     -- the worker that asks, as its seat then has it
     abbrev pub asker : Worker
-    asker = Waiting (getD choices ((s .tally .requests) % length choices) 0) r
+    asker = Waiting (getD (S .choices) ((s .tally .requests) % length (S .choices)) 0) r
 
-    pub laid-manned : (t : Tally) → t ≡ asked (c .tally) → Manned p (lay choices r w Idle s) (record { weight = c .weight; tally = t }) (set seats w (codeOf asker))
+    pub laid-manned : (t : Tally) → t ≡ asked (c .tally) → Manned p (lay S r w Idle s) (record { weight = c .weight; tally = t }) (set seats w (codeOf asker))
     unfolding lay laid
     laid-manned t e =
         rw (e, m .counts) (record { seated = reseated _; weighs = m .weighs; counts = refl })
 
-    pub laid-pointed : (k : ℕ) → k ≡ suc (s .tally .requests) % length choices → Pointed choices (lay choices r w Idle s) k
+    pub laid-pointed : (k : ℕ) → k ≡ suc (s .tally .requests) % length (S .choices) → Pointed (S .choices) (lay S r w Idle s) k
     unfolding lay laid
     laid-pointed k e = e
 

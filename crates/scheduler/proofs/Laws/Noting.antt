@@ -3,7 +3,7 @@
 -- Assumes nothing.
 use Prim.Native.Nat.{ℕ, zero, suc, _+_, _*_, _≤_, _<_}
 use mathlib.Core.Path.{_≡_, refl, sym, ap, _∙_}
-use mathlib.Core.Bool.{Bool, true, false, true≢false}
+use mathlib.Core.Bool.{Bool, true, false}
 use mathlib.Core.Logic.{_≢_, by-cases}
 use mathlib.Core.List.{List}
 use native.Mathlib.Omega.{arith}
@@ -12,6 +12,7 @@ use lib.ListN.{length, getD, set}
 use lib.Dec.{ltb, le→leb}
 use lib.Seq.{getD-set-same, getD-set-other}
 use Rattle.plan.specs.Plan.{Plan}
+use Rattle.runs.specs.Setting.{Setting, setting, countIn}
 use Rattle.runs.specs.declared.worker.Worker.{Worker}
 use Rattle.runs.specs.declared.worker.Worker.the-variants.{Idle}
 use Rattle.runs.specs.State.{State}
@@ -68,48 +69,48 @@ grown-most count true r grows stays = omega (arith, grows refl)
 grown-most count false r grows stays = omega (arith, stays refl)
 
 -- where no worker is idle no request is laid
-pub lays-past : (choices : List ℕ) (r : ℕ) (ws : List Worker) (s : State) (i j : ℕ) → i ≤ j → None (idleIn ws) i j
-    → lays choices r j ws s ≡ lays choices r i ws s
+pub lays-past : (S : Setting) (r : ℕ) (ws : List Worker) (s : State) (i j : ℕ) → i ≤ j → None (idleIn ws) i j
+    → lays S r j ws s ≡ lays S r i ws s
 unfolding lays
-lays-past choices r ws s i zero h none = let e : i ≡ 0 = omega arith in rw e refl
-lays-past choices r ws s i (suc j) h none =
+lays-past S r ws s i zero h none = let e : i ≡ 0 = omega arith in rw e refl
+lays-past S r ws s i (suc j) h none =
     by-cases (ℕ-discrete i (suc j)) (λ e. rw e refl)
-    (λ f. lay-rests choices r j (getD ws j Idle) (lays choices r j ws s) (none j (omega (arith, f)) (omega arith))
-    ∙ lays-past choices r ws s i j (omega (arith, f)) (λ w k l. none w k (omega arith)))
+    (λ f. lay-rests S r j (getD ws j Idle) (lays S r j ws s) (none j (omega (arith, f)) (omega arith))
+    ∙ lays-past S r ws s i j (omega (arith, f)) (λ w k l. none w k (omega arith)))
 
 -- the workers below k have laid
-pub record LaidTo (p : Plan) (choices : List ℕ) (r : ℕ) (ws : List Worker) (s : State) (a : Account) (seats : List ℕ) (cursor : ℕ)
+pub record LaidTo (p : Plan) (S : Setting) (r : ℕ) (ws : List Worker) (s : State) (a : Account) (seats : List ℕ) (cursor : ℕ)
     (after last : List ℕ) (k : ℕ) : Type 0 where
-  pub manned : Manned p (lays choices r k ws s) a seats
-  pub pointed : Pointed choices (lays choices r k ws s) cursor
-  pub queued : Queued (r * 16 + k) (lays choices r k ws s .workers) after last
+  pub manned : Manned p (lays S r k ws s) a seats
+  pub pointed : Pointed (S .choices) (lays S r k ws s) cursor
+  pub queued : Queued (r * 16 + k) (lays S r k ws s .workers) after last
 
-module _ {p : Plan} {choices : List ℕ} {r : ℕ} {ws : List Worker} {s : State} {a : Account} {seats : List ℕ} {cursor : ℕ} {after last : List ℕ} where
-  laid-on : {i : ℕ} (j : ℕ) → i ≤ j → None (idleIn ws) i j → LaidTo p choices r ws s a seats cursor after last i
-      → LaidTo p choices r ws s a seats cursor after last j
+module _ {p : Plan} {S : Setting} {r : ℕ} {ws : List Worker} {s : State} {a : Account} {seats : List ℕ} {cursor : ℕ} {after last : List ℕ} where
+  laid-on : {i : ℕ} (j : ℕ) → i ≤ j → None (idleIn ws) i j → LaidTo p S r ws s a seats cursor after last i
+      → LaidTo p S r ws s a seats cursor after last j
   laid-on {i} j h none t =
-      let e = lays-past choices r ws s i j h none in
+      let e = lays-past S r ws s i j h none in
       record { manned = rw e (t .manned); pointed = rw e (t .pointed); queued = rw e (queued-later (t .queued) _ (omega arith)) }
 
   -- before the request of w, the next one in the list
   pub noted-here : {n : ℕ} {list : List ℕ} {count : ℕ} → Noted (idleIn ws) n list count → (m : ℕ) → m < count → (w : ℕ) → w ≡ getD list m 0
-      → LaidTo p choices r ws s a seats cursor after last (past list m)
-      → LaidTo p choices r ws s a seats cursor after last w × (w < n) × (getD ws w Idle ≡ Idle)
+      → LaidTo p S r ws s a seats cursor after last (past list m)
+      → LaidTo p S r ws s a seats cursor after last w × (w < n) × (getD ws w Idle ≡ Idle)
   noted-here noted m h w e t =
       let there = noted .each m h in
       rw e (laid-on _ (there .0) (there .3) t, there .1, idle-is _ (there .2))
 
   -- behind the last one
   pub noted-end : {n : ℕ} {list : List ℕ} {count : ℕ} → Noted (idleIn ws) n list count
-      → LaidTo p choices r ws s a seats cursor after last (past list count) → LaidTo p choices r ws s a seats cursor after last n
+      → LaidTo p S r ws s a seats cursor after last (past list count) → LaidTo p S r ws s a seats cursor after last n
   noted-end {n} noted t = laid-on n (noted .rest .0) (noted .rest .1) t
 
   -- and behind it
   pub laid-more : {n : ℕ} {list : List ℕ} {count : ℕ} → Noted (idleIn ws) n list count → (m w : ℕ) → w ≡ getD list m 0
-      → Manned p (lay choices r w (getD ws w Idle) (lays choices r w ws s)) a seats
-      × Pointed choices (lay choices r w (getD ws w Idle) (lays choices r w ws s)) cursor
-      × Queued (suc (r * 16 + w)) (lay choices r w (getD ws w Idle) (lays choices r w ws s) .workers) after last
-      → LaidTo p choices r ws s a seats cursor after last (past list (suc m))
+      → Manned p (lay S r w (getD ws w Idle) (lays S r w ws s)) a seats
+      × Pointed (S .choices) (lay S r w (getD ws w Idle) (lays S r w ws s)) cursor
+      × Queued (suc (r * 16 + w)) (lay S r w (getD ws w Idle) (lays S r w ws s) .workers) after last
+      → LaidTo p S r ws s a seats cursor after last (past list (suc m))
   unfolding lays
   laid-more noted m w e (h, q, l) = rw (← e) (record { manned = h; pointed = q; queued = queued-later l _ (omega arith) })
 
@@ -117,28 +118,28 @@ not-asked : (x : ℕ) → ltb 0 x ≡ false → x ≡ 0
 not-asked x e = by-cases (ℕ-discrete x 0) (λ q. q) (λ f. absurd (rw e at (le→leb 1 x (omega (arith, f)))))
 
 -- a victim without a request serves none
-serves-none : (n k : ℕ) (s : State) → oldest k n (serves n k s .workers) .who ≡ 0 → serves n (suc k) s ≡ serves n k s
+serves-none : (S : Setting) (r k : ℕ) (s : State) → oldest k (countIn S r) (serves S r k s .workers) .who ≡ 0 → serves S r (suc k) s ≡ serves S r k s
 unfolding serves serve
-serves-none n k s e = ap (λ x. serve k x (serves n k s)) e
+serves-none S r k s e = ap (λ x. serve k x (serves S r k s)) e
 
 -- the victims below k have served; the lines of the others begin as they did
-pub record ServedTo (p : Plan) (n : ℕ) (hi : ℕ) (s : State) (a : Account) (seats after₀ after last slots top len : List ℕ) (k : ℕ) : Type 0 where
-  pub manned : Manned p (serves n k s) a seats
-  pub queued : Queued hi (serves n k s .workers) after last
-  pub dequed : Dequed (serves n k s .deques) slots top len
+pub record ServedTo (p : Plan) (S : Setting) (r hi : ℕ) (s : State) (a : Account) (seats after₀ after last slots top len : List ℕ) (k : ℕ) : Type 0 where
+  pub manned : Manned p (serves S r k s) a seats
+  pub queued : Queued hi (serves S r k s .workers) after last
+  pub dequed : Dequed (serves S r k s .deques) slots top len
   pub kept : (u : ℕ) → k ≤ u → getD after (16 + u) 0 ≡ getD after₀ (16 + u) 0
 
 module _ {p : Plan} {n : ℕ} {choices : List ℕ} {r : ℕ} {b : List Worker} {hi : ℕ} {s : State} {a : Account} {seats after₀ after last slots top len : List ℕ}
     (run : InRun p n choices r b (serving 0) s) where
-  served-on : (j : ℕ) → suc j ≤ n → askedIn after₀ j ≡ false → ServedTo p n hi s a seats after₀ after last slots top len j
-      → ServedTo p n hi s a seats after₀ after last slots top len (suc j)
+  served-on : (j : ℕ) → suc j ≤ n → askedIn after₀ j ≡ false → ServedTo p (setting p n choices) r hi s a seats after₀ after last slots top len j
+      → ServedTo p (setting p n choices) r hi s a seats after₀ after last slots top len (suc j)
   served-on j l none t =
       let first = first-oldest (run-serves run j (omega arith)) l (t .queued) in
-      let e = serves-none n j s (sym first ∙ (t .kept j (omega arith) ∙ not-asked _ none)) in
+      let e = serves-none (setting p n choices) r j s (sym first ∙ (t .kept j (omega arith) ∙ not-asked _ none)) in
       record { manned = rw e (t .manned); queued = rw e (t .queued); dequed = rw e (t .dequed); kept = λ u m. t .kept u (omega arith) }
 
-  serves-past : (i j : ℕ) → i ≤ j → j ≤ n → None (askedIn after₀) i j → ServedTo p n hi s a seats after₀ after last slots top len i
-      → ServedTo p n hi s a seats after₀ after last slots top len j
+  serves-past : (i j : ℕ) → i ≤ j → j ≤ n → None (askedIn after₀) i j → ServedTo p (setting p n choices) r hi s a seats after₀ after last slots top len i
+      → ServedTo p (setting p n choices) r hi s a seats after₀ after last slots top len j
   serves-past i zero h l none t = let e : 0 ≡ i = omega arith in rw e t
   serves-past i (suc j) h l none t =
       by-cases (ℕ-discrete i (suc j)) (λ e. rw (← e) t)
@@ -146,27 +147,27 @@ module _ {p : Plan} {n : ℕ} {choices : List ℕ} {r : ℕ} {b : List Worker} {
 
   -- before the service of v, the next one in the list
   pub asked-here : {list : List ℕ} {count : ℕ} → Noted (askedIn after₀) n list count → (m : ℕ) → m < count → (v : ℕ) → v ≡ getD list m 0
-      → ServedTo p n hi s a seats after₀ after last slots top len (past list m)
-      → ServedTo p n hi s a seats after₀ after last slots top len v × (v < n)
+      → ServedTo p (setting p n choices) r hi s a seats after₀ after last slots top len (past list m)
+      → ServedTo p (setting p n choices) r hi s a seats after₀ after last slots top len v × (v < n)
   asked-here noted m h v e t =
       let there = noted .each m h in
       rw e (serves-past _ _ (there .0) (omega (arith, there .1)) (there .3) t, there .1)
 
   -- behind the last one
   pub asked-end : {list : List ℕ} {count : ℕ} → Noted (askedIn after₀) n list count
-      → ServedTo p n hi s a seats after₀ after last slots top len (past list count)
-      → ServedTo p n hi s a seats after₀ after last slots top len n
+      → ServedTo p (setting p n choices) r hi s a seats after₀ after last slots top len (past list count)
+      → ServedTo p (setting p n choices) r hi s a seats after₀ after last slots top len n
   asked-end noted t = serves-past _ n (noted .rest .0) (omega arith) (noted .rest .1) t
 
 -- and behind it
-pub served-more : {p : Plan} {n : ℕ} {hi : ℕ} {s : State} {a a′ : Account} {seats seats′ after₀ after after′ last last′ slots top top′ len len′ : List ℕ}
+pub served-more : {p : Plan} {S : Setting} {n r hi : ℕ} {s : State} {a a′ : Account} {seats seats′ after₀ after after′ last last′ slots top top′ len len′ : List ℕ}
     {list : List ℕ} {count : ℕ} → Noted (askedIn after₀) n list count → (m v : ℕ) → v ≡ getD list m 0
-    → ServedTo p n hi s a seats after₀ after last slots top len v
-    → Manned p (serve v (oldest v n (serves n v s .workers) .who) (serves n v s)) a′ seats′
-    × Queued hi (serve v (oldest v n (serves n v s .workers) .who) (serves n v s) .workers) after′ last′
-    × Dequed (serve v (oldest v n (serves n v s .workers) .who) (serves n v s) .deques) slots top′ len′
+    → ServedTo p S r hi s a seats after₀ after last slots top len v
+    → Manned p (serve v (oldest v (countIn S r) (serves S r v s .workers) .who) (serves S r v s)) a′ seats′
+    × Queued hi (serve v (oldest v (countIn S r) (serves S r v s .workers) .who) (serves S r v s) .workers) after′ last′
+    × Dequed (serve v (oldest v (countIn S r) (serves S r v s .workers) .who) (serves S r v s) .deques) slots top′ len′
     → ((u : ℕ) → u ≢ v → getD after′ (16 + u) 0 ≡ getD after (16 + u) 0)
-    → ServedTo p n hi s a′ seats′ after₀ after′ last′ slots top′ len′ (past list (suc m))
+    → ServedTo p S r hi s a′ seats′ after₀ after′ last′ slots top′ len′ (past list (suc m))
 unfolding serves
 served-more noted m v e t (h, q, d) others =
     rw (← e) (record { manned = h; queued = q; dequed = d; kept = λ u k. others u (λ x. omega arith) ∙ t .kept u (omega arith) })

@@ -9,6 +9,7 @@ use native.Mathlib.Omega.{arith}
 use lib.ListN.{length, getD, set, replicate, getD-replicate}
 use Rattle.plan.specs.Plan.{Plan}
 use Rattle.scheduler.specs.declared.account.Account.{Account}
+use Rattle.runs.specs.Setting.{Setting, setting}
 use Rattle.runs.specs.declared.worker.Worker.{Worker}
 use Rattle.runs.specs.declared.worker.Worker.the-variants.{Idle, Holding, Waiting}
 use Rattle.runs.specs.State.{State, workerOf, dequeOf, start}
@@ -51,20 +52,20 @@ turns-queued {p} {n} {choices} {r} {b} {s} {hi} {after} {last} run (suc k) h q =
     go rest (Holding j) e =
         queued-calm rest (run-sound here .workers) k (omega (arith, run .most)) (seated p k j t)
         (calm-held (workerOf t k) j
-        (trace-began p (run .accepted) n (run .some) (run .most) choices (here .trace) k (le-refl k) ∙ e))
+        (trace-began (setting p n choices) (here .trace) k (le-refl k) ∙ e))
         (calm-waits (seated p k j t) (seated-waits p k j t))
 
 -- a worker that was idle as the round began does not wait when it lays
 pub laying-calm : {p : Plan} {n : ℕ} {choices : List ℕ} {r : ℕ} {b : List Worker} {s : State} (w : ℕ)
     → InRun p n choices r b (laying w) s → getD b w Idle ≡ Idle → Calm (workerOf s w)
 laying-calm {p} {n} {choices} {s = s} w run e =
-    calm-idle (workerOf s w) (laying-idle p (run .accepted) n (run .some) (run .most) choices (run .trace) w (le-refl w) e)
+    calm-idle (workerOf s w) (laying-idle (setting p n choices) (run .trace) w (le-refl w) e)
 
-pub lay-queued : (choices : List ℕ) (r w hi : ℕ) (s : State) (after last : List ℕ)
-    → Queued hi (set (s .workers) w (Waiting (getD choices (s .tally .requests % length choices) 0) r)) after last
-    → Queued hi (lay choices r w Idle s .workers) after last
+pub lay-queued : (S : Setting) (r w hi : ℕ) (s : State) (after last : List ℕ)
+    → Queued hi (set (s .workers) w (Waiting (getD (S .choices) (s .tally .requests % length (S .choices)) 0) r)) after last
+    → Queued hi (lay S r w Idle s .workers) after last
 unfolding lay laid
-lay-queued choices r w hi s after last q = q
+lay-queued S r w hi s after last q = q
 
 -- the first of a line is the request that its victim serves
 pub first-oldest : {p : Plan} {n : ℕ} {choices : List ℕ} {r : ℕ} {b : List Worker} {hi v : ℕ} {s : State} {after last : List ℕ}

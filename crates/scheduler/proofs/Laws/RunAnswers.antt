@@ -1,7 +1,7 @@
 -- What the entry `run` answers, by what was read.
 -- Assumes nothing.
 use Prim.Native.Nat.{ℕ, _+_, _-_, _*_, _≤_, _<_}
-use mathlib.Core.Path.{_≡_, refl, sym, ap, ap₂, _∙_}
+use mathlib.Core.Path.{_≡_, sym, ap, ap₂, _∙_}
 use mathlib.Core.Bool.{true, false}
 use mathlib.Core.List.{List, [], _++_, append-nil}
 use native.Mathlib.Omega.{arith}
@@ -17,6 +17,7 @@ use Rattle.plan.specs.Flat.{FlatPlan}
 use Rattle.plan.proofs.Laws.Found.{Given}
 use Rattle.plan.proofs.Laws.Valid.{total-range}
 use Rattle.plan.proofs.Laws.Lists.{both-intro, both-left, both-right, true-of, false-of, of-true}
+use Rattle.runs.specs.Setting.{setting}
 use Rattle.runs.specs.declared.tally.Tally.{Tally}
 use Rattle.scheduler.specs.declared.run.Ran.{Ran}
 use Rattle.scheduler.specs.declared.run.Ran.the-variants.{Refused as RefusedRun, Done}
@@ -27,6 +28,7 @@ use Rattle.scheduler.specs.Entry.{Result, resulted, runInto, ranOf, Clai
 use Rattle.scheduler.specs.Machine.{RunGiven, Printed, Kept as RowsKept}
 use Rattle.scheduler.specs.Loaded.{Loaded, Answered}
 use Rattle.scheduler.specs.Header.{headerBytes}
+use Rattle.runs.proofs.Laws.Fit.{Fit}
 use Rattle.runs.proofs.Laws.Demand3.{run-bounded}
 use Rattle.scheduler.proofs.Laws.RunBytes.{run-fits, run-written}
 
@@ -85,6 +87,9 @@ module _ (p : Plan) (actions : ℕ) (frame first spawn join parent missing : Lis
         refuses Refusal.Workers (rw (admitted, e))
 
     module _ (some : 1 ≤ n) (most : n ≤ 16) where
+      going : Fit (setting p n choices)
+      going = record { plan = g .planned .accepted; some = some; most = most }
+
       fits : workersFit n ≡ true
       unfolding workersFit
       fits = true-of (workersFit n) (both-intro (leb 1 n) (leb n 16) (le→leb 1 n some) (le→leb n 16 most))
@@ -95,14 +100,14 @@ module _ (p : Plan) (actions : ℕ) (frame first spawn join parent missing : Lis
 
       module _ (fit : choicesFit n choices ≡ true) where
         abbrev s : State
-        s = run p n choices
+        s = run (setting p n choices)
 
         ran : admitted (accepted p) n choices ≡ accepted s
         unfolding admitted
         ran = rw (admitted, fits, fit)
 
         whole : length (scheduleBytes n (s .rows)) ≡ 4 + 2 * actions
-        whole = omega (arith, run-fits p (g .planned .accepted) n some most choices, g .all)
+        whole = omega (arith, run-fits p n choices going, g .all)
 
         pub refuses-short : length schedule < 4 + 2 * actions → Answered p n choices schedule (RefusedRun Refusal.Short) schedule
         unfolding resulted
@@ -142,17 +147,16 @@ module _ (p : Plan) (actions : ℕ) (frame first spawn join parent missing : Lis
           -- and what it then answers
           pub run-answers : (t : Tally) (rows : List ℕ)
               → ((q : Plan) → RunGiven q n choices frame first spawn join parent missing → 2 * total q ≤ length (take rest (drop 4 headed))
-              → (t ≡ run q n choices .tally) × Printed q (run q n choices) rows × RowsKept q (take rest (drop 4 headed)) rows)
+              → (t ≡ run (setting q n choices) .tally) × Printed q (run (setting q n choices)) rows × RowsKept q (take rest (drop 4 headed)) rows)
               → Answered p n choices schedule (Done t) (take 4 headed ++ (rows ++ drop rest (drop 4 headed)))
           unfolding resulted
           run-answers t rows told =
               let (q, printed, kept) = told p run-given room in
-              let ok = g .planned .accepted in
               let out = scheduleBytes n (s .rows) in
               let fit : length out ≤ length schedule = omega (arith, whole) in
               let x : take 4 headed ++ (rows ++ drop rest (drop 4 headed)) ≡ out ++ drop (length out) schedule =
               ap₂ _++_ (ap (take 4) e) (ap (λ l. rows ++ l) behind ∙ append-nil rows)
-              ∙ (ap (λ a. headerBytes n a ++ rows) (g .all) ∙ run-written p ok n some most choices schedule rows printed (rw part at kept)) in (
+              ∙ (ap (λ a. headerBytes n a ++ rows) (g .all) ∙ run-written p n choices going schedule rows printed (rw part at kept)) in (
                 rw (q, x, ran, resulted, le-leb _ _ fit),
-                λ u v. let same : u ≡ s .tally = cc in rw (same, x) (run-bounded p ok n some most choices (drop (length out) schedule)),
+                λ u v. let same : u ≡ s .tally = cc in rw (same, x) (run-bounded (setting p n choices) going (drop (length out) schedule)),
               )

@@ -1,21 +1,23 @@
 -- What the runner has written is the schedule of the run.
 -- Assumes nothing.
-use Prim.Native.Nat.{ℕ, zero, suc, _+_, _*_, _/_, _%_, _≤_, _<_}
+use Prim.Native.Nat.{ℕ, suc, _+_, _*_, _/_, _%_, _≤_, _<_}
 use mathlib.Core.Path.{_≡_, refl, sym, ap, ap₂, _∙_}
-use mathlib.Core.List.{List, [], _∷_, _++_, append-assoc}
+use mathlib.Core.List.{List, [], _∷_, _++_}
 use native.Mathlib.Omega.{arith}
 use lib.ListN.{length, getD, take, drop, take-append-drop}
 use lib.Seq.{drop-drop}
 use Rattle.plan.specs.Plan.{Plan, total}
-use Rattle.plan.specs.Rules.{Accepted}
 use Rattle.plan.proofs.Laws.Placed.{locate}
 use Rattle.plan.proofs.Laws.Valid.{total-range}
+use Rattle.plan_measure.proofs.Laws.Work.{work-range}
 use Rattle.courses.specs.Row.{Row, noRow}
+use Rattle.runs.specs.Setting.{setting}
 use Rattle.runs.specs.State.{nextOf}
 use Rattle.runs.specs.Run.{run}
 use Rattle.courses.specs.Schedule.{scheduleBytes}
 use Rattle.scheduler.specs.Machine.{Printed, Kept}
 use Rattle.scheduler.specs.Header.{headerBytes}
+use Rattle.runs.proofs.Laws.Fit.{Fit}
 use Rattle.runs.proofs.Laws.Coursed.{rows-length, run-row}
 use Rattle.courses.proofs.Laws.ScheduleBytes.{schedule-length}
 use Rattle.runs.proofs.Laws.Whole.{run-trace, round-most, run-done}
@@ -40,35 +42,35 @@ rows-written (a ∷ rows) (x ∷ (y ∷ bytes)) h f =
     (ap (λ m. getD all m 0) even ∙ s, ap (λ m. getD all m 0) odd ∙ t)) in
     ap (λ m. take m all) long ∙ ap₂ (λ (z : ℕ) (l : List ℕ). z ∷ l) u (ap₂ (λ (z : ℕ) (l : List ℕ). z ∷ l) v rest)
 
-module _ (p : Plan) (ok : Accepted p) (n : ℕ) (some : 1 ≤ n) (most : n ≤ 16) (choices : List ℕ) where
+module _ (p : Plan) (n : ℕ) (choices : List ℕ) (fit : Fit (setting p n choices)) where
   abbrev rows : List Row
-  rows = run p n choices .rows
+  rows = run (setting p n choices) .rows
 
   pub run-long : length rows ≡ total p
-  run-long = let (r, b, t, e, q) = run-trace p ok n some most choices in rows-length p ok n some most choices t
+  run-long = let (r, b, t, e, q) = run-trace (setting p n choices) fit in rows-length (setting p n choices) fit t
 
   run-narrow : Narrow rows
   run-narrow k h =
-      let (r, b, t, e, q) = run-trace p ok n some most choices in
-      let d = run-row p ok n some most choices t e k (omega (arith, run-long)) in
-      (omega (arith, d .latest, round-most p ok n some most choices t, total-range p ok), omega (arith, d .known))
+      let (r, b, t, e, q) = run-trace (setting p n choices) fit in
+      let d = run-row (setting p n choices) fit t e k (omega (arith, run-long)) in
+      (omega (arith, d .latest, round-most (setting p n choices) fit t, work-range p (fit .plan)), omega (arith, d .known))
 
-  run-printed : (bytes : List ℕ) → Printed p (run p n choices) bytes → take (2 * total p) bytes ≡ rowBytes rows
+  run-printed : (bytes : List ℕ) → Printed p (run (setting p n choices)) bytes → take (2 * total p) bytes ≡ rowBytes rows
   run-printed bytes q =
       rw (← run-long) (rows-written rows bytes (omega (arith, run-long, q .room)) (λ k h.
       let l = locate p k (omega (arith, run-long)) in
-      let i : l .position < nextOf (run p n choices) (l .job) = omega (arith, run-done p ok n some most choices (l .job) (l .known), l .within) in
+      let i : l .position < nextOf (run (setting p n choices)) (l .job) = omega (arith, run-done (setting p n choices) fit (l .job) (l .known), l .within) in
       (rw (l .place) (q .high (l .job) (l .position) (l .known) i), rw (l .place) (q .down (l .job) (l .position) (l .known) i))))
 
   pub run-bytes : scheduleBytes n rows ≡ headerBytes n (total p) ++ rowBytes rows
   run-bytes =
-      rw (← run-long) (schedule-bytes n rows most (omega (arith, run-long, total-range p ok)) run-narrow)
+      rw (← run-long) (schedule-bytes n rows (fit .most) (omega (arith, run-long, total-range p (fit .plan))) run-narrow)
 
   pub run-fits : length (scheduleBytes n rows) ≡ 4 + 2 * total p
   run-fits = schedule-length n rows ∙ ap (λ k. 4 + 2 * k) run-long
 
   -- the header, the rows, and what stood behind them
-  pub run-written : (before after : List ℕ) → Printed p (run p n choices) after → Kept p (drop 4 before) after
+  pub run-written : (before after : List ℕ) → Printed p (run (setting p n choices)) after → Kept p (drop 4 before) after
       → headerBytes n (total p) ++ after ≡ scheduleBytes n rows ++ drop (length (scheduleBytes n rows)) before
   run-written before after q k =
       let e : after ≡ rowBytes rows ++ drop (length (scheduleBytes n rows)) before =

@@ -8,6 +8,7 @@ use lib.ListN.{length, getD}
 use lib.Dec.{leb, ltb, leb→le, ltb→lt}
 use Rattle.plan.specs.Test.{all}
 use Rattle.plan.proofs.Laws.Lists.{both-left, both-right, all-at}
+use Rattle.runs.specs.Setting.{setting}
 use Rattle.runs.specs.Run.{choicesFit}
 use Rattle.plan.specs.Plan.{Plan}
 use Rattle.plan.proofs.Laws.Valid.{jobs-range}
@@ -19,6 +20,7 @@ use Rattle.runs.specs.Steal.{lays, serves}
 use Rattle.runs.specs.Trace.{Stage, turning, laying, serving, Trace, begins, turned, goes-on, laid, all-laid, served, next-round}
 use Rattle.scheduler.specs.Machine.{InRun, Fitting}
 use Rattle.scheduler.specs.Requests.{Fits}
+use Rattle.runs.proofs.Laws.Fit.{Fit}
 use Rattle.runs.proofs.Laws.Lined.{Sound}
 use Rattle.runs.proofs.Laws.Sound.{trace-sound, held-job}
 use Rattle.runs.proofs.Laws.Waiting.{idle-unheld}
@@ -26,17 +28,20 @@ use Rattle.runs.proofs.Laws.Victims.{victim-below, laid-choices}
 use Rattle.runs.proofs.Laws.Whole.{counts-small, turns-trace, lays-trace, serves-trace}
 
 module _ {p : Plan} {n : ℕ} {choices : List ℕ} {r : ℕ} {b : List Worker} {g : Stage} {s : State} (run : InRun p n choices r b g s) where
+  pub run-fit : Fit (setting p n choices)
+  run-fit = record { plan = run .accepted; some = run .some; most = run .most }
+
   pub run-sound : Sound p n s
-  run-sound = trace-sound p (run .accepted) n (run .some) (run .most) choices (run .trace)
+  run-sound = trace-sound (setting p n choices) run-fit (run .trace)
 
   pub run-counts : (r ≤ 2048) × (s .tally .rounds ≤ r) × (s .tally .actions ≤ 2048) × (s .tally .idle ≤ 32768)
       × (s .tally .requests ≤ 32768) × (s .tally .steals ≤ 32768) × (s .tally .misses ≤ 32768)
-  run-counts = counts-small p (run .accepted) n (run .some) (run .most) choices (run .trace)
+  run-counts = counts-small (setting p n choices) run-fit (run .trace)
 
   -- a worker that was idle as the round began can choose
   pub run-choices : (w : ℕ) → w < n → getD b w Idle ≡ Idle → 1 ≤ length choices
   run-choices w h e =
-      laid-choices p (run .accepted) n (run .some) (run .most) choices (run .fit) (run .trace) w h (rw e idle-unheld)
+      laid-choices (setting p n choices) run-fit (run .fit) (run .trace) w h (rw e idle-unheld)
 
   pub run-few : length choices ≤ 4096
   unfolding choicesFit
@@ -57,21 +62,21 @@ module _ {p : Plan} {n : ℕ} {choices : List ℕ} {r : ℕ} {b : List Worker} {
       go : (x : Worker) → workerOf s w ≡ x → Fitting x
       go Idle e = omega arith
       go (Holding j) e =
-          omega (arith, held-job p (run .accepted) n (run .some) (run .most) s run-sound w j e .0, jobs-range p (run .accepted) .1)
+          omega (arith, held-job p (run .accepted) n s run-sound w j e .0, jobs-range p (run .accepted) .1)
       go (Waiting v l) e =
-          let q = victim-below p (run .accepted) n (run .some) (run .most) choices (run .fit) (run .trace) w v l e in
+          let q = victim-below (setting p n choices) run-fit (run .fit) (run .trace) w v l e in
           (omega (arith, run .most, q), omega (arith, run-counts .0, q))
 
 -- the same run at another stage
 pub run-at : {p : Plan} {n : ℕ} {choices : List ℕ} {r r′ : ℕ} {b b′ : List Worker} {g g′ : Stage} {s s′ : State} → InRun p n choices r b g s
-    → Trace p n choices r′ b′ g′ s′ → InRun p n choices r′ b′ g′ s′
+    → Trace (setting p n choices) r′ b′ g′ s′ → InRun p n choices r′ b′ g′ s′
 run-at run t = record { accepted = run .accepted; some = run .some; most = run .most; fit = run .fit; trace = t }
 
 -- the workers as the round began were those of a state too
 pub run-began : {p : Plan} {n : ℕ} {choices : List ℕ} {r : ℕ} {b : List Worker} {g : Stage} {s : State} → InRun p n choices r b g s → Fits b
 run-began {p} {n} {choices} run = go (run .trace)
   where
-    go : {r : ℕ} {b : List Worker} {g : Stage} {s : State} → Trace p n choices r b g s → Fits b
+    go : {r : ℕ} {b : List Worker} {g : Stage} {s : State} → Trace (setting p n choices) r b g s → Fits b
     go begins = run-seats (run-at run begins)
     go (turned t h) = go t
     go (goes-on t e) = go t
@@ -82,10 +87,10 @@ run-began {p} {n} {choices} run = go (run .trace)
 
 module _ {p : Plan} {n : ℕ} {choices : List ℕ} {r : ℕ} {b : List Worker} {s : State} where
   pub run-turns : InRun p n choices r b (turning 0) s → (k : ℕ) → k ≤ n → InRun p n choices r b (turning k) (turns p r k b s)
-  run-turns run k h = run-at run (turns-trace p n choices (run .trace) k h)
+  run-turns run k h = run-at run (turns-trace (setting p n choices) (run .trace) k h)
 
-  pub run-lays : InRun p n choices r b (laying 0) s → (k : ℕ) → k ≤ n → InRun p n choices r b (laying k) (lays choices r k b s)
-  run-lays run k h = run-at run (lays-trace p n choices (run .trace) k h)
+  pub run-lays : InRun p n choices r b (laying 0) s → (k : ℕ) → k ≤ n → InRun p n choices r b (laying k) (lays (setting p n choices) r k b s)
+  run-lays run k h = run-at run (lays-trace (setting p n choices) (run .trace) k h)
 
-  pub run-serves : InRun p n choices r b (serving 0) s → (k : ℕ) → k ≤ n → InRun p n choices r b (serving k) (serves n k s)
-  run-serves run k h = run-at run (serves-trace p n choices (run .trace) k h)
+  pub run-serves : InRun p n choices r b (serving 0) s → (k : ℕ) → k ≤ n → InRun p n choices r b (serving k) (serves (setting p n choices) r k s)
+  run-serves run k h = run-at run (serves-trace (setting p n choices) (run .trace) k h)

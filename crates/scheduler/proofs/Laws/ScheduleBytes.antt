@@ -12,7 +12,7 @@ use Rattle.plan.specs.Writer.{pack}
 use Rattle.courses.specs.Row.{Row, noRow}
 use Rattle.scheduler.specs.Header.{headerBytes}
 use Rattle.courses.specs.Schedule.{rowsBits, scheduleBits, scheduleBytes}
-use Rattle.plan.proofs.Laws.Bits.{Binary, append-binary, bitsOf-binary, bitsOf-length, number-append, number-injective, number-bitsOf, pack-bits}
+use Rattle.plan.proofs.Laws.Bits.{append-binary, bitsOf-binary, number-append, number-injective, number-bitsOf, pack-bits}
 
 abbrev pub rowBytes : List Row → List ℕ
 rowBytes [] = []

@@ -14,14 +14,16 @@ use Rattle.plan.specs.Rules.{Accepted}
 use Rattle.plan.proofs.Laws.Lists.{true-of, false-of}
 use Rattle.plan.proofs.Laws.Placed.{placed-at, place-below, first-at, join-at, spawn-at}
 use Rattle.plan.proofs.Laws.Valid.{jobs-range, size-range, total-range, older, join-target}
+use Rattle.runs.specs.Setting.{setting}
 use Rattle.runs.specs.declared.worker.Worker.{Worker}
 use Rattle.runs.specs.State.{State, nextOf, dequeOf}
 use Rattle.courses.specs.Row.{place}
-use Rattle.runs.specs.Turn.{wakes, woken}
+use Rattle.runs.specs.Turn.{wakes}
 use Rattle.scheduler.specs.Machine.{missingTo, Progressed, Dequed, Acting}
 use Rattle.scheduler.specs.TurnParts.{afterOf, aboveOf, Sending, Sent}
 use Rattle.lines.proofs.Laws.Turn.{Wakes}
 use Rattle.courses.proofs.Laws.PlanShape.{shape}
+use Rattle.scheduler.proofs.Laws.Running.{run-fit}
 use Rattle.scheduler.proofs.Laws.Missing.{missing-none, missing-no, missing-sent, missing-kept}
 use Rattle.courses.proofs.Laws.Course.{place-apart}
 use Rattle.runs.proofs.Laws.Sound.{Sound, trace-sound, held-job}
@@ -34,10 +36,10 @@ module _ {p : Plan} {n : ℕ} {choices : List ℕ} {r : ℕ} {b : List Worker} {
   ok = a .planned .accepted
 
   pub acting-sound : Sound p n s
-  acting-sound = trace-sound p ok n (a .run .some) (a .run .most) choices (a .run .trace)
+  acting-sound = trace-sound (setting p n choices) (run-fit (a .run)) (a .run .trace)
 
   pub acting-job : (j < length p) × (nextOf s j < size p j) × (1 ≤ j → spawnAt p j < nextOf s (parentOf p j))
-  acting-job = held-job p ok n (a .run .some) (a .run .most) s acting-sound w j (a .holding)
+  acting-job = held-job p ok n s acting-sound w j (a .holding)
 
   pub acting-room : (j < 256) × (k < total p) × (k < 2048) × (nextOf s j < 255) × (w < 16)
   acting-room =

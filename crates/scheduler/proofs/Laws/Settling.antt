@@ -11,7 +11,7 @@ use lib.Dec.{T, ltb, ltb→lt, lt→ltb}
 use lib.ListN.{length, getD, set}
 use lib.Seq.{getD-set-same, set-set}
 use Rattle.plan.specs.Test.{both}
-use Rattle.plan.specs.Plan.{Plan, job, size, action, parent as parentOf}
+use Rattle.plan.specs.Plan.{Plan, size, action, parent as parentOf}
 use Rattle.plan.specs.Rules.{Accepted}
 use Rattle.plan.proofs.Laws.Lists.{both-intro, both-left, both-right, true-of, false-of}
 use Rattle.plan.proofs.Laws.Placed.{start-suc, first-at, frame-at, place-below}

@@ -1,24 +1,26 @@
 -- The runner's arrays from round to round.
 --   Standing == the arrays stand for a state of the run as a round begins, or for its end, and the bytes behind the rows are as they were
 -- Assumes nothing.
-use Prim.Native.Nat.{ℕ, suc, _+_, _-_, _*_, _≤_, _<_}
+use Prim.Native.Nat.{ℕ, suc, _-_, _*_, _≤_, _<_}
 use mathlib.Core.Path.{_≡_, refl, sym, ap, _∙_}
 use mathlib.Core.Bool.{true, false}
 use mathlib.Core.List.{List}
 use native.Mathlib.Nat.{zero-mod}
 use native.Mathlib.Omega.{arith}
-use lib.ListN.{length, getD, drop, replicate}
+use lib.ListN.{length, getD, replicate}
 use borrow.Author.Tests.{le-leb, lt-leb}
 use Rattle.plan.specs.Plan.{Plan, size, total}
 use Rattle.plan.proofs.Laws.Placed.{start-suc, first-at}
 use Rattle.plan.proofs.Laws.Valid.{jobs-range}
 use Rattle.scheduler.specs.declared.account.Account.{Account}
+use Rattle.runs.specs.Setting.{setting}
 use Rattle.runs.specs.declared.tally.Tally.{Tally}
 use Rattle.runs.specs.State.{State, nextOf, start}
 use Rattle.runs.specs.Run.{ended, round, run}
 use Rattle.runs.specs.Trace.{turning}
 use Rattle.scheduler.specs.Machine.{Planned, Printed, InRun, Machine, Kept, RunGiven}
 use Rattle.scheduler.specs.Requests.{Pointed, Queued}
+use Rattle.scheduler.proofs.Laws.Running.{run-fit}
 use Rattle.scheduler.proofs.Laws.Underway.{Underway, Rounded, underway-start, underway-over, underway-begun, underway-round}
 use Rattle.runs.proofs.Laws.Rounds.{rounds-known}
 use Rattle.scheduler.proofs.Laws.Queues.{queued-later}
@@ -68,9 +70,9 @@ module _ (p : Plan) (n : ℕ) (choices frame first spawn join parent entering : 
 
     -- what the run leaves
     pub ends : getD first 1 0 ≤ getD next 0 0
-        → (c .tally ≡ run p n choices .tally) × Printed p (run p n choices) rows × Kept p before rows
+        → (c .tally ≡ run (setting p n choices) .tally) × Printed p (run (setting p n choices)) rows × Kept p before rows
     ends h =
-        let e : run p n choices ≡ s = underway-over p n choices s (z .underway) (has-ended h) in
+        let e : run (setting p n choices) ≡ s = underway-over p n choices s (z .underway) (has-ended h) in
         (rw e (z .machine .manned .counts), rw e (z .machine .printed), z .kept)
 
     module _ (test : getD next 0 0 < getD first 1 0) where
@@ -78,7 +80,7 @@ module _ (p : Plan) (n : ℕ) (choices frame first spawn join parent entering : 
       h = goes-on test
 
       known : (r : ℕ) → InRun p n choices r (s .workers) (turning 0) s → suc (s .tally .rounds) ≡ r
-      known r i = rounds-known p (i .accepted) n (i .some) (i .most) choices (i .trace)
+      known r i = rounds-known (setting p n choices) (run-fit i) (i .trace)
 
       in-run : (r : ℕ) × InRun p n choices r (s .workers) (turning 0) s
       in-run =
@@ -94,25 +96,25 @@ module _ (p : Plan) (n : ℕ) (choices frame first spawn join parent entering : 
       round-given = let (r, i) = in-run in (p, r, s, i, g .planned, z .machine, z .pointed, lines r i, h)
 
       rounded : Rounded p n choices s
-      rounded = underway-round p (g .planned .accepted) n (g .some) (g .most) choices s (z .underway) h
+      rounded = underway-round p n choices (record { plan = g .planned .accepted; some = g .some; most = g .most }) s (z .underway) h
 
       module _ (c′ : Account) (k′ : ℕ) (seats′ after′ last′ rows′ next′ missing′ slots′ top′ len′ : List ℕ)
           (m : (p : Plan) (r : ℕ) (s : State) → InRun p n choices r (s .workers) (turning 0) s → Planned p frame first spawn join parent
           → Machine p s c seats rows next missing slots top len → Pointed choices s k → Queued (r * 16) (s .workers) after last → ended p s ≡ false
-          → Machine p (round p n choices s) c′ seats′ rows′ next′ missing′ slots′ top′ len′ × Kept p rows rows′ × Pointed choices (round p n choices s) k′
-          × Queued (suc r * 16) (round p n choices s .workers) after′ last′) where
+          → Machine p (round (setting p n choices) s) c′ seats′ rows′ next′ missing′ slots′ top′ len′ × Kept p rows rows′ × Pointed choices (round (setting p n choices) s) k′
+          × Queued (suc r * 16) (round (setting p n choices) s .workers) after′ last′) where
         -- and leaves
-        left : Machine p (round p n choices s) c′ seats′ rows′ next′ missing′ slots′ top′ len′ × Kept p rows rows′
-            × Pointed choices (round p n choices s) k′ × Queued (suc (round p n choices s .tally .rounds) * 16) (round p n choices s .workers) after′ last′
+        left : Machine p (round (setting p n choices) s) c′ seats′ rows′ next′ missing′ slots′ top′ len′ × Kept p rows rows′
+            × Pointed choices (round (setting p n choices) s) k′ × Queued (suc (round (setting p n choices) s .tally .rounds) * 16) (round (setting p n choices) s .workers) after′ last′
         left =
             let (r, i) = in-run in
             let (there, kept, pointed, queued) = m p r s i (g .planned) (z .machine) (z .pointed) (lines r i) h in
-            (there, kept, pointed, queued-later queued (suc (round p n choices s .tally .rounds) * 16) (omega (arith, known r i, rounded .counted)))
+            (there, kept, pointed, queued-later queued (suc (round (setting p n choices) s .tally .rounds) * 16) (omega (arith, known r i, rounded .counted)))
 
         pub round-stands : Standing p n choices c′ k′ before seats′ after′ last′ rows′ next′ missing′ slots′ top′ len′
         round-stands =
             record {
-              state = round p n choices s;
+              state = round (setting p n choices) s;
               pointed = left .2;
               queued = left .3;
               underway = rounded .underway;

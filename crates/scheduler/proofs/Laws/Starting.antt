@@ -1,6 +1,6 @@
 -- The runner's arrays as they are made stand for the start of a run.
 -- Assumes nothing.
-use Prim.Native.Nat.{ℕ, zero, suc, _+_, _*_, _≤_, _<_}
+use Prim.Native.Nat.{ℕ, zero, suc, _*_, _≤_, _<_}
 use mathlib.Core.Path.{_≡_, refl, sym, ap, _∙_}
 use mathlib.Core.List.{List, [], _∷_}
 use native.Mathlib.Omega.{arith}
@@ -10,11 +10,10 @@ use Rattle.plan.proofs.Laws.Lists.{array-at}
 use Rattle.plan.proofs.Laws.Placed.{placed-length, placed-at, place-below, frame-at}
 use Rattle.plan.proofs.Laws.Valid.{jobs-range}
 use Rattle.scheduler.specs.declared.account.Account.{Account}
-use Rattle.runs.specs.declared.worker.Worker.{Worker}
 use Rattle.runs.specs.declared.worker.Worker.the-variants.{Idle, Holding}
-use Rattle.runs.specs.State.{State, nextOf, start}
+use Rattle.runs.specs.State.{start}
 use Rattle.courses.specs.Row.{place}
-use Rattle.scheduler.specs.Machine.{dequeAt, missingTo, Progressed, Dequed, Printed, codeOf, Seated, Manned, Machine, RunGiven}
+use Rattle.scheduler.specs.Machine.{dequeAt, missingTo, Progressed, Dequed, codeOf, Seated, Manned, Machine, RunGiven}
 use Rattle.runs.proofs.Laws.Done.{none-done}
 use Rattle.runs.proofs.Laws.Coursed.{start-weight}
 use Rattle.scheduler.proofs.Laws.Missing.{missing-start}

@@ -15,6 +15,7 @@ use Rattle.plan.proofs.Laws.Valid.{jobs-range}
 use Rattle.plan.proofs.Laws.Placed.{place-below, first-at}
 use Rattle.scheduler.specs.declared.account.Account.{Account}
 use Rattle.scheduler.specs.declared.turn.Turned.{Turned}
+use Rattle.runs.specs.Setting.{setting}
 use Rattle.runs.specs.declared.tally.Tally.{Tally}
 use Rattle.runs.specs.declared.worker.Worker.{Worker}
 use Rattle.runs.specs.declared.worker.Worker.the-variants.{Idle, Holding, Waiting}
@@ -25,10 +26,10 @@ use Rattle.runs.specs.Trace.{turning, Trace, turned}
 use Rattle.scheduler.specs.Machine.{InRun, codeOf, Fitting, Planned, Machine, Manned, Printed, Kept, Acting, Acted}
 use Rattle.runs.proofs.Laws.Sound.{trace-sound, trace-began, next-bound}
 use Rattle.courses.proofs.Laws.Course.{place-apart, Acts, acted}
-use Rattle.runs.proofs.Laws.Coursed.{core, turn-acts}
+use Rattle.runs.proofs.Laws.Coursed.{core, turn-ends}
 use Rattle.runs.proofs.Laws.Whole.{counts-small, turns-trace}
 use Rattle.scheduler.proofs.Laws.Codes.{seated-set}
-use Rattle.scheduler.proofs.Laws.Running.{run-seats, run-at}
+use Rattle.scheduler.proofs.Laws.Running.{run-fit, run-seats, run-at}
 
 -- the bytes of a row, and those of others
 abbrev pub written : List ℕ → ℕ → ℕ → ℕ → List ℕ
@@ -100,25 +101,25 @@ pub record Ahead (p : Plan) (r w j : ℕ) (s : State) : Type 0 where
 module _ (p : Plan) (n : ℕ) (choices : List ℕ) (r w : ℕ) (b : List Worker) (s : State) (run : InRun p n choices r b (turning w) s) where
   pub turning-small : (r ≤ 2048) × (s .tally .actions ≤ 2048) × (s .tally .idle ≤ 32768)
   turning-small =
-      let q = counts-small p (run .accepted) n (run .some) (run .most) choices (run .trace) in (q .0, q .2, q .3)
+      let q = counts-small (setting p n choices) (run-fit run) (run .trace) in (q .0, q .2, q .3)
 
   -- what stands in the seat of a worker whose turn comes stood there as the round began
   pub turning-seat : {x : Worker} → w < n → workerOf s w ≡ x → getD b w Idle ≡ x
-  turning-seat below e = sym (trace-began p (run .accepted) n (run .some) (run .most) choices (run .trace) w (le-refl w)) ∙ e
+  turning-seat below e = sym (trace-began (setting p n choices) (run .trace) w (le-refl w)) ∙ e
 
   module _ (j : ℕ) (holding : workerOf s w ≡ Holding j) where
     pub turning-ahead : Ahead p r w j s
     turning-ahead =
         let ok = run .accepted in
-        let sound = trace-sound p ok n (run .some) (run .most) choices (run .trace) in
-        let acts = turn-acts p ok n (run .some) (run .most) s sound r w j holding in
+        let sound = trace-sound (setting p n choices) (run-fit run) (run .trace) in
+        let acts = turn-ends p ok n s sound r w j holding .acts in
         record {
           known = acts .known;
           small = omega (arith, acts .known, jobs-range p ok);
           within = place-below p j (nextOf s j) (acts .known) (acts .left);
           early = turning-small .0;
           few = turning-small .1;
-          bound = next-bound p ok n (run .some) (run .most) s sound;
+          bound = next-bound p ok n s sound;
           acts = acts;
         }
 
@@ -126,7 +127,7 @@ module _ (p : Plan) (n : ℕ) (choices : List ℕ) (r w : ℕ) (b : List Worker)
     pub turning-fits : w < n → (x : Worker) → x ≡ workerOf (turn p r w j s) w → Fitting x
     unfolding turnOf
     turning-fits below x e =
-        let t : Trace p n choices r b (turning (suc w)) (turn p r w j s) = rw (turning-seat below holding) at (turned (run .trace) below) in
+        let t : Trace (setting p n choices) r b (turning (suc w)) (turn p r w j s) = rw (turning-seat below holding) at (turned (run .trace) below) in
         rw e (run-seats (run-at run t) w)
 
     -- the worker is about to act: its job's next action stands where the arrays say
@@ -203,5 +204,5 @@ turns-run p n choices r b s run k h = record {
   some = run .some;
   most = run .most;
   fit = run .fit;
-  trace = turns-trace p n choices (run .trace) k h;
+  trace = turns-trace (setting p n choices) (run .trace) k h;
 }

@@ -13,6 +13,7 @@ use lib.Seq.{getD-set-same, getD-set-other}
 use Rattle.plan.specs.Plan.{Plan, job, size, action, parent, spawnAt}
 use Rattle.plan.specs.Rules.{Accepted}
 use Rattle.plan.proofs.Laws.Valid.{jobs-range, size-range, frame-range, older, spawned-there, spawned-once, join-target, last-sends}
+use Rattle.runs.specs.Setting.{setting}
 use Rattle.runs.specs.declared.worker.Worker.{Worker}
 use Rattle.runs.specs.declared.worker.Worker.the-variants.{Holding}
 use Rattle.runs.specs.State.{State, nextOf, workerOf}
@@ -24,6 +25,7 @@ use Rattle.lines.proofs.Laws.Sum.{sum, only, only-yes, only-no, sum-bound}
 use Rattle.lines.proofs.Laws.Weight.{held}
 use Rattle.courses.proofs.Laws.PlanShape.{shape, weight-held}
 use Rattle.runs.proofs.Laws.Sound.{Sound, trace-sound, held-job}
+use Rattle.scheduler.proofs.Laws.Running.{run-fit}
 
 -- no term of a sum changes
 sum-same : (n : ℕ) (f g : ℕ → ℕ) → ((k : ℕ) → k < n → g k ≡ f k) → sum n g ≡ sum n f
@@ -80,10 +82,10 @@ module _ (p : Plan) (ok : Accepted p) where
 module _ {p : Plan} {n : ℕ} {choices : List ℕ} {r : ℕ} {began : List Worker} {g : Stage} {s : State} (run : InRun p n choices r began g s)
     (w j : ℕ) (holding : workerOf s w ≡ Holding j) where
   sound : Sound p n s
-  sound = trace-sound p (run .accepted) n (run .some) (run .most) choices (run .trace)
+  sound = trace-sound (setting p n choices) (run-fit run) (run .trace)
 
   known : (j < length p) × (nextOf s j < size p j) × (1 ≤ j → spawnAt p j < nextOf s (parent p j))
-  known = held-job p (run .accepted) n (run .some) (run .most) s sound w j holding
+  known = held-job p (run .accepted) n s sound w j holding
 
   after : ℕ → ℕ
   after k = getD (set (s .next) j (suc (nextOf s j))) k 0

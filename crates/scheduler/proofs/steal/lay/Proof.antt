@@ -5,6 +5,7 @@ use native.Mathlib.Nat.{mod-lt, le-refl}
 use native.Mathlib.Omega.{arith}
 use borrow.Author.Needs.{needs}
 use lib.ListN.{length, getD}
+use Rattle.runs.specs.Setting.{setting}
 use Rattle.runs.specs.declared.worker.Worker.the-variants.{Waiting}
 use Rattle.scheduler.specs.Machine.{Fitting}
 use Rattle.scheduler.proofs.Laws.Running.{run-sound, run-counts, run-choices, run-chosen, run-few}
@@ -72,10 +73,10 @@ returns c =
     let chosen = t .choice-at .ensures in
     let lined = c .before .before .line-up .ensures _ (s .workers) (o .args .round) queued sixteen (laying-calm (o .args .w) run idle) (le-refl _) in
     rw (idle, c .before .before .before .before .before .before .code-of .ensures) (
-      rw (chosen, pointed) (laid-manned p s (o .args .account) _ sixteen manned (o .args .w) there (o .args .choices .now) (o .args .round) _ (c .asked .ensures)),
-      laid-pointed p s (o .args .account) _ sixteen manned (o .args .w) there (o .args .choices .now) (o .args .round) _
+      rw (chosen, pointed) (laid-manned p s (o .args .account) _ sixteen manned (o .args .w) there (setting p n (o .args .choices .now)) (o .args .round) _ (c .asked .ensures)),
+      laid-pointed p s (o .args .account) _ sixteen manned (o .args .w) there (setting p n (o .args .choices .now)) (o .args .round) _
           (c .before .onward .ensures (s .tally .requests) pointed),
-      lay-queued (o .args .choices .now) (o .args .round) (o .args .w) _ s _ _
+      lay-queued (setting p n (o .args .choices .now)) (o .args .round) (o .args .w) _ s _ _
           (rw (c .before .before .before .before .before .wide8 .ensures .0, chosen, pointed) at lined),
     )
 

@@ -7,6 +7,7 @@ use native.Mathlib.Numerals.{add-one}
 use native.Mathlib.Omega.{arith}
 use borrow.Author.Needs.{needs}
 use Rattle.plan.specs.Plan.{Plan}
+use Rattle.runs.specs.Setting.{setting}
 use Rattle.runs.specs.declared.worker.Worker.{Worker}
 use Rattle.runs.specs.State.{State}
 use Rattle.runs.specs.Steal.{lays}
@@ -24,7 +25,7 @@ Inv-loop began choices n round cursor₀ seats₀ after₀ last₀ idle count a�
     (m ≤ count)
     × ((p : Plan) (b : List Worker) (s : State) → InRun p n choices round b (laying 0) s → Manned p s a₀ seats₀ → Seated b began
     → Pointed choices s cursor₀ → Queued (round * 16) (s .workers) after₀ last₀
-    → LaidTo p choices round b s a seats cursor after last (past idle m))
+    → LaidTo p (setting p n choices) round b s a seats cursor after last (past idle m))
 
 abbrev μ-loop : tie.MeasureT-loop
 μ-loop began choices n round cursor₀ seats₀ after₀ last₀ idle count a₀ m₀ cursor seats after last a m = count - m

@@ -7,6 +7,7 @@ use native.Mathlib.Numerals.{add-one}
 use native.Mathlib.Omega.{arith}
 use borrow.Author.Needs.{needs}
 use Rattle.plan.specs.Plan.{Plan}
+use Rattle.runs.specs.Setting.{setting}
 use Rattle.runs.specs.declared.worker.Worker.{Worker}
 use Rattle.runs.specs.State.{State}
 use Rattle.runs.specs.Steal.{serves}
@@ -23,7 +24,7 @@ Inv-loop n seats₀ after₀ last₀ slots top₀ len₀ asked count a₀ m₀ s
     (m ≤ count)
     × ((p : Plan) (choices : List ℕ) (r : ℕ) (b : List Worker) (hi : ℕ) (s : State) → InRun p n choices r b (serving 0) s
     → Manned p s a₀ seats₀ → Queued hi (s .workers) after₀ last₀ → Dequed (s .deques) slots top₀ len₀
-    → ServedTo p n hi s a seats after₀ after last slots top len (past asked m))
+    → ServedTo p (setting p n choices) r hi s a seats after₀ after last slots top len (past asked m))
 
 abbrev μ-loop : tie.MeasureT-loop
 μ-loop n seats₀ after₀ last₀ slots top₀ len₀ asked count a₀ m₀ seats after last top len a m = count - m
