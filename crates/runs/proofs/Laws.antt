@@ -1,6 +1,8 @@
 -- What holds of the definitions in specs/, in named modules.
 pub mod Fit
 pub mod Admitted
+pub mod Start
+pub mod Least
 pub mod Lined
 pub mod TurnSound
 pub mod ServeSound
@@ -15,7 +17,6 @@ pub mod Waits
 pub mod Waiting
 pub mod Victims
 pub mod Whole
-pub mod Least
 pub mod Served
 pub mod OwnSchedule
 pub mod Demand3

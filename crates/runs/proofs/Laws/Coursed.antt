@@ -31,7 +31,7 @@ use Rattle.runs.specs.Trace as Trace
 use Rattle.runs.specs.Trace.{Stage, turning, laying, serving, Trace}
 use Rattle.lines.proofs.Laws.Sum.{sum, sum-same}
 use Rattle.courses.proofs.Laws.Course as Course
-use Rattle.courses.proofs.Laws.Course.{Core, Terms, Begins, Hands, Paced, Acts, Ends, Course}
+use Rattle.courses.proofs.Laws.Course.{Core, Terms, Begins, Hands, Paced, Ends, Course}
 use Rattle.courses.proofs.Laws.Steps.{finished-ends}
 use Rattle.courses.proofs.Laws.Start.{none-weight}
 use Rattle.courses.proofs.Laws.Kept.{Done, course-kept}
@@ -42,7 +42,8 @@ use Rattle.runs.proofs.Laws.Fit.{Fit, count-some}
 use Rattle.runs.proofs.Laws.Lined.{held-in, held-below}
 use Rattle.runs.proofs.Laws.Sound.{Sound, start-sound, trace-sound, trace-began, space, busy, held-job, held-once}
 use Rattle.runs.proofs.Laws.Rests.{Rests, lay-rests, serve-rests}
-use Rattle.runs.proofs.Laws.Done.{sizes-sum, none-done}
+use Rattle.runs.proofs.Laws.Start.{none-done, start-turns, start-peak}
+use Rattle.runs.proofs.Laws.Done.{sizes-sum}
 use Rattle.runs.proofs.Laws.Rounds.{not-ended}
 
 abbrev pub core : State → Core
@@ -71,14 +72,6 @@ hands-is (Waiting v l) j e = absurd (omega arith)
 
 core-rests : {s t : State} → Rests s t → core t ≡ core s
 core-rests q = λ i. record { next = q .next i; spent = []; rows = q .rows i; turns = q .actions i; peak = q .peak i }
-
-start-turns : (p : Plan) → start p .tally .actions ≡ 0
-unfolding start
-start-turns p = refl
-
-start-peak : (p : Plan) → start p .tally .peak ≡ job p 0 .frame
-unfolding start
-start-peak p = refl
 
 pub start-weight : (p : Plan) → Accepted p → weight p (start p .next) ≡ job p 0 .frame
 start-weight p ok = none-weight p ok (start p .next) (none-done p)

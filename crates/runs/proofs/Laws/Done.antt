@@ -4,10 +4,9 @@ use Prim.Native.Nat.{ℕ, zero, suc, _≤_}
 use mathlib.Core.Path.{_≡_, refl, _∙_}
 use native.Mathlib.Nat.{le-refl}
 use native.Mathlib.Omega.{arith}
-use lib.ListN.{length, getD, take, replicate}
+use lib.ListN.{length, take}
 use Rattle.plan.specs.Plan.{Plan, size, total}
 use Rattle.plan.proofs.Laws.Placed.{start-suc, start-all}
-use Rattle.runs.specs.State.{nextOf, start}
 use Rattle.lines.proofs.Laws.Sum.{sum}
 
 -- the sizes of the jobs add up to the work
@@ -18,13 +17,3 @@ sizes-sum p = upTo (length p) (le-refl (length p)) ∙ start-all p
     upTo : (k : ℕ) → k ≤ length p → sum k (size p) ≡ total (take k p)
     upTo zero h = refl
     upTo (suc k) h = omega (arith, upTo k (omega arith), start-suc p k h)
-
--- at the start nothing is done
-pub none-done : (p : Plan) (j : ℕ) → nextOf (start p) j ≡ 0
-unfolding start
-none-done p j = zeros (length p) j
-  where
-    zeros : (m j : ℕ) → _≡_ {A = ℕ} (getD (replicate m 0) j 0) 0
-    zeros zero j = refl
-    zeros (suc m) zero = refl
-    zeros (suc m) (suc j) = zeros m j

@@ -1,7 +1,6 @@
 -- The request that a victim serves is the one of least rank.
 --   rank l w         == orders requests as a victim does: by the round l, then by the worker w, which is below 16
 --   Best v k ws q m  == of the workers below k, q is what `oldest` picks for v, laid in round m
--- Assumes nothing.
 use Prim.Native.Nat.{ℕ, zero, suc, _+_, _*_, _≤_, _<_}
 use mathlib.Core.Path.{_≡_, refl, sym, ap, _∙_}
 use mathlib.Core.Logic.{_≢_, by-cases}
@@ -71,3 +70,10 @@ oldest-best v (suc k) ws h = go (getD ws k Idle) refl (oldest v k ws .who) (olde
         picked true f zero m i c g = rw (older, f) (fresh l (cc (eqb-true y v f)) (λ u a b t. absurd (i u a b t)))
         picked true f (suc x) m i true g = rw (older, f, g) (fresh l (cc (eqb-true y v f)) (earlier l x m i (ltb-true l m g)))
         picked true f (suc x) m i false g = rw (older, f, g) (stays l (cc (eqb-true y v f)) x m i (ltb-false l m g))
+
+-- the worker whose request a victim serves waits on it
+pub oldest-waits : (v k : ℕ) (ws : List Worker) → k ≤ 16 → (w : ℕ) → oldest v k ws .who ≡ suc w
+    → (w < k) × (l : ℕ) × (getD ws w Idle ≡ Waiting v l)
+oldest-waits v k ws few w e =
+    let best : Best v k ws (suc w) (oldest v k ws .laid) = rw e at (oldest-best v k ws few) in
+    (best .0, oldest v k ws .laid, best .1)

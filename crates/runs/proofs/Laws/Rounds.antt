@@ -21,7 +21,7 @@ use Rattle.runs.specs.Trace.{Stage, turning, laying, serving, Trace, beg
 use Rattle.runs.proofs.Laws.Fit.{Fit, count-some}
 use Rattle.runs.proofs.Laws.Sound.{trace-sound, busy}
 use Rattle.runs.proofs.Laws.Rests.{Rests, lay-rests, serve-rests}
-use Rattle.runs.proofs.Laws.Done.{none-done}
+use Rattle.runs.proofs.Laws.Start.{none-done}
 
 -- what the tally says of the rounds in round r: a round counts from its first turn on
 abbrev pub Numbered : Stage → ℕ → ℕ → Type 0

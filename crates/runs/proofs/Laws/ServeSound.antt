@@ -1,12 +1,10 @@
 -- A request and a service keep a state sound: a request and a miss change no line, and a steal is a theft.
 use Prim.Native.Nat.{ℕ, zero, suc, _%_, _≤_, _<_}
 use mathlib.Core.Path.{_≡_, refl, ap, ap₂, sym, subst, fun-ext, _∙_}
-use mathlib.Core.Logic.{_⊎_, inl, inr, _≢_, by-cases}
-use mathlib.Core.Bool.{Bool, true, false}
+use mathlib.Core.Logic.{_≢_, by-cases}
 use mathlib.Core.List.{List, [], _∷_, _++_}
 use native.Mathlib.Omega.{arith}
 use native.Mathlib.Decide.{ℕ-discrete}
-use lib.Dec.{T, eqb, ltb, eqb→eq}
 use lib.ListN.{length, getD, set, length-set}
 use lib.Seq.{getD-set-same, getD-set-other}
 use Rattle.runs.specs.declared.tally.Tally.{Tally}
@@ -15,7 +13,7 @@ use Rattle.runs.specs.declared.worker.Worker.the-variants.{Idle, Holding
 use Rattle.plan.specs.Plan.{Plan}
 use Rattle.runs.specs.Setting.{Setting}
 use Rattle.runs.specs.State.{State, nextOf, workerOf, dequeOf}
-use Rattle.runs.specs.Steal.{laid, lay, Pick, older, oldest, dropTop, topOf, given, serve}
+use Rattle.runs.specs.Steal.{laid, lay, dropTop, topOf, given, serve}
 use Rattle.lines.proofs.Laws.Shape.{Good}
 use Rattle.lines.proofs.Laws.Steal.{steal-good}
 use Rattle.plan.specs.Rules.{Accepted}
@@ -61,54 +59,6 @@ unfolding lay
 lay-others S r w Idle s v f = getD-set-other (s .workers) w v _ Idle f
 lay-others S r w (Holding j) s v f = refl
 lay-others S r w (Waiting u l) s v f = refl
-
--- the request that is picked is the one before, or this one
-abbrev Picked : ℕ → ℕ → ℕ → ℕ → Pick → Pick → Type 0
-Picked v k u l best r = (r ≡ best) ⊎ ((u ≡ v) × (r ≡ record { who = suc k; laid = l }))
-
-older-is : (v k u l : ℕ) (best : Pick) → Picked v k u l best (older v k (Waiting u l) best)
-unfolding older
-older-is v k u l best = go (eqb u v) (eqb→eq u v)
-  where
-    this : Pick
-    this = record { who = suc k; laid = l }
-
-    last : (b : Bool) → u ≡ v → Picked v k u l best (elim b as (λ x. Pick) [ true ↦ this | false ↦ best ])
-    last true e = inr (e, refl)
-    last false e = inl refl
-
-    inner : (x : ℕ) → u ≡ v
-        → Picked v k u l best (elim x as (λ y. Pick) [ zero ↦ this | suc y ↦ elim (ltb l (best .laid)) as (λ z. Pick) [ true ↦ this | false ↦ best ] ])
-    inner zero e = inr (e, refl)
-    inner (suc y) e = last (ltb l (best .laid)) e
-
-    go : (b : Bool) → (T b → u ≡ v)
-        → Picked v k u l best (elim b as (λ x. Pick) [
-          | false ↦ best
-          | true ↦ elim (best .who) as (λ y. Pick) [ zero ↦ this | suc y ↦ elim (ltb l (best .laid)) as (λ z. Pick) [ true ↦ this | false ↦ best ] ]
-        ])
-    go false f = inl refl
-    go true f = inner (best .who) (f tt)
-
-abbrev Waits : ℕ → List Worker → ℕ → ℕ → Type 0
-Waits v ws n w = (w < n) × (l : ℕ) × (getD ws w Idle ≡ Waiting v l)
-
--- the worker that is served waits on the victim
-pub oldest-waits : (v n : ℕ) (ws : List Worker) (w : ℕ) → oldest v n ws .who ≡ suc w → (w < n) × (l : ℕ) × (getD ws w Idle ≡ Waiting v l)
-unfolding oldest
-oldest-waits v zero ws w e = absurd (omega arith)
-oldest-waits v (suc k) ws w e = go (getD ws k Idle) refl e (oldest-waits v k ws w)
-  where
-    go : (x : Worker) → getD ws k Idle ≡ x → older v k x (oldest v k ws) .who ≡ suc w → (oldest v k ws .who ≡ suc w → Waits v ws k w) → Waits v ws (suc k) w
-    go Idle i e r = let (b, l, h) = r e in (omega arith, l, h)
-    go (Holding j) i e r = let (b, l, h) = r e in (omega arith, l, h)
-    go (Waiting u l) i e r = pick (older-is v k u l (oldest v k ws))
-      where
-        pick : Picked v k u l (oldest v k ws) (older v k (Waiting u l) (oldest v k ws)) → Waits v ws (suc k) w
-        pick (inl q) = let (b, l, h) = r (sym (ap (λ x. x .who) q) ∙ e) in (omega arith, l, h)
-        pick (inr (q, y)) =
-            let z : w ≡ k = omega (arith, ap (λ x. x .who) y) in
-            (omega arith, l, rw (z, i, q))
 
 pub top-split : (x : ℕ) (d : List ℕ) → x ∷ d ≡ dropTop (x ∷ d) ++ (topOf x d ∷ [])
 top-split x [] = refl
@@ -182,10 +132,8 @@ module _ (p : Plan) (ok : Accepted p) (n : ℕ) (most : n ≤ 16) (s : State) (s
     given-sound [] q = free-sound p n most s sound w c idle Idle (λ d. refl) (given v w [] s .tally)
     given-sound (x ∷ d) q = let (j, h) = victim-holds x d q in steal-sound x d q j h
 
-  pub serve-sound : Sound p n (serve v (oldest v n (s .workers) .who) s)
+  -- whoever is served, if it waits on the victim
+  pub serve-sound : (who : ℕ) → ((w : ℕ) → who ≡ suc w → (w < n) × (l : ℕ) × (workerOf s w ≡ Waiting v l)) → Sound p n (serve v who s)
   unfolding serve
-  serve-sound = go (oldest v n (s .workers) .who) refl
-    where
-      go : (x : ℕ) → oldest v n (s .workers) .who ≡ x → Sound p n (serve v x s)
-      go zero e = sound
-      go (suc w) e = let (c, l, h) = oldest-waits v n (s .workers) w e in given-sound w c l h (dequeOf s v) refl
+  serve-sound zero waits = sound
+  serve-sound (suc w) waits = let (c, l, h) = waits w refl in given-sound w c l h (dequeOf s v) refl

@@ -24,7 +24,8 @@ use Rattle.lines.proofs.Laws.Sum.{sum, sum-le, sum-less, sum-bound, only, only-
 use Rattle.runs.specs.Trace.{Stage, turning, laying, serving, Trace, begins, turned, goes-on, laid, all-laid, served, next-round}
 use Rattle.runs.proofs.Laws.Fit.{Fit, count-most}
 use Rattle.runs.proofs.Laws.Sound.{trace-sound}
-use Rattle.runs.proofs.Laws.Waits.{start-calm, seated, seated-waits}
+use Rattle.runs.proofs.Laws.Start.{start-calm}
+use Rattle.runs.proofs.Laws.Waits.{seated, seated-waits}
 use Rattle.runs.proofs.Laws.Victims.{victim-below}
 use Rattle.runs.proofs.Laws.Least.{rank, Best, oldest-best}
 

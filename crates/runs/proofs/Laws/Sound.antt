@@ -1,13 +1,13 @@
 -- What holds of every state of a run: its lines are good, and a worker that holds nothing has an empty deque.
-use Prim.Native.Nat.{ℕ, zero, suc, _*_, _≤_, _<_}
+use Prim.Native.Nat.{ℕ, _*_, _≤_, _<_}
 use mathlib.Core.Path.{_≡_, refl, _∙_}
-use mathlib.Core.Logic.{_≢_, by-cases}
+use mathlib.Core.Logic.{by-cases}
 use mathlib.Core.Bool.{true, false}
-use mathlib.Core.List.{List, []}
+use mathlib.Core.List.{List}
 use native.Mathlib.Omega.{arith}
 use native.Mathlib.Nat.{le-refl, le-trans, mul-le-mul}
 use native.Mathlib.Decide.{ℕ-discrete}
-use lib.ListN.{length, getD, replicate, length-replicate}
+use lib.ListN.{length, getD, length-replicate}
 use lib.Dec.{leb→le, nleb→lt}
 use Rattle.runs.specs.declared.worker.Worker.{Worker}
 use Rattle.runs.specs.declared.worker.Worker.the-variants.{Idle, Holding}
@@ -17,6 +17,7 @@ use Rattle.runs.specs.State.{State, nextOf, workerOf, dequeOf, start}
 use Rattle.courses.specs.Row.{noRow}
 use Rattle.courses.specs.Ready.{weight}
 use Rattle.runs.specs.Setting.{Setting, countIn}
+use Rattle.runs.specs.Steal.{oldest}
 use Rattle.runs.specs.Run.{ended}
 use Rattle.lines.proofs.Laws.Shape.{Living, Leaves}
 use Rattle.lines.proofs.Laws.Start.{start-good}
@@ -30,27 +31,15 @@ use Rattle.plan.proofs.Laws.Valid.{jobs-range}
 use Rattle.runs.specs.Trace.{Stage, turning, laying, Trace, begins, turned, goes-on, laid, all-laid, served, next-round}
 use Rattle.courses.proofs.Laws.PlanShape.{shape-valid}
 use Rattle.runs.proofs.Laws.Fit.{Fit, count-some, count-most}
+use Rattle.runs.proofs.Laws.Start.{none-done, start-idle, start-deque}
+use Rattle.runs.proofs.Laws.Least.{oldest-waits}
 use Rattle.runs.proofs.Laws.Lined.{line-of, held-in, line-held, held-below}
 use Rattle.runs.proofs.Laws.TurnSound.{turn-others, turn-still, turnOf-sound}
 use Rattle.runs.proofs.Laws.ServeSound.{lay-others, lay-sound, serve-sound}
 pub use Rattle.courses.proofs.Laws.PlanShape.{shape}
 pub use Rattle.runs.proofs.Laws.Lined.{lineIn, lineOf, Sound}
 
-replicate-at : {A : Type 0} (n i : ℕ) (a : A) → getD (replicate n a) i a ≡ a
-replicate-at zero i a = refl
-replicate-at (suc n) zero a = refl
-replicate-at (suc n) (suc i) a = replicate-at n i a
-
 module _ (p : Plan) (ok : Accepted p) (n : ℕ) (some : 1 ≤ n) where
-  start-idle : (w : ℕ) → w ≢ 0 → workerOf (start p) w ≡ Idle
-  unfolding start
-  start-idle zero f = absurd (f refl)
-  start-idle (suc w) f = replicate-at 15 w Idle
-
-  start-deque : (w : ℕ) → dequeOf (start p) w ≡ []
-  unfolding start
-  start-deque w = replicate-at 16 w []
-
   pub start-sound : Sound p n (start p)
   unfolding start
   start-sound = record {
@@ -58,10 +47,10 @@ module _ (p : Plan) (ok : Accepted p) (n : ℕ) (some : 1 ≤ n) where
     workers = refl;
     deques = refl;
     rows = length-replicate (total p) noRow;
-    good = start-good (shape p) (shape-valid p ok) (nextOf (start p)) (lineOf (start p)) (λ j. replicate-at (length p) j 0) refl
-        (λ w f. line-of (start p) w Idle (start-idle w f));
-    empty = λ w e. start-deque w;
-    absent = λ w h. start-idle w (λ e. omega arith);
+    good = start-good (shape p) (shape-valid p ok) (nextOf (start p)) (lineOf (start p)) (none-done p) refl
+        (λ w f. line-of (start p) w Idle (start-idle p w f));
+    empty = λ w e. start-deque p w;
+    absent = λ w h. start-idle p w (λ e. omega arith);
   }
 
 module _ (p : Plan) (ok : Accepted p) (n : ℕ) (s : State) (sound : Sound p n s) where
@@ -137,5 +126,7 @@ module _ (S : Setting) where
     trace-sound (laid {r} {k} {b} {s} t l) =
         lay-sound (S .plan) (countIn S r) (count-most S fit r) S r k (getD b k Idle) s l (laying-idle t k (le-refl k)) (trace-sound t)
     trace-sound (all-laid t) = trace-sound t
-    trace-sound (served {r} {k} {b} {s} t l) = serve-sound (S .plan) (fit .plan) (countIn S r) (count-most S fit r) s (trace-sound t) k l
+    trace-sound (served {r} {k} {b} {s} t l) =
+        serve-sound (S .plan) (fit .plan) (countIn S r) (count-most S fit r) s (trace-sound t) k l (oldest k (countIn S r) (s .workers) .who)
+        (oldest-waits k (countIn S r) (s .workers) (count-most S fit r))
     trace-sound (next-round t) = trace-sound t

@@ -23,7 +23,8 @@ use Rattle.runs.specs.Trace.{Stage, Trace, begins, turned, goes-on, laid
 use Rattle.runs.proofs.Laws.Fit.{Fit}
 use Rattle.runs.proofs.Laws.Sound.{trace-sound}
 use Rattle.runs.proofs.Laws.Tallies.{lone-holds, lone-requests}
-use Rattle.runs.proofs.Laws.Waits.{waiting-sum, start-calm, seated, seated-waits}
+use Rattle.runs.proofs.Laws.Start.{start-calm}
+use Rattle.runs.proofs.Laws.Waits.{waiting-sum, seated, seated-waits}
 use Rattle.runs.proofs.Laws.Waiting.{Unheld, requests-sum}
 
 -- what stands at a place after a store, there or elsewhere

@@ -15,9 +15,11 @@ use Rattle.runs.specs.State.{State, workerOf, dequeOf, start}
 use Rattle.runs.specs.Turn.{turn, idled, turnOf}
 use Rattle.runs.specs.Steal.{laid as laidBy, lay, oldest, topOf, given, serve, waits, waiting}
 use Rattle.runs.specs.Trace.{Stage, turning, laying, serving, Trace, begins, turned, goes-on, laid, all-laid, served, next-round}
-use Rattle.runs.proofs.Laws.Fit.{Fit}
+use Rattle.runs.proofs.Laws.Fit.{Fit, count-most}
 use Rattle.runs.proofs.Laws.Sound.{trace-sound, trace-began}
-use Rattle.runs.proofs.Laws.Waits.{waiting-none, start-calm, waiting-kept, waiting-more, waiting-less, seated, seated-waits, oldest-waits}
+use Rattle.runs.proofs.Laws.Start.{start-calm}
+use Rattle.runs.proofs.Laws.Least.{oldest-waits}
+use Rattle.runs.proofs.Laws.Waits.{waiting-none, waiting-kept, waiting-more, waiting-less, seated, seated-waits}
 
 abbrev pub Unheld : Worker → Type 0
 Unheld x = (j : ℕ) → x ≡ Holding j → ⊥
@@ -95,12 +97,12 @@ module _ (S : Setting) (fit : Fit S) where
       go zero e i = i
       go (suc w) e i = gives (dequeOf s k)
         where
-          found : (l : ℕ) × (w < countIn S r) × (getD (s .workers) w Idle ≡ Waiting k l)
-          found = oldest-waits k (countIn S r) (s .workers) w e
+          found : (w < countIn S r) × (l : ℕ) × (getD (s .workers) w Idle ≡ Waiting k l)
+          found = oldest-waits k (countIn S r) (s .workers) (count-most S fit r) w e
 
           less : (x : Worker) → waits x ≡ 0 → suc (waiting (countIn S r) (set (s .workers) w x)) ≡ waiting (countIn S r) (s .workers)
           less x z =
-              waiting-less (s .workers) w x (workers-length t w (found .1)) (countIn S r) (found .1) (ap suc z ∙ ap waits (sym (found .2)))
+              waiting-less (s .workers) w x (workers-length t w (found .0)) (countIn S r) (found .0) (ap suc z ∙ ap waits (sym (found .2)))
 
           gives : (d : List ℕ) → Settled (countIn S r) (given k w d s)
           gives [] = omega (arith, less Idle refl)

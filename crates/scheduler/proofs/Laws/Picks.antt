@@ -18,9 +18,10 @@ use Rattle.runs.specs.Steal.{laid, lay, oldest, topOf, given, serve, waits}
 use Rattle.runs.specs.Trace.{turning, laying, serving}
 use Rattle.scheduler.specs.Machine.{InRun}
 use Rattle.scheduler.specs.Requests.{Calm, Queued, Serving}
-use Rattle.runs.proofs.Laws.ServeSound.{oldest-waits}
+use Rattle.runs.proofs.Laws.Least.{oldest-waits}
 use Rattle.runs.proofs.Laws.Sound.{trace-began, laying-idle}
-use Rattle.runs.proofs.Laws.Waits.{start-calm, seated, seated-waits}
+use Rattle.runs.proofs.Laws.Start.{start-calm}
+use Rattle.runs.proofs.Laws.Waits.{seated, seated-waits}
 use Rattle.scheduler.proofs.Laws.Running.{run-sound, run-turns}
 use Rattle.scheduler.proofs.Laws.Queues.{queue-first, queued-calm}
 
@@ -86,7 +87,7 @@ serve-queued {hi} {after} {last} v w s q = go (dequeOf s v)
 pub served-below : {p : Plan} {n : ℕ} {choices : List ℕ} {r : ℕ} {b : List Worker} {s : State} {v w : ℕ} {c : Account} {seats slots top len : List ℕ}
     → Serving p n choices r b s v (suc w) c seats slots top len → w < 16
 served-below {n = n} {s = s} {v = v} {w = w} g =
-    omega (arith, g .run .most, oldest-waits v n (s .workers) w (sym (g .picked)) .0)
+    omega (arith, g .run .most, oldest-waits v n (s .workers) (g .run .most) w (sym (g .picked)) .0)
 
 -- the lines as a run begins
 abbrev pub firstEnds : List ℕ

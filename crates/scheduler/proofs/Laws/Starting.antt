@@ -14,7 +14,7 @@ use Rattle.runs.specs.declared.worker.Worker.the-variants.{Idle, Holding}
 use Rattle.runs.specs.State.{start}
 use Rattle.courses.specs.Row.{place}
 use Rattle.scheduler.specs.Machine.{dequeAt, missingTo, Progressed, Dequed, codeOf, Seated, Manned, Machine, RunGiven}
-use Rattle.runs.proofs.Laws.Done.{none-done}
+use Rattle.runs.proofs.Laws.Start.{none-done}
 use Rattle.runs.proofs.Laws.Coursed.{start-weight}
 use Rattle.scheduler.proofs.Laws.Missing.{missing-start}
 
