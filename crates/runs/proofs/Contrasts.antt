@@ -1,39 +1,24 @@
 -- Small runs that tell rules of document 01 from errors close to them: with the error, the fact does not hold.
 -- The laws are checked in the order of their names, so a wrong definition is first refused here, by a number of these runs.
---   G == job 0, three actions, spawns 1 at 0; job 1, one, joins position 2; frames 1
+--   G of courses == job 0, three actions, spawns 1 at 0; job 1, one, joins position 2; frames 1
 --   H == job 0, four actions, spawns 1 at 0 and 3 at 1; job 1, four, spawns 2 at 0 and 4 at 1, last joins position 3;
 --        jobs 2, 3 and 4, one each, join position 3; frames 1
 --   K == job 0, four actions, spawns 1 at 0; job 1, four, its second spawns 2 and joins position 2, last joins position 3;
 --        job 2, one, joins position 3; frames 1
 --   L == job 0, four actions, spawns 1 at 1; job 1, one, joins position 3; frames 1
 --   done p s j i == the row of action i of job j
--- Assumes nothing.
-use Prim.Native.Nat.{ℕ, suc}
+use Prim.Native.Nat.{ℕ}
 use mathlib.Core.Path.{_≡_, refl}
-use mathlib.Core.List.{List, [], _∷_}
+use mathlib.Core.List.{[], _∷_}
 use lib.ListN.{getD}
-use Rattle.plan.specs.Plan.{Action, Job, Plan, spawnAt, entering}
+use Rattle.plan.specs.Plan.{Plan, spawnAt, entering}
 use Rattle.plan.specs.Rules.{inRange, spawnRules, joinRules, Accepted}
 use Rattle.courses.specs.Row.{Row, noRow, place}
 use Rattle.runs.specs.State.{State}
 use Rattle.runs.specs.Setting.{setting}
 use Rattle.runs.specs.Run.{run}
 use Rattle.runs.specs.Cases.{row}
-
-abbrev plain : Action
-plain = record { spawn = 0; join = 0 }
-
-abbrev spawns : ℕ → Action
-spawns c = record { spawn = suc c; join = 0 }
-
-abbrev joins : ℕ → Action
-joins t = record { spawn = 0; join = suc t }
-
-abbrev of : List Action → Job
-of actions = record { frame = 1; actions = actions }
-
-abbrev G : Plan
-G = of (spawns 1 ∷ plain ∷ plain ∷ []) ∷ of (joins 2 ∷ []) ∷ []
+use Rattle.courses.proofs.Contrasts.{plain, spawns, joins, of, G}
 
 abbrev H : Plan
 H =
@@ -53,10 +38,6 @@ K =
 
 abbrev L : Plan
 L = of (plain ∷ spawns 1 ∷ plain ∷ plain ∷ []) ∷ of (joins 3 ∷ []) ∷ []
-
-pub G-accepted : Accepted G
-unfolding inRange spawnRules joinRules entering spawnAt
-G-accepted = record { range = tt; spawns = tt; joins = tt }
 
 pub H-accepted : Accepted H
 unfolding inRange spawnRules joinRules entering spawnAt
@@ -109,11 +90,6 @@ join-in-time = refl
 pub request-waits : G-run .tally .requests ≡ 1
 unfolding run
 request-waits = refl
-
--- job 1 has one action, and its frame is held until that is done
-pub frame-held : G-run .tally .peak ≡ 2
-unfolding run
-frame-held = refl
 
 -- in round 4 worker 0 spawns job 4, and then job 3 ends on worker 1: jobs 0, 1, 3 and 4 live between the two turns
 pub peak-each-turn : H-run .tally .peak ≡ 4

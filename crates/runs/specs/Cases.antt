@@ -1,7 +1,6 @@
 -- The twelve starred cases of document 01 as one table: plan bytes, P, choices and the answer. Laws/Starred.antt has the theorem.
 --   Count, valueOf == a count by the name that `buildrun` prints, and its value
 --   Case           == a row of the table; passes c == the meanings give the row's answer
--- Assumes nothing.
 use Prim.Native.Nat.{ℕ}
 use mathlib.Core.Bool.{Bool, true, false}
 use mathlib.Core.List.{List, [], _∷_}

@@ -2,7 +2,6 @@
 --   Bounds p n rows t      == of the rows and the tally of a run of n workers on the plan p
 --   Bounded p n schedule t == the same of the rows that are read off a schedule's bytes, and a tally
 --   Demand3                == for all accepted plan bytes, all worker counts 1 to 16 and all accepted lists of choices
--- Assumes nothing.
 use Prim.Native.Nat.{ℕ, _+_, _*_, _≤_}
 use mathlib.Core.Path.{_≡_}
 use mathlib.Core.List.{List}

@@ -1,7 +1,6 @@
 -- Two parts of a turn, by name. Proofs and private contracts cite them; no promise of a public entry does.
 --   afterOf s j     == how many actions of each job are done once job j has done its next one
 --   aboveOf p s w j == worker w's deque after rule 1
--- Assumes nothing.
 use Prim.Native.Nat.{ℕ, suc}
 use mathlib.Core.List.{List}
 use lib.ListN.{set}

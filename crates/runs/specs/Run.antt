@@ -3,7 +3,6 @@
 --   rounds k S s    == at most k rounds; run S == the whole run: T1 rounds are enough, which is a theorem
 --   workersFit n    == refusal 7 does not apply; choicesFit n cs == refusal 8 does not apply
 --   runOf s n cs    == the run on plan bytes, or the refusal: 1 to 6, then 7, 8
--- Assumes nothing.
 use Prim.Native.Nat.{ℕ, zero, suc}
 use mathlib.Core.Bool.{Bool, true, false}
 use mathlib.Core.List.{List}

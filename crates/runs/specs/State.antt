@@ -3,7 +3,6 @@
 --   Tally        == "rounds, actions, idle turns, requests, steals, misses, peak"
 --   State        == the next position of each job, the workers, their deques from the bottom up, the rows in plan order, the tally
 --   start p      == how a run begins
--- Assumes nothing.
 use Prim.Native.Nat.{ℕ}
 use mathlib.Core.List.{List, [], _∷_}
 use lib.ListN.{length, getD, replicate}

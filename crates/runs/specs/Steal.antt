@@ -4,7 +4,6 @@
 --   serve v, serves S r k == victim v serves one request; the victims below k in round r
 --   waits x         == 1 where the worker x waits with a request, or 0
 --   waiting k ws    == how many requests wait, of the workers below k
--- Assumes nothing.
 use Prim.Native.Nat.{ℕ, zero, suc, _+_, _%_}
 use mathlib.Core.Bool.{true, false}
 use mathlib.Core.List.{List, [], _∷_}

@@ -1,7 +1,6 @@
 -- The states of a run in the order in which they come: each turn, request and service takes the state that the last one left.
 --   Stage               == how far a round has come: turns taken, requests laid, victims served, of the workers below k
 --   Trace S r b g s     == s is the state of a run at stage g of round r, where b are the workers as the round began
--- Assumes nothing.
 use Prim.Native.Nat.{ℕ, suc, _<_}
 use mathlib.Core.Path.{_≡_}
 use mathlib.Core.Bool.{false}

@@ -2,7 +2,6 @@
 --   wakes            == rule 1's test; seatAfter == what rules 2 and 3 leave of a worker and its deque
 --   turn p r w j s   == worker w, which holds job j, takes its turn in round r
 --   turns p r k b s  == the turns of the workers below k, where b are the workers as the round began
--- Assumes nothing.
 use Prim.Native.Nat.{ℕ, zero, suc, max}
 use mathlib.Core.Bool.{Bool, true, false, not}
 use mathlib.Core.List.{List, [], _∷_}

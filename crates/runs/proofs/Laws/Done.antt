@@ -1,5 +1,4 @@
 -- How many actions a plan has, and that none is done at the start of a run.
--- Assumes nothing.
 use Prim.Native.Nat.{ℕ, zero, suc, _≤_}
 use mathlib.Core.Path.{_≡_, refl, _∙_}
 use native.Mathlib.Nat.{le-refl}

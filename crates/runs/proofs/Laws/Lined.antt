@@ -1,7 +1,6 @@
 -- The lines of a state, and what a sound state is.
 --   lineOf s w == the line of worker w: the job that it holds and then its deque from the bottom up, or nothing
 --   Sound p n s == s is a state of n workers on the plan p that keeps the invariant of lines
--- Assumes nothing.
 use Prim.Native.Nat.{ℕ, _≤_, _<_}
 use mathlib.Core.Path.{_≡_, refl, ap, ap₂}
 use mathlib.Core.Logic.{inl, _≢_}

@@ -1,5 +1,4 @@
 -- The twelve starred cases of document 01 hold of the meanings, by computing them.
--- Assumes nothing.
 use mathlib.Core.Path.{_≡_, refl}
 use mathlib.Core.Bool.{true}
 use Rattle.plan.specs.Test.{all}

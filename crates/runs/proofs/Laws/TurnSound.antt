@@ -1,6 +1,5 @@
 -- A turn keeps a state sound: the worker's line becomes the one that the theory of lines gives it, and no other changes.
 --   seatOf p s w j == worker w and its deque after that action
--- Assumes nothing.
 use Prim.Native.Nat.{ℕ, zero, suc, _≤_, _<_}
 use mathlib.Core.Path.{_≡_, refl, ap, sym, _∙_}
 use mathlib.Core.Logic.{inl, inr, _≢_, by-cases}
