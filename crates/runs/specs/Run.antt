@@ -24,7 +24,7 @@ ended p s = leb (size p 0) (nextOf s 0)
 
 -- "The round in which job 0 ends is the last and has no second half."
 unfoldable pub round : Setting → State → State
-unfolding turns lays serves
+unfolding turns lays serves countIn
 round S s =
     let p = S .plan in
     let r = suc (s .tally .rounds) in

@@ -14,5 +14,5 @@ abbrev pub setting : Plan → ℕ → List ℕ → Setting
 setting p n choices = record { plan = p; workers = n; choices = choices }
 
 -- the same in every round
-abbrev pub countIn : Setting → ℕ → ℕ
+unfoldable pub countIn : Setting → ℕ → ℕ
 countIn S r = S .workers

@@ -123,7 +123,7 @@ serve v (suc w) s = given v w (dequeOf s v) s
 
 -- "every victim, in rising number, serves one request"
 unfoldable pub serves : Setting → ℕ → ℕ → State → State
-unfolding serve oldest
+unfolding serve oldest countIn
 serves S r zero s = s
 serves S r (suc k) s = let t = serves S r k s in serve k (oldest k (countIn S r) (t .workers) .who) t
 

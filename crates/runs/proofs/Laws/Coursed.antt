@@ -9,7 +9,7 @@ use mathlib.Core.Logic.{inl}
 use mathlib.Core.Bool.{true, false}
 use mathlib.Core.List.{List, []}
 use native.Mathlib.Omega.{arith}
-use native.Mathlib.Nat.{le-refl}
+use native.Mathlib.Nat.{le-refl, le-trans, le-of-eq, mul-le-mul}
 use lib.Dec.{T, leb→le, nleb→lt}
 use lib.ListN.{length, getD}
 use Rattle.runs.specs.declared.worker.Worker.{Worker}
@@ -38,13 +38,13 @@ use Rattle.courses.proofs.Laws.Kept.{Done, course-kept}
 use Rattle.courses.proofs.Laws.Worked.{price, turns-most, turns-all, course-most}
 use Rattle.courses.proofs.Laws.Peak.{course-space, course-peak, peak-least, peak-most}
 use Rattle.courses.proofs.Laws.Order.{course-row, course-keeps, course-least, course-last}
-use Rattle.runs.proofs.Laws.Fit.{Fit, count-some}
+use Rattle.runs.proofs.Laws.Fit.{Fit, count-some, count-within, count-is}
 use Rattle.runs.proofs.Laws.Lined.{held-in, held-below}
 use Rattle.runs.proofs.Laws.Sound.{Sound, start-sound, trace-sound, trace-began, space, busy, held-job, held-once}
 use Rattle.runs.proofs.Laws.Rests.{Rests, lay-rests, serve-rests}
 use Rattle.runs.proofs.Laws.Start.{none-done, start-turns, start-peak}
 use Rattle.runs.proofs.Laws.Done.{sizes-sum}
-use Rattle.runs.proofs.Laws.Rounds.{not-ended}
+use Rattle.runs.proofs.Laws.Rounds.{not-ended, began-below}
 
 abbrev pub core : State → Core
 core s = record { next = s .next; spent = []; rows = s .rows; turns = s .tally .actions; peak = s .tally .peak }
@@ -90,13 +90,16 @@ module _ (S : Setting) (fit : Fit S) where
   start-begins : Begins plan (core (start plan))
   start-begins = record { none = none-done plan; fresh = λ j. refl; long = start-sound plan (fit .plan) (countIn S 1) (count-some S fit 1) .rows; turns = start-turns plan; peak = start-peak plan }
 
+  start-light : weight plan (start plan .next) ≤ countIn S 0 * heaviest plan
+  start-light = space plan (fit .plan) (countIn S 0) (start plan) (start-sound plan (fit .plan) (countIn S 0) (count-some S fit 0))
+
   -- the jobs that are held as a round begins
   held-hands : (r : ℕ) (s : State) → Sound plan (countIn S r) s → ended plan s ≡ false → (k : ℕ) (b : ℕ → ℕ) → ((w j : ℕ) → b w ≡ suc j → w < k)
       → Hands (terms S) k b (handsOf (s .workers)) (core s)
   held-hands r s sound e k b over = record {
     over = over;
     goes = nleb→lt (size plan 0) (nextOf s 0) (rw e tt);
-    known = λ w j q. held-below plan (countIn S r) s sound w j (hands-is (workerOf s w) j q);
+    known = λ w j q. omega (arith, held-below plan (countIn S r) s sound w j (hands-is (workerOf s w) j q), count-within S r);
     lives = λ w j q. sound .good .here w j (held-in s w j (hands-is (workerOf s w) j q)) .0;
     ready = λ w j q. sound .good .here w j (held-in s w j (hands-is (workerOf s w) j q)) .1;
     once = λ v w j q i. held-once plan (fit .plan) (countIn S r) s sound v w j (hands-is (workerOf s v) j q) (hands-is (workerOf s w) j i);
@@ -131,7 +134,7 @@ module _ (S : Setting) (fit : Fit S) where
   trace-course Trace.begins =
       let sound = start-sound plan (fit .plan) (countIn S 1) (count-some S fit 1) in
       let going = not-ended S fit Trace.begins in
-      Course.next-round (Course.begins {b = λ w. 0} (λ w. refl) start-begins (space plan (fit .plan) (countIn S 1) (start plan) sound))
+      Course.next-round (Course.begins {b = λ w. 0} (λ w. refl) start-begins start-light)
       (held-hands 1 (start plan) sound going 0 (λ w. 0) (λ w j q. absurd (omega arith))) (held-some 1 (start plan) sound going)
   trace-course (Trace.turned {k = k} {b = b} t h) =
       turned-course t (getD b k Idle) refl (trace-sound S fit (Trace.turned t h)) (trace-course t)
@@ -140,9 +143,9 @@ module _ (S : Setting) (fit : Fit S) where
   trace-course (Trace.all-laid t) = trace-course t
   trace-course (Trace.served {r = r} {k = k} {s = s} t h) = rw (core-rests (serve-rests k (oldest k (countIn S r) (s .workers) .who) s)) (trace-course t)
   trace-course (Trace.next-round {r = r} {b = b} {s = s} t) =
-      let sound = trace-sound S fit t in
+      let sound = trace-sound S fit (Trace.next-round t) in
       let going = not-ended S fit t in
-      Course.next-round (trace-course t) (held-hands (suc r) s sound going (countIn S r) (handsOf b) (course-kept (terms S) (fit .plan) (trace-course t) .known)) (held-some (suc r) s sound going)
+      Course.next-round (trace-course t) (held-hands (suc r) s sound going (countIn S r) (handsOf b) (λ w j q. began-below S fit t w j (hands-is (getD b w Idle) j q))) (held-some (suc r) s sound going)
 
   pub rows-length : {r : ℕ} {b : List Worker} {g : Stage} {s : State} → Trace S r b g s → length (s .rows) ≡ total plan
   rows-length t = trace-sound S fit t .rows
@@ -160,8 +163,11 @@ module _ (S : Setting) (fit : Fit S) where
     over : size plan 0 ≤ nextOf s 0
     over = leb→le (size plan 0) (nextOf s 0) (rw e tt)
 
-    grows : (r r′ : ℕ) → r ≤ r′ → S .workers * heaviest plan ≤ S .workers * heaviest plan
-    grows r r′ h = le-refl (S .workers * heaviest plan)
+    grows : (r r′ : ℕ) → r ≤ r′ → countIn S r * heaviest plan ≤ countIn S r′ * heaviest plan
+    grows r r′ h = le-of-eq (ap (λ k. k * heaviest plan) (count-is S r ∙ sym (count-is S r′)))
+
+    within : (r : ℕ) → countIn S r * heaviest plan ≤ S .workers * heaviest plan
+    within r = mul-le-mul (count-within S r) (le-refl (heaviest plan))
 
     pub actions-all : s .tally .actions ≡ work plan
     actions-all = turns-all (terms S) (fit .plan) (trace-course t) over ∙ price-work
@@ -183,7 +189,7 @@ module _ (S : Setting) (fit : Fit S) where
     last-round = course-last (terms S) (fit .plan) (trace-course t) over
 
     pub run-space : (r′ w′ : ℕ) → weightAfter plan (s .rows) r′ w′ ≤ S .workers * heaviest plan
-    run-space = course-space (terms S) (fit .plan) grows (trace-course t) over
+    run-space r′ w′ = le-trans (course-space (terms S) (fit .plan) grows (trace-course t) over r′ w′) (within r′)
 
     pub run-peak : s .tally .peak ≡ peakOf plan (s .rows)
     run-peak = course-peak (terms S) (fit .plan) grows (trace-course t) over
@@ -191,4 +197,4 @@ module _ (S : Setting) (fit : Fit S) where
     pub lone-peak : S .workers ≡ 1 → s .tally .peak ≡ heaviest plan
     lone-peak q =
         let z : S .workers * heaviest plan ≡ heaviest plan = rw q (omega arith) in
-        omega (arith, peak-least (terms S) (fit .plan) grows (trace-course t) over, peak-most (terms S) (fit .plan) grows (trace-course t) over (S .workers * heaviest plan) (λ r. le-refl (S .workers * heaviest plan)))
+        omega (arith, peak-least (terms S) (fit .plan) grows (trace-course t) over, peak-most (terms S) (fit .plan) grows (trace-course t) over (S .workers * heaviest plan) within)

@@ -1,7 +1,9 @@
 -- A setting that is let through: its plan is accepted, and in each round there are 1 to 16 workers. Which workers the choices name is
 -- not asked here, nor how many there are.
 --   Fit S == that
-use Prim.Native.Nat.{ℕ, _≤_}
+use Prim.Native.Nat.{ℕ, suc, _≤_}
+use mathlib.Core.Path.{_≡_, refl, sym, _∙_}
+use native.Mathlib.Nat.{le-refl}
 use Rattle.plan.specs.Rules.{Accepted}
 use Rattle.runs.specs.Setting.{Setting, countIn}
 
@@ -11,7 +13,21 @@ pub record Fit (S : Setting) : Type 0 where
   pub most : S .workers ≤ 16
 
 pub count-some : (S : Setting) → Fit S → (r : ℕ) → 1 ≤ countIn S r
+unfolding countIn
 count-some S fit r = fit .some
 
 pub count-most : (S : Setting) → Fit S → (r : ℕ) → countIn S r ≤ 16
+unfolding countIn
 count-most S fit r = fit .most
+
+pub count-within : (S : Setting) (r : ℕ) → countIn S r ≤ S .workers
+unfolding countIn
+count-within S r = le-refl (S .workers)
+
+-- there are the same workers in every round
+pub count-is : (S : Setting) (r : ℕ) → countIn S r ≡ S .workers
+unfolding countIn
+count-is S r = refl
+
+pub count-next : (S : Setting) (r : ℕ) → countIn S (suc r) ≡ countIn S r
+count-next S r = count-is S (suc r) ∙ sym (count-is S r)

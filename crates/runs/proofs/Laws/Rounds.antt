@@ -19,6 +19,7 @@ use Rattle.runs.specs.Run.{ended}
 use Rattle.plan.proofs.Laws.Valid.{jobs-range, size-range}
 use Rattle.runs.specs.Trace.{Stage, turning, laying, serving, Trace, begins, turned, goes-on, laid, all-laid, served, next-round}
 use Rattle.runs.proofs.Laws.Fit.{Fit, count-some}
+use Rattle.runs.proofs.Laws.Lined.{held-below}
 use Rattle.runs.proofs.Laws.Sound.{trace-sound, busy}
 use Rattle.runs.proofs.Laws.Rests.{Rests, lay-rests, serve-rests}
 use Rattle.runs.proofs.Laws.Start.{none-done}
@@ -90,4 +91,15 @@ module _ (S : Setting) (fit : Fit S) where
   began-busy (laid t h) = began-busy t
   began-busy (all-laid t) = began-busy t
   began-busy (served t h) = began-busy t
-  began-busy (next-round {r} {b} {s} t) = busy plan (fit .plan) (countIn S (suc r)) s (trace-sound S fit t) (not-ended t)
+  began-busy (next-round {r} {b} {s} t) = busy plan (fit .plan) (countIn S (suc r)) s (trace-sound S fit (next-round t)) (not-ended t)
+
+  -- and it is one of those that there are
+  pub began-below : {r : ℕ} {b : List Worker} {g : Stage} {s : State} → Trace S r b g s
+      → (w j : ℕ) → getD b w Idle ≡ Holding j → w < countIn S r
+  began-below begins = held-below plan (countIn S 1) (start plan) (trace-sound S fit begins)
+  began-below (turned t h) = began-below t
+  began-below (goes-on t e) = began-below t
+  began-below (laid t h) = began-below t
+  began-below (all-laid t) = began-below t
+  began-below (served t h) = began-below t
+  began-below (next-round {r} {b} {s} t) = held-below plan (countIn S (suc r)) s (trace-sound S fit (next-round t))

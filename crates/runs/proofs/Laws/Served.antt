@@ -22,7 +22,7 @@ use Rattle.runs.specs.Steal.{laid as laidBy, lay, oldest, topOf, given, 
 use Rattle.runs.specs.Run.{choicesFit}
 use Rattle.lines.proofs.Laws.Sum.{sum, sum-le, sum-less, sum-bound, only, only-yes}
 use Rattle.runs.specs.Trace.{Stage, turning, laying, serving, Trace, begins, turned, goes-on, laid, all-laid, served, next-round}
-use Rattle.runs.proofs.Laws.Fit.{Fit, count-most}
+use Rattle.runs.proofs.Laws.Fit.{Fit, count-most, count-next}
 use Rattle.runs.proofs.Laws.Sound.{trace-sound}
 use Rattle.runs.proofs.Laws.Start.{start-calm}
 use Rattle.runs.proofs.Laws.Waits.{seated, seated-waits}
@@ -164,7 +164,7 @@ module _ (S : Setting) (fit : Fit S) (chosen : T (choicesFit (S .workers) (S .ch
       (λ f. let z : _≡_ {A = ℕ} 0 1 = cc (trace-sound S fit t .absent w (omega arith)) in absurd (omega arith))
 
   workers-length : {r : ℕ} {b : List Worker} {g : Stage} {s : State} → Trace S r b g s → (k : ℕ) → k < countIn S r → k < length (s .workers)
-  workers-length t k h = omega (arith, trace-sound S fit t .workers)
+  workers-length {r} t k h = omega (arith, trace-sound S fit t .workers, count-most S fit r)
 
   all-due : {r : ℕ} {b : List Worker} {g : Stage} {s : State} → Trace S r b g s → AllDue (countIn S r) r g (s .workers)
   unfolding turnOf turn idled lay laidBy serve given start
@@ -201,7 +201,7 @@ module _ (S : Setting) (fit : Fit S) (chosen : T (choicesFit (S .workers) (S .ch
           gives : (d : List ℕ) → AllDue (countIn S r) r (serving (suc k)) (given k x d s .workers)
           gives [] = due Idle refl
           gives (y ∷ d) = due (Holding (topOf y d)) refl
-  all-due (next-round t) = λ w v l e. omega (arith, all-due t w v l e .1 (victim-below S fit chosen t w v l e .0))
+  all-due (next-round {r} t) = rw (count-next S r) λ w v l e. omega (arith, all-due t w v l e .1 (victim-below S fit chosen t w v l e .0))
 
   -- a request that still waits when round r is over was laid in a round l with r < l + (n - 1): it is served in round l + countIn S r - 1 at the latest
   pub waits-served : {r : ℕ} {b : List Worker} {s : State} → Trace S r b (serving (countIn S r)) s → (w v l : ℕ) → workerOf s w ≡ Waiting v l

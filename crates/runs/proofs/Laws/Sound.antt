@@ -30,7 +30,7 @@ use Rattle.plan.specs.Rules.{Accepted}
 use Rattle.plan.proofs.Laws.Valid.{jobs-range}
 use Rattle.runs.specs.Trace.{Stage, turning, laying, Trace, begins, turned, goes-on, laid, all-laid, served, next-round}
 use Rattle.courses.proofs.Laws.PlanShape.{shape-valid}
-use Rattle.runs.proofs.Laws.Fit.{Fit, count-some, count-most}
+use Rattle.runs.proofs.Laws.Fit.{Fit, count-some, count-most, count-next}
 use Rattle.runs.proofs.Laws.Start.{none-done, start-idle, start-deque}
 use Rattle.runs.proofs.Laws.Least.{oldest-waits}
 use Rattle.runs.proofs.Laws.Lined.{line-of, held-in, line-held, held-below}
@@ -129,4 +129,4 @@ module _ (S : Setting) where
     trace-sound (served {r} {k} {b} {s} t l) =
         serve-sound (S .plan) (fit .plan) (countIn S r) (count-most S fit r) s (trace-sound t) k l (oldest k (countIn S r) (s .workers) .who)
         (oldest-waits k (countIn S r) (s .workers) (count-most S fit r))
-    trace-sound (next-round t) = trace-sound t
+    trace-sound (next-round {r} t) = rw (count-next S r) (trace-sound t)

@@ -15,7 +15,7 @@ use Rattle.runs.specs.State.{State, dequeOf, start}
 use Rattle.runs.specs.Turn.{turn, idled, turnOf}
 use Rattle.runs.specs.Steal.{laid as laidBy, lay, oldest, given, serve}
 use Rattle.runs.specs.Trace.{Stage, turning, laying, serving, Trace, begins, turned, goes-on, laid, all-laid, served, next-round}
-use Rattle.runs.proofs.Laws.Fit.{Fit, count-most}
+use Rattle.runs.proofs.Laws.Fit.{Fit, count-most, count-within, count-is}
 use Rattle.runs.proofs.Laws.Rests.{lay-rests, serve-rests}
 use Rattle.runs.proofs.Laws.Rounds.{began-busy}
 
@@ -33,7 +33,7 @@ counts-most S fit (suc r) = omega (arith, counts-most S fit r, count-most S fit 
 pub counts-same : (S : Setting) (r : ℕ) → counts S r ≡ S .workers * r
 unfolding counts
 counts-same S zero = omega (arith, mul-zero (S .workers))
-counts-same S (suc r) = omega (arith, counts-same S r, mul-suc (S .workers) r)
+counts-same S (suc r) = omega (arith, counts-same S r, count-is S (suc r), mul-suc (S .workers) r)
 
 -- the turns of the rounds before, and of the workers below k in this one
 abbrev pub Turned : Setting → Stage → ℕ → Tally → Type 0
@@ -123,9 +123,9 @@ module _ (S : Setting) (fit : Fit S) where
     -- a worker that is alone holds a job as each round begins
     pub lone-holds : {r : ℕ} {b : List Worker} {g : Stage} {s : State} → Trace S r b g s → (k : ℕ) → k < countIn S r
         → (j : ℕ) × (getD b k Idle ≡ Holding j)
-    lone-holds {b = b} t k h =
+    lone-holds {r} {b} t k h =
         let (w, j, l, f) = began-busy S fit t in
-        let e : k ≡ w = omega arith in
+        let e : k ≡ w = omega (arith, count-within S r) in
         (j, ap (λ v. getD b v Idle) e ∙ f)
 
     -- so it never idles

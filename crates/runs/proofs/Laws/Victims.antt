@@ -20,7 +20,7 @@ use Rattle.runs.specs.Run.{choicesFit}
 use Rattle.lines.proofs.Laws.Sum.{sum-term}
 use Rattle.plan.proofs.Laws.Lists.{both-left, both-right, all-at}
 use Rattle.runs.specs.Trace.{Stage, Trace, begins, turned, goes-on, laid, all-laid, served, next-round}
-use Rattle.runs.proofs.Laws.Fit.{Fit}
+use Rattle.runs.proofs.Laws.Fit.{Fit, count-is, count-next}
 use Rattle.runs.proofs.Laws.Sound.{trace-sound}
 use Rattle.runs.proofs.Laws.Tallies.{lone-holds, lone-requests}
 use Rattle.runs.proofs.Laws.Start.{start-calm}
@@ -84,7 +84,7 @@ module _ (S : Setting) (fit : Fit S) where
       go Idle i =
           let at = s .tally .requests % length choices in
           let v = getD choices at 0 in
-          named-set (countIn S r) r (s .workers) k (Waiting v r) (named-laid (countIn S r) r v (choice-below (S .workers) choices (fit .some) named at) (round-first t)) i
+          named-set (countIn S r) r (s .workers) k (Waiting v r) (named-laid (countIn S r) r v (rw (count-is S r) (choice-below (S .workers) choices (fit .some) named at)) (round-first t)) i
       go (Holding j) i = i
       go (Waiting v l) i = i
   named-all named (all-laid t) = named-all named t
@@ -97,7 +97,7 @@ module _ (S : Setting) (fit : Fit S) where
           gives : (d : List ℕ) → (w : ℕ) → Named (countIn S r) r (workerOf (given k x d s) w)
           gives [] = named-set (countIn S r) r (s .workers) x Idle (named-calm (countIn S r) r Idle refl) i
           gives (y ∷ d) = named-set (countIn S r) r (s .workers) x (Holding (topOf y d)) (named-calm (countIn S r) r (Holding (topOf y d)) refl) i
-  named-all named (next-round t) = λ w v l e. omega (arith, named-all named t w v l e)
+  named-all named (next-round {r} t) = λ w v l e. omega (arith, named-all named t w v l e, count-next S r)
 
   -- a worker that waits names a victim that there is, and a round that has begun
   pub victim-below : T (choicesFit (S .workers) choices) → {r : ℕ} {b : List Worker} {g : Stage} {s : State} → Trace S r b g s

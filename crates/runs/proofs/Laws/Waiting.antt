@@ -15,7 +15,7 @@ use Rattle.runs.specs.State.{State, workerOf, dequeOf, start}
 use Rattle.runs.specs.Turn.{turn, idled, turnOf}
 use Rattle.runs.specs.Steal.{laid as laidBy, lay, oldest, topOf, given, serve, waits, waiting}
 use Rattle.runs.specs.Trace.{Stage, turning, laying, serving, Trace, begins, turned, goes-on, laid, all-laid, served, next-round}
-use Rattle.runs.proofs.Laws.Fit.{Fit, count-most}
+use Rattle.runs.proofs.Laws.Fit.{Fit, count-most, count-next}
 use Rattle.runs.proofs.Laws.Sound.{trace-sound, trace-began}
 use Rattle.runs.proofs.Laws.Start.{start-calm}
 use Rattle.runs.proofs.Laws.Least.{oldest-waits}
@@ -41,7 +41,7 @@ module _ (S : Setting) (fit : Fit S) where
   open Setting S using (plan)
 
   workers-length : {r : ℕ} {b : List Worker} {g : Stage} {s : State} → Trace S r b g s → (k : ℕ) → k < countIn S r → k < length (s .workers)
-  workers-length t k h = omega (arith, trace-sound S fit t .workers)
+  workers-length {r} t k h = omega (arith, trace-sound S fit t .workers, count-most S fit r)
 
   -- only a worker that held a job as the round began is changed by a turn
   pub unheld-kept : {r : ℕ} {b : List Worker} {g : Stage} {s : State} → Trace S r b g s → Kept g b s
@@ -107,4 +107,4 @@ module _ (S : Setting) (fit : Fit S) where
           gives : (d : List ℕ) → Settled (countIn S r) (given k w d s)
           gives [] = omega (arith, less Idle refl)
           gives (x ∷ d) = omega (arith, less (Holding (topOf x d)) refl)
-  requests-sum (next-round t) = requests-sum t
+  requests-sum (next-round {r} t) = rw (count-next S r) (requests-sum t)

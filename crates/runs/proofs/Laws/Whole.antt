@@ -17,7 +17,7 @@ use Rattle.runs.specs.Steal.{lays, serves, waiting}
 use Rattle.runs.specs.Run.{ended, round, rounds, run}
 use Rattle.plan_measure.proofs.Laws.Work.{work-range}
 use Rattle.runs.specs.Trace.{Stage, turning, laying, serving, Trace, begins, turned, goes-on, laid, all-laid, served, next-round}
-use Rattle.runs.proofs.Laws.Fit.{Fit, count-some}
+use Rattle.runs.proofs.Laws.Fit.{Fit, count-some, count-is}
 use Rattle.runs.proofs.Laws.Sound.{trace-sound, all-done}
 use Rattle.runs.proofs.Laws.Rounds.{rounds-known, numbered-late, numbered-most, not-ended}
 use Rattle.runs.proofs.Laws.Coursed.{actions-most, actions-all}
@@ -145,7 +145,9 @@ module _ (S : Setting) (fit : Fit S) where
   -- each request was a steal or a miss, or its worker still waits
   pub run-requests : run S .tally .requests
       ≡ run S .tally .steals + run S .tally .misses + waiting (S .workers) (run S .workers)
-  run-requests = let (r, b, t, e, q) = run-trace in requests-sum S fit t
+  run-requests =
+      let (r, b, t, e, q) = run-trace in
+      requests-sum S fit t ∙ ap (λ k. run S .tally .steals + run S .tally .misses + waiting k (run S .workers)) (count-is S r)
 
   -- a worker that is alone does one action in each round
   pub lone-rounds : S .workers ≡ 1 → run S .tally .rounds ≡ work plan

@@ -134,17 +134,20 @@ module _ {p : Plan} {n : ℕ} {choices : List ℕ} {r : ℕ} {s : State} {c : Ac
       (planned : Planned p frame first spawn join parent)
       (half : Machine p (turns p (c .tally .rounds + 1) n (s .workers) s) c′ seats′ rows next missing slots top len) where
     pub round-ends : getD next 0 0 ≡ getD first 1 0 → Machine p (round (setting p n choices) s) c′ seats′ rows next missing slots top len
+    unfolding countIn
     round-ends e =
         let last = ended-there (run-turns round-now n (le-refl n)) planned (half .progressed) e in
         rw (round-last (setting p n choices) (c .tally .rounds + 1) s round-counted last) half
 
     pub ends-pointed : {k : ℕ} → Pointed choices s k → getD next 0 0 ≡ getD first 1 0 → Pointed choices (round (setting p n choices) s) k
+    unfolding countIn
     ends-pointed e q =
         let last = ended-there (run-turns round-now n (le-refl n)) planned (half .progressed) q in
         rw (round-last (setting p n choices) (c .tally .rounds + 1) s round-counted last, turns-requests p (c .tally .rounds + 1) n (s .workers) s) e
 
     pub ends-queued : {hi : ℕ} {after last : List ℕ} → Queued hi (s .workers) after last → getD next 0 0 ≡ getD first 1 0
         → Queued hi (round (setting p n choices) s .workers) after last
+    unfolding countIn
     ends-queued e q =
         let turned = run-turns round-now n (le-refl n) in
         let last = ended-there turned planned (half .progressed) q in
@@ -152,6 +155,7 @@ module _ {p : Plan} {n : ℕ} {choices : List ℕ} {r : ℕ} {s : State} {c : Ac
 
     module _ (more : getD next 0 0 ≢ getD first 1 0) where
       pub round-lays : InRun p n choices (c .tally .rounds + 1) (s .workers) (laying 0) (turns p (c .tally .rounds + 1) n (s .workers) s)
+      unfolding countIn
       round-lays =
           let turned = run-turns round-now n (le-refl n) in
           run-at turned (goes-on (turned .trace) (ended-not turned planned (half .progressed) more))
@@ -161,6 +165,7 @@ module _ {p : Plan} {n : ℕ} {choices : List ℕ} {r : ℕ} {s : State} {c : Ac
           → Dequed (serves (setting p n choices) (c .tally .rounds + 1) n (lays (setting p n choices) (c .tally .rounds + 1) n (s .workers) (turns p (c .tally .rounds + 1) n (s .workers) s)) .deques)
           slots top′ len′
           → Machine p (round (setting p n choices) s) c″ seats″ rows next missing slots top′ len′
+      unfolding countIn
       round-serves crew deques =
           let turned = run-turns round-now n (le-refl n) in
           let (e, f) = second-still (setting p n choices) n (c .tally .rounds + 1) (s .workers) (turns p (c .tally .rounds + 1) n (s .workers) s) in
@@ -170,6 +175,7 @@ module _ {p : Plan} {n : ℕ} {choices : List ℕ} {r : ℕ} {s : State} {c : Ac
       pub serves-pointed : {k : ℕ}
           → Pointed choices (serves (setting p n choices) (c .tally .rounds + 1) n (lays (setting p n choices) (c .tally .rounds + 1) n (s .workers) (turns p (c .tally .rounds + 1) n (s .workers) s))) k
           → Pointed choices (round (setting p n choices) s) k
+      unfolding countIn
       serves-pointed e =
           let turned = run-turns round-now n (le-refl n) in
           rw (round-on (setting p n choices) (c .tally .rounds + 1) s round-counted (ended-not turned planned (half .progressed) more)) e
@@ -178,6 +184,7 @@ module _ {p : Plan} {n : ℕ} {choices : List ℕ} {r : ℕ} {s : State} {c : Ac
           → Queued hi (serves (setting p n choices) (c .tally .rounds + 1) n (lays (setting p n choices) (c .tally .rounds + 1) n (s .workers) (turns p (c .tally .rounds + 1) n (s .workers) s)) .workers)
           after last
           → Queued hi (round (setting p n choices) s .workers) after last
+      unfolding countIn
       serves-queued e =
           let turned = run-turns round-now n (le-refl n) in
           rw (round-on (setting p n choices) (c .tally .rounds + 1) s round-counted (ended-not turned planned (half .progressed) more)) e

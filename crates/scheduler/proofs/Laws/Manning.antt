@@ -10,7 +10,7 @@ use lib.ListN.{length, getD, set}
 use lib.Seq.{getD-set-same, getD-set-other}
 use Rattle.plan.specs.Plan.{Plan}
 use Rattle.scheduler.specs.declared.account.Account.{Account}
-use Rattle.runs.specs.Setting.{Setting}
+use Rattle.runs.specs.Setting.{Setting, countIn}
 use Rattle.runs.specs.declared.tally.Tally.{Tally}
 use Rattle.runs.specs.declared.worker.Worker.{Worker}
 use Rattle.runs.specs.declared.worker.Worker.the-variants.{Idle, Holding, Waiting}
@@ -118,6 +118,7 @@ module _ (p : Plan) (s : State) (c : Account) (seats : List ℕ) (sixteen : leng
 pub given-fits : {p : Plan} {n : ℕ} {choices : List ℕ} {r : ℕ} {b : List Worker} {s : State} {v w : ℕ} {c : Account} {seats slots top len : List ℕ}
     → Serving p n choices r b s v (suc w) c seats slots top len → (x : Worker) (top′ len′ : List ℕ)
     → Given (s .deques) v (dequeOf s v) x slots top′ len′ → Fitting x
+unfolding countIn
 given-fits {p} {n} {choices} {r} {b} {s} {v} {w} {c} {seats} {slots} g x top′ len′ q =
     rw (← g .picked, given-worker p s c seats (run-sound (g .run) .workers) (g .manned) w (served-below g) v x slots top′ len′ q) at
     (run-seats (run-at (g .run) (served (g .run .trace) (g .known))) w)

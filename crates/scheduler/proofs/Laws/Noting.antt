@@ -133,6 +133,7 @@ module _ {p : Plan} {n : ℕ} {choices : List ℕ} {r : ℕ} {b : List Worker} {
     (run : InRun p n choices r b (serving 0) s) where
   served-on : (j : ℕ) → suc j ≤ n → askedIn after₀ j ≡ false → ServedTo p (setting p n choices) r hi s a seats after₀ after last slots top len j
       → ServedTo p (setting p n choices) r hi s a seats after₀ after last slots top len (suc j)
+  unfolding countIn
   served-on j l none t =
       let first = first-oldest (run-serves run j (omega arith)) l (t .queued) in
       let e = serves-none (setting p n choices) r j s (sym first ∙ (t .kept j (omega arith) ∙ not-asked _ none)) in

@@ -8,7 +8,7 @@ use lib.ListN.{length, getD}
 use lib.Dec.{leb, ltb, leb→le, ltb→lt}
 use Rattle.plan.specs.Test.{all}
 use Rattle.plan.proofs.Laws.Lists.{both-left, both-right, all-at}
-use Rattle.runs.specs.Setting.{setting}
+use Rattle.runs.specs.Setting.{setting, countIn}
 use Rattle.runs.specs.Run.{choicesFit}
 use Rattle.plan.specs.Plan.{Plan}
 use Rattle.plan.proofs.Laws.Valid.{jobs-range}
@@ -32,6 +32,7 @@ module _ {p : Plan} {n : ℕ} {choices : List ℕ} {r : ℕ} {b : List Worker} {
   run-fit = record { plan = run .accepted; some = run .some; most = run .most }
 
   pub run-sound : Sound p n s
+  unfolding countIn
   run-sound = trace-sound (setting p n choices) run-fit (run .trace)
 
   pub run-counts : (r ≤ 2048) × (s .tally .rounds ≤ r) × (s .tally .actions ≤ 2048) × (s .tally .idle ≤ 32768)
@@ -40,6 +41,7 @@ module _ {p : Plan} {n : ℕ} {choices : List ℕ} {r : ℕ} {b : List Worker} {
 
   -- a worker that was idle as the round began can choose
   pub run-choices : (w : ℕ) → w < n → getD b w Idle ≡ Idle → 1 ≤ length choices
+  unfolding countIn
   run-choices w h e =
       laid-choices (setting p n choices) run-fit (run .fit) (run .trace) w h (rw e idle-unheld)
 
@@ -57,6 +59,7 @@ module _ {p : Plan} {n : ℕ} {choices : List ℕ} {r : ℕ} {b : List Worker} {
 
   -- the numbers of the workers tell them apart
   pub run-seats : Fits (s .workers)
+  unfolding countIn
   run-seats w = go (workerOf s w) refl
     where
       go : (x : Worker) → workerOf s w ≡ x → Fitting x
@@ -87,10 +90,13 @@ run-began {p} {n} {choices} run = go (run .trace)
 
 module _ {p : Plan} {n : ℕ} {choices : List ℕ} {r : ℕ} {b : List Worker} {s : State} where
   pub run-turns : InRun p n choices r b (turning 0) s → (k : ℕ) → k ≤ n → InRun p n choices r b (turning k) (turns p r k b s)
+  unfolding countIn
   run-turns run k h = run-at run (turns-trace (setting p n choices) (run .trace) k h)
 
   pub run-lays : InRun p n choices r b (laying 0) s → (k : ℕ) → k ≤ n → InRun p n choices r b (laying k) (lays (setting p n choices) r k b s)
+  unfolding countIn
   run-lays run k h = run-at run (lays-trace (setting p n choices) (run .trace) k h)
 
   pub run-serves : InRun p n choices r b (serving 0) s → (k : ℕ) → k ≤ n → InRun p n choices r b (serving k) (serves (setting p n choices) r k s)
+  unfolding countIn
   run-serves run k h = run-at run (serves-trace (setting p n choices) (run .trace) k h)

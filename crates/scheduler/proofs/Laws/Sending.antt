@@ -23,10 +23,10 @@ use Rattle.scheduler.specs.Machine.{missingTo, Progressed, Dequed, Actin
 use Rattle.scheduler.specs.TurnParts.{afterOf, aboveOf, Sending, Sent}
 use Rattle.lines.proofs.Laws.Turn.{Wakes}
 use Rattle.courses.proofs.Laws.PlanShape.{shape}
-use Rattle.scheduler.proofs.Laws.Running.{run-fit}
+use Rattle.scheduler.proofs.Laws.Running.{run-sound}
 use Rattle.scheduler.proofs.Laws.Missing.{missing-none, missing-no, missing-sent, missing-kept}
 use Rattle.courses.proofs.Laws.Course.{place-apart}
-use Rattle.runs.proofs.Laws.Sound.{Sound, trace-sound, held-job}
+use Rattle.runs.proofs.Laws.Sound.{Sound, held-job}
 use Rattle.runs.proofs.Laws.TurnSound.{acted, others, wakes-is, wakes-by, wakes-empty}
 
 module _ {p : Plan} {n : ℕ} {choices : List ℕ} {r : ℕ} {b : List Worker} {s : State} {k j w weighs : ℕ}
@@ -36,7 +36,7 @@ module _ {p : Plan} {n : ℕ} {choices : List ℕ} {r : ℕ} {b : List Worker} {
   ok = a .planned .accepted
 
   pub acting-sound : Sound p n s
-  acting-sound = trace-sound (setting p n choices) (run-fit (a .run)) (a .run .trace)
+  acting-sound = run-sound (a .run)
 
   pub acting-job : (j < length p) × (nextOf s j < size p j) × (1 ≤ j → spawnAt p j < nextOf s (parentOf p j))
   acting-job = held-job p ok n s acting-sound w j (a .holding)

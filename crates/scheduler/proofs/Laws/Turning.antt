@@ -15,7 +15,7 @@ use Rattle.plan.proofs.Laws.Valid.{jobs-range}
 use Rattle.plan.proofs.Laws.Placed.{place-below, first-at}
 use Rattle.scheduler.specs.declared.account.Account.{Account}
 use Rattle.scheduler.specs.declared.turn.Turned.{Turned}
-use Rattle.runs.specs.Setting.{setting}
+use Rattle.runs.specs.Setting.{setting, countIn}
 use Rattle.runs.specs.declared.tally.Tally.{Tally}
 use Rattle.runs.specs.declared.worker.Worker.{Worker}
 use Rattle.runs.specs.declared.worker.Worker.the-variants.{Idle, Holding, Waiting}
@@ -24,12 +24,12 @@ use Rattle.courses.specs.Row.{place}
 use Rattle.runs.specs.Turn.{turn, idled, turnOf, turns}
 use Rattle.runs.specs.Trace.{turning, Trace, turned}
 use Rattle.scheduler.specs.Machine.{InRun, codeOf, Fitting, Planned, Machine, Manned, Printed, Kept, Acting, Acted}
-use Rattle.runs.proofs.Laws.Sound.{trace-sound, trace-began, next-bound}
+use Rattle.runs.proofs.Laws.Sound.{trace-began, next-bound}
 use Rattle.courses.proofs.Laws.Course.{place-apart, Acts, acted}
 use Rattle.runs.proofs.Laws.Coursed.{core, turn-ends}
 use Rattle.runs.proofs.Laws.Whole.{counts-small, turns-trace}
 use Rattle.scheduler.proofs.Laws.Codes.{seated-set}
-use Rattle.scheduler.proofs.Laws.Running.{run-fit, run-seats, run-at}
+use Rattle.scheduler.proofs.Laws.Running.{run-sound, run-counts, run-seats, run-at}
 
 -- the bytes of a row, and those of others
 abbrev pub written : List ℕ → ℕ → ℕ → ℕ → List ℕ
@@ -101,7 +101,7 @@ pub record Ahead (p : Plan) (r w j : ℕ) (s : State) : Type 0 where
 module _ (p : Plan) (n : ℕ) (choices : List ℕ) (r w : ℕ) (b : List Worker) (s : State) (run : InRun p n choices r b (turning w) s) where
   pub turning-small : (r ≤ 2048) × (s .tally .actions ≤ 2048) × (s .tally .idle ≤ 32768)
   turning-small =
-      let q = counts-small (setting p n choices) (run-fit run) (run .trace) in (q .0, q .2, q .3)
+      let q = run-counts run in (q .0, q .2, q .3)
 
   -- what stands in the seat of a worker whose turn comes stood there as the round began
   pub turning-seat : {x : Worker} → w < n → workerOf s w ≡ x → getD b w Idle ≡ x
@@ -111,7 +111,7 @@ module _ (p : Plan) (n : ℕ) (choices : List ℕ) (r w : ℕ) (b : List Worker)
     pub turning-ahead : Ahead p r w j s
     turning-ahead =
         let ok = run .accepted in
-        let sound = trace-sound (setting p n choices) (run-fit run) (run .trace) in
+        let sound = run-sound run in
         let acts = turn-ends p ok n s sound r w j holding .acts in
         record {
           known = acts .known;
@@ -125,7 +125,7 @@ module _ (p : Plan) (n : ℕ) (choices : List ℕ) (r w : ℕ) (b : List Worker)
 
     -- what the worker is after its turn
     pub turning-fits : w < n → (x : Worker) → x ≡ workerOf (turn p r w j s) w → Fitting x
-    unfolding turnOf
+    unfolding turnOf countIn
     turning-fits below x e =
         let t : Trace (setting p n choices) r b (turning (suc w)) (turn p r w j s) = rw (turning-seat below holding) at (turned (run .trace) below) in
         rw e (run-seats (run-at run t) w)
@@ -195,14 +195,3 @@ module _ (p : Plan) (n : ℕ) (choices : List ℕ) (r w : ℕ) (b : List Worker)
     progressed = machine .progressed;
     dequed = machine .dequed;
   }
-
--- the states between the turns of a round
-pub turns-run : (p : Plan) (n : ℕ) (choices : List ℕ) (r : ℕ) (b : List Worker) (s : State) → InRun p n choices r b (turning 0) s → (k : ℕ) → k ≤ n
-    → InRun p n choices r b (turning k) (turns p r k b s)
-turns-run p n choices r b s run k h = record {
-  accepted = run .accepted;
-  some = run .some;
-  most = run .most;
-  fit = run .fit;
-  trace = turns-trace (setting p n choices) (run .trace) k h;
-}

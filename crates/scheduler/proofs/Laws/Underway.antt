@@ -10,7 +10,7 @@ use native.Mathlib.Omega.{arith}
 use Rattle.plan.specs.Plan.{Plan}
 use Rattle.plan_measure.specs.Measure.{work}
 use Rattle.plan_measure.proofs.Laws.Work.{work-range}
-use Rattle.runs.specs.Setting.{setting}
+use Rattle.runs.specs.Setting.{setting, countIn}
 use Rattle.runs.specs.State.{State, start}
 use Rattle.runs.specs.Turn.{turns}
 use Rattle.runs.specs.Run.{ended, round, rounds, run}
@@ -45,6 +45,7 @@ module _ (p : Plan) (n : ℕ) (choices : List ℕ) where
 
 module _ (p : Plan) (n : ℕ) (choices : List ℕ) (fit : Fit (setting p n choices)) where
   pub underway-round : (s : State) → Underway p n choices s → ended p s ≡ false → Rounded p n choices s
+  unfolding countIn
   underway-round s (over e q) f = absurd (let y : _≡_ {A = ℕ} 0 1 = cc in omega arith)
   underway-round s (begun r zero t q h) f = absurd (omega (arith, round-most (setting p n choices) fit t))
   underway-round s (begun r (suc k) t q h) f = go (ended p half) refl

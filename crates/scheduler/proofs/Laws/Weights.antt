@@ -24,8 +24,8 @@ use Rattle.lines.proofs.Laws.Shape.{Living, living?}
 use Rattle.lines.proofs.Laws.Sum.{sum, only, only-yes, only-no, sum-bound}
 use Rattle.lines.proofs.Laws.Weight.{held}
 use Rattle.courses.proofs.Laws.PlanShape.{shape, weight-held}
-use Rattle.runs.proofs.Laws.Sound.{Sound, trace-sound, held-job}
-use Rattle.scheduler.proofs.Laws.Running.{run-fit}
+use Rattle.runs.proofs.Laws.Sound.{Sound, held-job}
+use Rattle.scheduler.proofs.Laws.Running.{run-sound}
 
 -- no term of a sum changes
 sum-same : (n : ℕ) (f g : ℕ → ℕ) → ((k : ℕ) → k < n → g k ≡ f k) → sum n g ≡ sum n f
@@ -82,7 +82,7 @@ module _ (p : Plan) (ok : Accepted p) where
 module _ {p : Plan} {n : ℕ} {choices : List ℕ} {r : ℕ} {began : List Worker} {g : Stage} {s : State} (run : InRun p n choices r began g s)
     (w j : ℕ) (holding : workerOf s w ≡ Holding j) where
   sound : Sound p n s
-  sound = trace-sound (setting p n choices) (run-fit run) (run .trace)
+  sound = run-sound run
 
   known : (j < length p) × (nextOf s j < size p j) × (1 ≤ j → spawnAt p j < nextOf s (parent p j))
   known = held-job p (run .accepted) n s sound w j holding

@@ -11,7 +11,7 @@ use Rattle.runs.specs.State.{State}
 use Rattle.runs.specs.Trace.{turning}
 use Rattle.runs.specs.Turn.{turns}
 use Rattle.scheduler.specs.Machine.{InRun, Planned, Machine, Kept}
-use Rattle.scheduler.proofs.Laws.Turning.{turns-run}
+use Rattle.scheduler.proofs.Laws.Running.{run-turns}
 use Rattle.scheduler.proofs.round.turns.Statement.{statement}
 use Rattle.scheduler.proofs.round.turns.Tie as tie
 
@@ -34,7 +34,7 @@ turn-of-requires c κs =
     let o = c .before .before .before .before .before .before .before .before .before .before in
     let l = c .before .before .before .before .before .before .before .before .loop in
     let (p, choices, b, s, run, planned, machine) = o .pre in
-    (p, o .args .n, choices, b, turns p (o .args .round) (l .w) b s, turns-run p (o .args .n) choices (o .args .round) b s run (l .w) (l .inv .0), planned, l .inv .1 p choices b s run planned machine .0, c .before .before .before .before .before .before .before .loop-test .taken)
+    (p, o .args .n, choices, b, turns p (o .args .round) (l .w) b s, run-turns run (l .w) (l .inv .0), planned, l .inv .1 p choices b s run planned machine .0, c .before .before .before .before .before .before .before .loop-test .taken)
 
 add-w : tie.Need-add-w Inv-loop μ-loop
 add-w c = omega arith
@@ -52,7 +52,7 @@ loop-again c = (
       let (stands, kept) = l .inv .1 p choices b s run planned machine in
       let (stands′, kept′) =
       c .before .before .turn-of .ensures p (o .args .n) choices b (turns p (o .args .round) (l .w) b s)
-      (turns-run p (o .args .n) choices (o .args .round) b s run (l .w) (l .inv .0)) planned stands (c .before .before .before .before .before .before .before .before .before .before .loop-test .taken) in
+      (run-turns run (l .w) (l .inv .0)) planned stands (c .before .before .before .before .before .before .before .before .before .before .loop-test .taken) in
       (rw add-one stands′, (kept′ .0 ∙ kept .0, kept′ .1 ∙ kept .1)),
 )
 

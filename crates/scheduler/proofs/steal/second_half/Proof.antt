@@ -1,6 +1,7 @@
 -- `steal::second_half` meets its contract: requests leave the deques, and services lay none. Assumes nothing.
 use native.Mathlib.Nat.{le-refl}
 use native.Mathlib.Omega.{arith}
+use Rattle.runs.specs.Setting.{countIn}
 use Rattle.runs.specs.Trace.{all-laid}
 use Rattle.scheduler.proofs.Laws.Running.{run-at, run-lays}
 use Rattle.scheduler.proofs.Laws.Queues.{queued-later}
@@ -13,6 +14,7 @@ lays-requires c κs =
     let (p, b, s, run, manned, seated, pointed, queued, dequed) = c .before .before .before .before .before .pre in (p, b, s, run, manned, seated, pointed, queued)
 
 serves-requires : tie.Need-serves-requires
+unfolding countIn
 serves-requires c κs =
     let (p, b, s, run, manned, seated, pointed, queued, dequed) = c .before .before .before .before .before .before .before .before .before .before .before .pre in
     let all = run-lays run _ (le-refl _) in
@@ -20,6 +22,7 @@ serves-requires c κs =
     (p, _, _, b, _, _, run-at all (all-laid (all .trace)), m, q, rw lays-deques dequed)
 
 returns : tie.Need-returns
+unfolding countIn
 returns c =
     λ p b s run manned seated pointed queued dequed.
     let all = run-lays run _ (le-refl _) in

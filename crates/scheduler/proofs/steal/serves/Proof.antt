@@ -7,7 +7,7 @@ use native.Mathlib.Numerals.{add-one}
 use native.Mathlib.Omega.{arith}
 use borrow.Author.Needs.{needs}
 use Rattle.plan.specs.Plan.{Plan}
-use Rattle.runs.specs.Setting.{setting}
+use Rattle.runs.specs.Setting.{setting, countIn}
 use Rattle.runs.specs.declared.worker.Worker.{Worker}
 use Rattle.runs.specs.State.{State}
 use Rattle.runs.specs.Steal.{serves}
@@ -57,6 +57,7 @@ loop-less : tie.Need-loop-less Inv-loop μ-loop
 loop-less c = omega arith
 
 loop-again : tie.Need-loop-again Inv-loop μ-loop
+unfolding countIn
 loop-again c =
     let l = c .before .before .before .before .before .before .before .before .loop in
     let v = c .before .before .before .before .before .before .wide8 in
