@@ -9,6 +9,7 @@ use Rattle.plan.specs.Plan.{Plan}
 use Rattle.plan.specs.Flat.{FlatPlan}
 use Rattle.plan.specs.Reader.{readPlan}
 use Rattle.plan_measure.specs.declared.Measures.{Measures}
+use Rattle.plan_measure.proofs.Laws.Work.{work-total}
 use Rattle.plan_measure.specs.Measure.{measured, measures, longest, heaviest}
 use Rattle.plan_measure.specs.Times.{MeasureGiven}
 use Rattle.plan.proofs.Laws.Valid.{total-range}
@@ -31,7 +32,7 @@ module _ (p : Plan) (jobs actions : ℕ) (frame first spawn join parent : List �
   pub measured-by : (length path : ℕ) → length ≡ longest p → path ≡ heaviest p
       → accepted (record { actions = actions; longest = length; path = path }) ≡ measured (accepted p)
   unfolding measured
-  measured-by length path e h = λ i. accepted (record { actions = g .all i; longest = e i; path = h i })
+  measured-by length path e h = λ i. accepted (record { actions = (g .all ∙ sym (work-total p)) i; longest = e i; path = h i })
 
 module _ (s : List ℕ) where
   pub measures-read : (p : Plan) (m : Outcome Measures) → readPlan s ≡ accepted p → m ≡ measured (accepted p) → m ≡ measures s

@@ -1,4 +1,4 @@
--- T1: today each action counts one, so it is the number of actions, which `total` gives.
+-- T1: each action counts one, so it is the number of actions, which `total` gives.
 use Prim.Native.Nat.{_≤_}
 use mathlib.Core.Path.{_≡_, refl}
 use native.Mathlib.Omega.{arith}
