@@ -7,7 +7,7 @@ use Prim.Native.Nat.{ℕ, zero, suc, _+_, _≤_, _<_}
 use native.Mathlib.Omega.{arith}
 use native.Mathlib.Decide.{ℕ-discrete, decLe}
 use Rattle.lines.proofs.Laws.Bounded.{find}
-use Rattle.lines.proofs.Laws.Shape.{Shape, Valid, Living, living?, Heir, Leaves}
+use Rattle.lines.proofs.Laws.Shape.{Shape, Valid, Living, living?, Heir, Lone, Leaves}
 
 module _ (P : Shape) where
   open Shape P using (jobs, parent)
@@ -32,7 +32,7 @@ module _ (P : Shape) where
     cover-below zero x e l = absurd (omega (arith, l .below))
     cover-below (suc d) x e l = go (cover-below d) (find (Heir P next x) (heir? x) jobs)
       where
-        go : ((k : ℕ) → jobs ≤ k + d → Living P next k → Covered k) → ((k : ℕ) × (k < jobs) × Heir P next x k) ⊎ ((k : ℕ) → k < jobs → ¬ Heir P next x k) → Covered x
+        go : ((k : ℕ) → jobs ≤ k + d → Living P next k → Covered k) → ((k : ℕ) × (k < jobs) × Heir P next x k) ⊎ Lone P next x → Covered x
         go rec (inl (k, b, (o, (p, v)))) =
             let (w, h, r, e, a) = rec k (omega (arith, ok .older k o b)) v in
             (w, h, r, e, above-parent o p a)

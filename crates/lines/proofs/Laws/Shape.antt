@@ -19,6 +19,10 @@ pub record Shape : Type 0 where
   pub child : ℕ → ℕ → ℕ
   pub join : ℕ → ℕ → ℕ
 
+-- x is the first of a line
+abbrev pub Leads : (ℕ → List ℕ) → ℕ → Type 0
+Leads line x = (w : ℕ) × (l : List ℕ) × (line w ≡ x ∷ l)
+
 module _ (P : Shape) where
   open Shape P using (jobs, len, parent, spawnAt, child, join)
 
@@ -73,10 +77,14 @@ module _ (P : Shape) where
   abbrev pub Heir : (ℕ → ℕ) → ℕ → ℕ → Type 0
   Heir next x k = (1 ≤ k) × ((parent k ≡ x) × Living next k)
 
+  -- no child of x lives
+  abbrev pub Lone : (ℕ → ℕ) → ℕ → Type 0
+  Lone next x = (k : ℕ) → k < jobs → ¬ Heir next x k
+
   -- every living job that has no living child is the first of a line; a line may be whatever has a first job
   pub record Leaves (next : ℕ → ℕ) (line : ℕ → List ℕ) : Type 0 where
     pub known : (w x : ℕ) (l : List ℕ) → line w ≡ x ∷ l → x < jobs
-    pub leaf : (x : ℕ) → Living next x → ((k : ℕ) → k < jobs → ¬ Heir next x k) → (w : ℕ) × (l : List ℕ) × (line w ≡ x ∷ l)
+    pub leaf : (x : ℕ) → Living next x → Lone next x → Leads line x
 
   -- `line w` is the job that worker w holds, and then its deque from the bottom up
   pub record Good (next : ℕ → ℕ) (line : ℕ → List ℕ) : Type 0 where
