@@ -19,7 +19,7 @@ use Rattle.courses.specs.Row.{Row}
 use Rattle.lines.proofs.Laws.Shape.{Living, Ready, Closed}
 use Rattle.lines.proofs.Laws.Start.{none-closed}
 use Rattle.lines.proofs.Laws.Progress
-use Rattle.lines.proofs.Laws.Turn.{acted-closed, stays}
+use Rattle.lines.proofs.Laws.Act.{Act, acted-closed, stays}
 use Rattle.courses.proofs.Laws.PlanShape.{shape, shape-valid}
 use Rattle.courses.proofs.Laws.Course.{Core, nextIn, spentIn, rowIn, Terms, Begins, Hands, Works, Ends, New, Old, acted, acts-new, acts-kept, Course, begins, next-round, rests, works, ends}
 
@@ -31,10 +31,6 @@ pub record Done (n r k : ℕ) (a : Row) : Type 0 where
 
 pub done-on : {n r k k′ : ℕ} {a : Row} → k ≤ k′ → Done n r k a → Done n r k′ a
 done-on l d = record { first = d .first; known = d .known; latest = d .latest; turn = λ z. omega (arith, d .turn z) }
-
--- what was done before a round has begun is of an earlier round
-pub done-past : {n r : ℕ} {a : Row} → Done n r 0 a → a .round < r
-done-past {r = r} {a = a} d = by-cases (ℕ-discrete (a .round) r) (λ e. absurd (not-suc-le-zero (d .turn e))) (λ f. omega (arith, d .latest))
 
 module _ (e : Terms) where
   open Terms e using (plan, cost, workers)
@@ -64,9 +60,13 @@ module _ (e : Terms) where
     pub begun : (j : ℕ) → 1 ≤ spentIn c j → Free (suc r) c j
     pub unpaid : (j : ℕ) → 1 ≤ spentIn c j → (nextIn c j < size plan j) × (spentIn c j < cost (act plan j (nextIn c j)))
 
+  -- another worker has another job
+  pub other : {r k j : ℕ} {b : ℕ → ℕ} {c : Core} → Kept r k b c → b k ≡ suc j → (w x : ℕ) → w ≢ k → b w ≡ suc x → x ≢ j
+  other {k = k} {j = j} o mine w x f q z = f (o .once w k j (q ∙ ap suc z) mine)
+
   module _ (ok : Accepted plan) where
-    free-ready : (r : ℕ) (c : Core) (j : ℕ) → Free r c j → Ready (shape plan) (nextIn c) j
-    free-ready r c j f h b m l q i = f .after h m b l (joined (join-target plan ok h m (nextIn c j) b l i .0) q i) .0
+    free-ready : {r : ℕ} {c : Core} {j : ℕ} → Free r c j → Ready (shape plan) (nextIn c) j
+    free-ready {c = c} {j = j} f h b m l q i = f .after h m b l (joined (join-target plan ok h m (nextIn c j) b l i .0) q i) .0
 
     -- all that a ready job must follow is done
     ready-done : (c : Core) (j : ℕ) → Living (shape plan) (nextIn c) j → Ready (shape plan) (nextIn c) j
@@ -77,8 +77,8 @@ module _ (e : Terms) where
         omega (arith, a .begun o, ap (nextIn c) (s .2), s .3)
     ready-done c j a r h m b l (joined o q i) = r h b m l q i
 
-    start-kept : (b : ℕ → ℕ) (c : Core) → ((w : ℕ) → b w ≡ 0) → Begins plan c → Kept 0 0 b c
-    start-kept b c idle s = record {
+    start-kept : {b : ℕ → ℕ} {c : Core} → ((w : ℕ) → b w ≡ 0) → Begins plan c → Kept 0 0 b c
+    start-kept {c = c} idle s = record {
       first = λ w j q. absurd (omega (arith, idle w));
       known = λ w j q. absurd (omega (arith, idle w));
       once = λ v w j q i. absurd (omega (arith, idle w));
@@ -93,8 +93,8 @@ module _ (e : Terms) where
       unpaid = λ j l. absurd (omega (arith, s .fresh j));
     }
 
-    next-kept : (r k : ℕ) (b b′ : ℕ → ℕ) (c : Core) → Kept r k b c → Hands e k b b′ c → Kept (suc r) 0 b′ c
-    next-kept r k b b′ c o s = record {
+    next-kept : {r k : ℕ} {b b′ : ℕ → ℕ} {c : Core} → Kept r k b c → Hands e k b b′ c → Kept (suc r) 0 b′ c
+    next-kept {r} {k} {b} {b′} {c} o s = record {
       first = λ w j q. omega arith;
       known = s .known;
       once = s .once;
@@ -121,8 +121,8 @@ module _ (e : Terms) where
               (d, omega (arith, o .done h m l d .latest));
         }
 
-    rests-kept : (r k : ℕ) (b : ℕ → ℕ) (c : Core) → Kept r k b c → Kept r (suc k) b c
-    rests-kept r k b c o = record {
+    rests-kept : {r k : ℕ} {b : ℕ → ℕ} {c : Core} → Kept r k b c → Kept r (suc k) b c
+    rests-kept o = record {
       first = o .first;
       known = o .known;
       once = o .once;
@@ -137,11 +137,7 @@ module _ (e : Terms) where
       unpaid = o .unpaid;
     }
 
-    -- another worker has another job
-    other : (r k j : ℕ) (b : ℕ → ℕ) (c : Core) → Kept r k b c → b k ≡ suc j → (w x : ℕ) → k < w → b w ≡ suc x → x ≢ j
-    other r k j b c o q w x l i z = omega (arith, o .once k w j q (i ∙ ap suc z))
-
-    module _ (r k j : ℕ) (b : ℕ → ℕ) (c c′ : Core) (o : Kept r k b c) (mine : b k ≡ suc j)
+    module _ {r k j : ℕ} {b : ℕ → ℕ} {c c′ : Core} (o : Kept r k b c) (mine : b k ≡ suc j)
         (left : suc (spentIn c j) < cost (act plan j (nextIn c j))) (s : Works plan j c c′) where
       free-on : (x y : ℕ) → x ≢ j → Free y c x → Free y c′ x
       free-on x y z f = record {
@@ -160,7 +156,7 @@ module _ (e : Terms) where
         worth = rw (s .next, s .rows) (o .worth);
         later = rw (s .next, s .rows) (o .later);
         lives = λ w x l q. rw (s .next) (o .lives w x (omega arith) q);
-        free = λ w x l q. free-on x r (other r k j b c o mine w x l q) (o .free w x (omega arith) q);
+        free = λ w x l q. free-on x r (other o mine w x (λ z. omega arith) q) (o .free w x (omega arith) q);
         begun = λ x l. by-cases (ℕ-discrete x j) (λ z. rw z spent) (λ z. free-on x (suc r) z (o .begun x (omega (arith, s .others x z))));
         unpaid = λ x l. rw (s .next) (by-cases (ℕ-discrete x j) (λ z. rw z (o .lives k j (omega arith) mine .left, omega (arith, s .spends)))
             (λ z. rw (s .others x z) (o .unpaid x (omega (arith, s .others x z)))));
@@ -176,7 +172,7 @@ module _ (e : Terms) where
                     rw (s .next, s .rows, s .spends) (x .0, omega (arith, x .1));
               }
 
-    module _ (r k j : ℕ) (b : ℕ → ℕ) (c c′ : Core) (o : Kept r k b c) (mine : b k ≡ suc j)
+    module _ {r k j : ℕ} {b : ℕ → ℕ} {c c′ : Core} (o : Kept r k b c) (mine : b k ≡ suc j)
         (paid : suc (spentIn c j) ≡ cost (act plan j (nextIn c j))) (s : Ends plan r k j c c′) where
       me : Free r c j
       me = o .free k j (omega arith) mine
@@ -184,49 +180,48 @@ module _ (e : Terms) where
       bounded : (h : ℕ) → h < length plan → nextIn c h ≤ size plan h
       bounded = o .closed .bound
 
-      after-turn : (h i : ℕ) → h < length plan → i < nextIn c′ h
-          → New plan r k j c c′ (s .acts) bounded h i ⊎ Old plan r k j c c′ (s .acts) bounded h i
-      after-turn = acted plan r k j c c′ (s .acts) bounded
-
-      new-row : (h i : ℕ) → New plan r k j c c′ (s .acts) bounded h i → rowIn plan c′ h i ≡ record { round = r; worker = k }
-      new-row = acts-new plan r k j c c′ (s .acts) bounded
-
-      old-row : (h i : ℕ) → h < length plan → i < nextIn c h → (i < nextIn c′ h) × (rowIn plan c′ h i ≡ rowIn plan c h i)
-      old-row = acts-kept plan r k j c c′ (s .acts) bounded
+      action : Act (shape plan) (nextIn c) (nextIn c′) j
+      action = record {
+        closed = o .closed;
+        lives = o .lives k j (omega arith) mine;
+        ready = free-ready me;
+        acts = s .acts .acts;
+        others = s .acts .rests;
+      }
 
       free-after : (x y : ℕ) → x ≢ j → Free y c x → Free y c′ x
       free-after x y z f = record {
         early = omega (arith, s .others x z, f .early);
         after = λ h m l i g.
             let d = f .after h m l i (rw (s .acts .rests x z) at g) in
-            let q = old-row h m l (d .0) in
+            let q = acts-kept (s .acts) bounded h m l (d .0) in
             (q .0, rw (q .1, s .others x z) (d .1));
       }
 
       ends-done : (h i : ℕ) → h < length plan → i < nextIn c′ h → Done workers r (suc k) (rowIn plan c′ h i)
       ends-done h i l d =
           ⊎-elim
-          (λ q. rw (new-row h i q) (record { first = o .first k j mine; known = o .known k j mine; latest = omega arith; turn = λ z. omega arith }))
-          (λ q. rw (q .1) (done-on (omega arith) (o .done h i l (q .0)))) (after-turn h i l d)
+          (λ q. rw (acts-new (s .acts) h i q) (record { first = o .first k j mine; known = o .known k j mine; latest = omega arith; turn = λ z. omega arith }))
+          (λ q. rw (q .1) (done-on (omega arith) (o .done h i l (q .0)))) (acted (s .acts) bounded h i l d)
 
       ends-worth : (h i : ℕ) → h < length plan → i < nextIn c′ h
           → (1 ≤ cost (act plan h i)) × (cost (act plan h i) ≤ rowIn plan c′ h i .round)
       ends-worth h i l d =
-          ⊎-elim (λ q. rw (new-row h i q, q .0, q .1) (omega (arith, me .early), omega (arith, me .early))) (λ q. rw (q .1) (o .worth h i l (q .0))) (after-turn h i l d)
+          ⊎-elim (λ q. rw (acts-new (s .acts) h i q, q .0, q .1) (omega (arith, me .early), omega (arith, me .early))) (λ q. rw (q .1) (o .worth h i l (q .0))) (acted (s .acts) bounded h i l d)
 
       ends-later : (x i h m : ℕ) → x < length plan → i < nextIn c′ x → h < length plan → m < size plan h → Follows plan (act plan x i) (act plan h m)
           → (m < nextIn c′ h) × (rowIn plan c′ h m .round + cost (act plan x i) ≤ rowIn plan c′ x i .round)
-      ends-later x i h m l d z y f = go (after-turn x i l d)
+      ends-later x i h m l d z y f = go (acted (s .acts) bounded x i l d)
         where
-          go : New plan r k j c c′ (s .acts) bounded x i ⊎ Old plan r k j c c′ (s .acts) bounded x i
+          go : New j c x i ⊎ Old plan c c′ x i
               → (m < nextIn c′ h) × (rowIn plan c′ h m .round + cost (act plan x i) ≤ rowIn plan c′ x i .round)
           go (inl u) =
               let t = me .after h m z y (rw (u .0, u .1) at f) in
-              let q = old-row h m z (t .0) in
-              (q .0, rw (new-row x i u, q .1, u .0, u .1) (omega (arith, t .1)))
+              let q = acts-kept (s .acts) bounded h m z (t .0) in
+              (q .0, rw (acts-new (s .acts) x i u, q .1, u .0, u .1) (omega (arith, t .1)))
           go (inr u) =
               let t = o .later x i h m l (u .0) z y f in
-              let q = old-row h m z (t .0) in
+              let q = acts-kept (s .acts) bounded h m z (t .0) in
               (q .0, rw (q .1, u .1) (t .1))
 
       ends-kept : Kept r (suc k) b c′
@@ -235,15 +230,12 @@ module _ (e : Terms) where
         known = o .known;
         once = o .once;
         long = s .long ∙ o .long;
-        closed = acted-closed (shape plan) (shape-valid plan ok) (nextIn c) (o .closed) j (o .lives k j (omega arith) mine) (free-ready r c j me)
-            (nextIn c′) (s .acts .acts) (s .acts .rests);
+        closed = acted-closed action;
         done = ends-done;
         worth = ends-worth;
         later = ends-later;
-        lives = λ w x l q.
-            stays (shape plan) (shape-valid plan ok) (nextIn c) (o .closed) j (o .lives k j (omega arith) mine) (free-ready r c j me)
-            (nextIn c′) (s .acts .acts) (s .acts .rests) x (other r k j b c o mine w x l q) (o .lives w x (omega arith) q);
-        free = λ w x l q. free-after x r (other r k j b c o mine w x l q) (o .free w x (omega arith) q);
+        lives = λ w x l q. stays action x (other o mine w x (λ z. omega arith) q) (o .lives w x (omega arith) q);
+        free = λ w x l q. free-after x r (other o mine w x (λ z. omega arith) q) (o .free w x (omega arith) q);
         begun = λ x l.
             let z : x ≢ j = λ q. omega (arith, ap (spentIn c′) q, s .fresh) in
             free-after x (suc r) z (o .begun x (omega (arith, s .others x z)));
@@ -253,11 +245,11 @@ module _ (e : Terms) where
       }
 
     pub course-kept : {r m k : ℕ} {b : ℕ → ℕ} {c : Core} → Course e r m k b c → Kept r k b c
-    course-kept (begins {b} {c} idle s h) = start-kept b c idle s
-    course-kept (next-round {r} {m} {m′} {k} {b} {b′} {c} t s h) = next-kept r k b b′ c (course-kept t) s
-    course-kept (rests {r} {m} {k} {b} {c} t q) = rests-kept r k b c (course-kept t)
-    course-kept (works {r} {m} {k} {j} {b} {c} {c′} t mine h s) = works-kept r k j b c c′ (course-kept t) mine h s
-    course-kept (ends {r} {m} {k} {j} {b} {c} {c′} t mine h s l) = ends-kept r k j b c c′ (course-kept t) mine h s
+    course-kept (begins idle s h) = start-kept idle s
+    course-kept (next-round t s h) = next-kept (course-kept t) s
+    course-kept (rests t q) = rests-kept (course-kept t)
+    course-kept (works t mine h s) = works-kept (course-kept t) mine h s
+    course-kept (ends t mine h s l) = ends-kept (course-kept t) mine h s
 
     pub course-bound : {r m k : ℕ} {b : ℕ → ℕ} {c : Core} → Course e r m k b c → (j : ℕ) → j < length plan → nextIn c j ≤ size plan j
     course-bound t = course-kept t .closed .bound
@@ -284,7 +276,7 @@ module _ (e : Terms) where
 
         go : Dec (size plan 0 ≤ nextIn c 0) → (size plan 0 ≤ nextIn c 0 → rowIn plan c 0 (size plan 0 - 1) .round ≡ r)
             → rowIn plan c′ 0 (size plan 0 - 1) .round ≡ r
-        go (yes x) rec = rw (acts-kept plan r k j c c′ (s .acts) (course-bound t) 0 (size plan 0 - 1) z (omega (arith, size-range plan ok 0 z)) .1) (rec x)
+        go (yes x) rec = rw (acts-kept (s .acts) (course-bound t) 0 (size plan 0 - 1) z (omega (arith, size-range plan ok 0 z)) .1) (rec x)
         go (no x) rec =
-            ⊎-elim (λ q. rw (acts-new plan r k j c c′ (s .acts) (course-bound t) 0 (size plan 0 - 1) q) refl) (λ q. absurd (omega (arith, q .0, size-range plan ok 0 z)))
-            (acted plan r k j c c′ (s .acts) (course-bound t) 0 (size plan 0 - 1) z last)
+            ⊎-elim (λ q. rw (acts-new (s .acts) 0 (size plan 0 - 1) q) refl) (λ q. absurd (omega (arith, q .0, size-range plan ok 0 z)))
+            (acted (s .acts) (course-bound t) 0 (size plan 0 - 1) z last)

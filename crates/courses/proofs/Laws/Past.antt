@@ -80,8 +80,8 @@ module _ (e : Terms) where
     pub when : Moment plan c row
 
   -- a turn that finishes no action keeps the past
-  works-past : (j : ℕ) (c c′ : Core) → Works plan j c c′ → (r w : ℕ) (l : List ℕ) → Past c r w l → Past c′ r w l
-  works-past j c c′ s r w l past = record {
+  works-past : {j : ℕ} {c c′ : Core} → Works plan j c c′ → {r w : ℕ} {l : List ℕ} → Past c r w l → Past c′ r w l
+  works-past s past = record {
     closed = past .closed;
     within = past .within;
     light = rw (s .peak) (past .light);
@@ -89,17 +89,17 @@ module _ (e : Terms) where
     every = rw (s .next, s .rows) (past .every);
   }
 
-  works-peaked : (j : ℕ) (c c′ : Core) → Works plan j c c′ → Peaked c → Peaked c′
-  works-peaked j c c′ s m = record {
+  works-peaked : {j : ℕ} {c c′ : Core} → Works plan j c c′ → Peaked c → Peaked c′
+  works-peaked s m = record {
     row = m .row;
     counts = m .counts;
-    past = works-past j c c′ s (m .row .round) (m .row .worker) (m .counts) (m .past);
+    past = works-past s (m .past);
     reached = m .reached ∙ sym (s .peak);
     when = rw (s .next, s .rows) (m .when);
   }
 
   module _ (ok : Accepted plan) (grows : (r r′ : ℕ) → r ≤ r′ → bound r ≤ bound r′) where
-    module _ (r k j : ℕ) (b : ℕ → ℕ) (c c′ : Core) (o : Kept e r k b c) (o′ : Kept e r (suc k) b c′) (first : 1 ≤ r)
+    module _ {r k j : ℕ} {b : ℕ → ℕ} {c c′ : Core} (o : Kept e r k b c) (mine : b k ≡ suc j) (o′ : Kept e r (suc k) b c′)
         (s : Ends plan r k j c c′) (light : weight plan (c′ .next) ≤ bound r) where
       abbrev here : Row
       here = record { round = r; worker = k }
@@ -112,11 +112,11 @@ module _ (e : Terms) where
         light = omega (arith, past .light, s .peak);
         done = λ h i z d.
             let x = past .done h i z d in
-            let q = acts-kept plan r k j c c′ (s .acts) (o .closed .bound) h i z (x .0) in
+            let q = acts-kept (s .acts) (o .closed .bound) h i z (x .0) in
             (q .0, rw (q .1) (x .1));
         every = λ h i z d q.
             ⊎-elim (λ u. absurd (later (rw (u .0, u .1, s .acts .writes) at q))) (λ u. past .every h i z (u .0) (rw (u .1) at q))
-            (acted plan r k j c c′ (s .acts) (o .closed .bound) h i z d);
+            (acted (s .acts) (o .closed .bound) h i z d);
       }
 
       -- what is done after it, for the turn itself and later ones
@@ -137,7 +137,7 @@ module _ (e : Terms) where
       ends-peaked m = go (decLe (weight plan (c′ .next)) (c .peak))
         where
           later : Moment plan c (m .row) → T (notAfter here (m .row .round) (m .row .worker)) → ⊥
-          later (inl q) x = omega (arith, ap (λ z. z .round) q, by-then here (m .row .round) (m .row .worker) x .0)
+          later (inl q) x = omega (arith, o .first k j mine, ap (λ z. z .round) q, by-then here (m .row .round) (m .row .worker) x .0)
           later (inr q) x =
               row-before workers r k (m .row .round) (m .row .worker) (rowIn plan c (q .0) (q .1)) (o .done (q .0) (q .1) (q .2) (q .3))
               (ap (λ z. z .round) (q .4)) (ap (λ z. z .worker) (q .4)) x
@@ -145,7 +145,7 @@ module _ (e : Terms) where
           old : Moment plan c (m .row) → Moment plan c′ (m .row)
           old (inl q) = inl q
           old (inr q) =
-              let d = acts-kept plan r k j c c′ (s .acts) (o .closed .bound) (q .0) (q .1) (q .2) (q .3) in
+              let d = acts-kept (s .acts) (o .closed .bound) (q .0) (q .1) (q .2) (q .3) in
               inr (q .0, q .1, q .2, d .0, d .1 ∙ q .4)
 
           go : Dec (weight plan (c′ .next) ≤ c .peak) → Peaked c′
@@ -178,16 +178,20 @@ module _ (e : Terms) where
     history (begins {b} {c} idle s h) r′ w′ = (c .next, start-past c s h r′ w′)
     history (next-round t s h) r′ w′ = history t r′ w′
     history (rests t q) r′ w′ = history t r′ w′
-    history (works {c = c} {c′ = c′} t mine h s) r′ w′ = let (l, past) = history t r′ w′ in (l, works-past _ c c′ s r′ w′ l past)
-    history (ends {r} {m} {k} {j} {b} {c} {c′} t mine h s l) r′ w′ =
-        ends-history r k j b c c′ (course-kept e ok t) (course-kept e ok (ends t mine h s l)) (course-kept e ok t .first k j mine) s l r′ w′ (history t r′ w′)
+    history (works t mine h s) r′ w′ = let (l, past) = history t r′ w′ in (l, works-past s past)
+    history (ends t mine h s l) r′ w′ =
+        ends-history (course-kept e ok t) mine (course-kept e ok (ends t mine h s l)) s l r′ w′ (history t r′ w′)
 
     -- the peak of every core was reached
     pub peaked : {r m k : ℕ} {b : ℕ → ℕ} {c : Core} → Course e r m k b c → Peaked c
-    peaked (begins {b} {c} idle s h) =
-        record { row = noRow; counts = c .next; past = start-past c s h 0 0; reached = none-weight plan ok (c .next) (s .none) ∙ sym (s .peak); when = inl refl }
+    peaked (begins {b} {c} idle s h) = record {
+      row = noRow;
+      counts = c .next;
+      past = start-past c s h 0 0;
+      reached = none-weight plan ok (c .next) (s .none) ∙ sym (s .peak);
+      when = inl refl;
+    }
     peaked (next-round t s h) = peaked t
     peaked (rests t q) = peaked t
-    peaked (works {c = c} {c′ = c′} t mine h s) = works-peaked _ c c′ s (peaked t)
-    peaked (ends {r} {m} {k} {j} {b} {c} {c′} t mine h s l) =
-        ends-peaked r k j b c c′ (course-kept e ok t) (course-kept e ok (ends t mine h s l)) (course-kept e ok t .first k j mine) s l (peaked t)
+    peaked (works t mine h s) = works-peaked s (peaked t)
+    peaked (ends t mine h s l) = ends-peaked (course-kept e ok t) mine (course-kept e ok (ends t mine h s l)) s l (peaked t)
