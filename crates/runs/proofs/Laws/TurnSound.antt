@@ -1,6 +1,5 @@
 -- A turn keeps a state sound: the worker's line becomes the one that the theory of lines gives it, and no other changes.
 --   seatOf p s w j == worker w and its deque after that action
--- Assumes nothing.
 use Prim.Native.Nat.{ℕ, zero, suc, _≤_, _<_}
 use mathlib.Core.Path.{_≡_, refl, ap, sym, _∙_}
 use mathlib.Core.Logic.{inl, inr, _≢_, by-cases}
@@ -21,7 +20,8 @@ use Rattle.runs.specs.Turn.{wakes, woken, Seat, takeBottom, seatAfter, t
 pub use Rattle.runs.specs.Parts.{afterOf, aboveOf}
 use Rattle.lines.proofs.Laws.Shape.{Living, Ready, Chain}
 use Rattle.lines.proofs.Laws.Member.{put}
-use Rattle.lines.proofs.Laws.Turn.{Goes, goes?, Wakes, wakes?, wakes-iff, turnLine, turn-spawn, turn-none, turn-good}
+use Rattle.lines.proofs.Laws.Act.{Goes, goes?, Wakes, wakes?, Act, wakes-iff, stalled}
+use Rattle.lines.proofs.Laws.Turn.{turnLine, turn-spawn, turn-none, turn-good}
 use Rattle.plan.proofs.Laws.Lists.{both-intro, both-left, both-right}
 use Rattle.plan.specs.Rules.{Accepted}
 use Rattle.plan.proofs.Laws.Valid.{older, join-target}
@@ -99,6 +99,9 @@ module _ (p : Plan) (ok : Accepted p) (n : ℕ) (most : n ≤ 16) (s : State) (s
   pub others : (k : ℕ) → k ≢ j → next′ k ≡ nextOf s k
   others k f = getD-set-other (s .next) j k (suc (nextOf s j)) 0 f
 
+  action-of : Act (shape p) (nextOf s) next′ j
+  action-of = record { closed = sound .good .closed; lives = me .0; ready = me .1; acts = acted; others = others }
+
   is : lineOf s w ≡ j ∷ dequeOf s w
   is = line-of s w (Holding j) holds
 
@@ -122,7 +125,7 @@ module _ (p : Plan) (ok : Accepted p) (n : ℕ) (most : n ≤ 16) (s : State) (s
       go (suc x) e t =
           let o = join-target p ok j (nextOf s j) x (me .0 .below) (me .0 .left) e .0 in
           let b = parent-begun o in
-          wakes-iff (shape p) (shape-valid p ok) (nextOf s) (sound .good .closed) j (me .0) (me .1) next′ acted others o .1 (
+          wakes-iff action-of (shape-valid p ok) o .1 (
             λ r. T-not before (both-left (not before) _ t) (ready-by p (s .next) ok (parent p j) r (λ z. absurd (omega arith))),
             ready-is p (afterOf s j) ok (parent p j) (both-right (not before) _ t),
           )
@@ -132,7 +135,7 @@ module _ (p : Plan) (ok : Accepted p) (n : ℕ) (most : n ≤ 16) (s : State) (s
   wakes-by k =
       let o = join-target p ok j (nextOf s j) (nextOf s (parent p j)) (me .0 .below) (me .0 .left) (k .sends) .0 in
       let b = parent-begun o in
-      let t = wakes-iff (shape p) (shape-valid p ok) (nextOf s) (sound .good .closed) j (me .0) (me .1) next′ acted others o .0 k in
+      let t = wakes-iff action-of (shape-valid p ok) o .0 k in
       let before = ready p (s .next) (parent p j) in
       rw (wakes, k .sends) (both-intro (not before) _ (not-T before (λ x. t .0 (ready-is p (s .next) ok (parent p j) x)))
       (ready-by p (afterOf s j) ok (parent p j) (t .1) (λ z. absurd (omega arith))))
@@ -144,11 +147,8 @@ module _ (p : Plan) (ok : Accepted p) (n : ℕ) (most : n ≤ 16) (s : State) (s
       go : (d : List ℕ) → dequeOf s w ≡ d → dequeOf s w ≡ []
       go [] e = e
       go (y ∷ d) e =
-          let k = wakes-is t in
-          let o = join-target p ok j (nextOf s j) (nextOf s (parent p j)) (me .0 .below) (me .0 .left) (k .sends) .0 in
-          let stalled = wakes-iff (shape p) (shape-valid p ok) (nextOf s) (sound .good .closed) j (me .0) (me .1) next′ acted others o .0 k .0 in
           let c : Chain (shape p) (j ∷ (y ∷ d)) = rw (is, e) at (sound .good .chain w) in
-          absurd (stalled (sound .good .here w (parent p j) (rw (is, e) (inr (inl (c .1)))) .1))
+          absurd (stalled action-of (wakes-is t) (sound .good .here w (parent p j) (rw (is, e) (inr (inl (c .1)))) .1))
 
   goes-is : T (both (ltb (suc (nextOf s j)) (size p j)) (ready p (afterOf s j) j)) → Goes (shape p) next′ j
   goes-is t =
@@ -198,8 +198,8 @@ module _ (p : Plan) (ok : Accepted p) (n : ℕ) (most : n ≤ 16) (s : State) (s
         workers = length-set (s .workers) w (seat .worker) ∙ sound .workers;
         deques = length-set (s .deques) w (seat .deque) ∙ sound .deques;
         rows = length-set (s .rows) _ _ ∙ sound .rows;
-        good = turn-good (shape p) (shape-valid p ok) (nextOf s) (sound .good .closed) j (me .0) (me .1) next′ acted others
-            (lineOf s) (sound .good) w (dequeOf s w) is (lineOf (turn p r w j s)) (mine ∙ seat-line) rest;
+        good = turn-good (shape-valid p ok) action-of (sound .good)
+            (record { worker = w; deque = dequeOf s w; first = is; mine = mine ∙ seat-line; rest = rest });
         empty = λ v e. by-cases (ℕ-discrete v w)
             (λ q. rw q (getD-set-same (s .deques) w (seat .deque) [] hd
             ∙ seat-empty p (afterOf s j) j (nextOf s j) (aboveOf p s w j) (sym mine ∙ rw q at e)))
