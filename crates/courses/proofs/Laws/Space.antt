@@ -17,4 +17,4 @@ pub leaves-space : (p : Plan) → Accepted p → (next : List ℕ) (line : ℕ �
     → (size : ℕ) → ((w : ℕ) → size ≤ w → line w ≡ []) → weight p next ≤ filled size line * heaviest p
 leaves-space p ok next line leaves size past =
     rw (weight-held p next)
-    (space (shape p) (shape-valid p ok) (λ j. getD next j 0) line leaves size past (heaviest p) (λ j h. rw (path-same p ok j h) at (path-most p j h)))
+    (space (shape p) (shape-valid p ok) leaves size past (heaviest p) (λ j h. rw (path-same p ok j h) at (path-most p j h)))

@@ -117,7 +117,7 @@ module _ (P : Shape) where
         let r = above-share d x (parent (suc h)) (omega arith) (omega arith) a in
         omega arith
 
-    module _ (next : ℕ → ℕ) (line : ℕ → List ℕ) (leaves : Leaves P next line) (size : ℕ) (past : (w : ℕ) → size ≤ w → line w ≡ []) where
+    module _ {next : ℕ → ℕ} {line : ℕ → List ℕ} (leaves : Leaves P next line) (size : ℕ) (past : (w : ℕ) → size ≤ w → line w ≡ []) where
       covered : (x : ℕ) → Living P next x → frame x ≤ sum size (λ w. part (line w) x)
       unfolding part
       covered x a =
@@ -130,7 +130,8 @@ module _ (P : Shape) where
       unfolding held only
       held-reach =
           le-trans (sum-le jobs (λ x. only (living? P next x) (frame x)) (λ x. sum size (λ w. part (line w) x)) (λ x b. each x (living? P next x)))
-          (le-trans (le-of-eq (sum-swap jobs size (λ x w. part (line w) x))) (sum-le size (λ w. sum jobs (part (line w))) (λ w. reach (line w)) (λ w b. parts (line w))))
+          (le-trans (le-of-eq (sum-swap jobs size (λ x w. part (line w) x)))
+          (sum-le size (λ w. sum jobs (part (line w))) (λ w. reach (line w)) (λ w b. parts (line w))))
         where
           each : (x : ℕ) (d : Dec (Living P next x)) → only d (frame x) ≤ sum size (λ w. part (line w) x)
           each x (yes a) = covered x a
