@@ -10,7 +10,7 @@ use mathlib.Core.Logic.{_⊎_, inl, inr, _≢_, ⊎-elim, by-cases}
 use native.Mathlib.Omega.{arith}
 use native.Mathlib.Nat.{not-suc-le-zero, eq-zero-or-pos}
 use native.Mathlib.Decide.{ℕ-discrete, decLe}
-use lib.ListN.{length}
+use lib.ListN.{length, getD}
 use Rattle.plan.specs.Plan.{size, total}
 use Rattle.plan.specs.Rules.{Accepted}
 use Rattle.plan.proofs.Laws.Valid.{jobs-range, size-range, spawned-once, join-target}
@@ -64,18 +64,29 @@ module _ (e : Terms) where
   pub other : {r k j : ℕ} {b : ℕ → ℕ} {c : Core} → Kept r k b c → b k ≡ suc j → (w x : ℕ) → w ≢ k → b w ≡ suc x → x ≢ j
   other {k = k} {j = j} o mine w x f q z = f (o .once w k j (q ∙ ap suc z) mine)
 
+  -- a job stays free if it has had no turn, and what was done is done, with the row that it had
+  free-on : {r x : ℕ} {c c′ : Core} → spentIn c′ x ≡ spentIn c x → nextIn c′ x ≡ nextIn c x
+      → ((h m : ℕ) → h < length plan → m < nextIn c h → (m < nextIn c′ h) × (rowIn plan c′ h m ≡ rowIn plan c h m)) → Free r c x → Free r c′ x
+  free-on spent same old f = record {
+    early = omega (arith, spent, f .early);
+    after = λ h m l i g.
+        let d = f .after h m l i (rw same at g) in
+        let q = old h m l (d .0) in
+        (q .0, rw (q .1, spent) (d .1));
+  }
+
   module _ (ok : Accepted plan) where
     free-ready : {r : ℕ} {c : Core} {j : ℕ} → Free r c j → Ready (shape plan) (nextIn c) j
     free-ready {c = c} {j = j} f h b m l q i = f .after h m b l (joined (join-target plan ok h m (nextIn c j) b l i .0) q i) .0
 
     -- all that a ready job must follow is done
-    ready-done : (c : Core) (j : ℕ) → Living (shape plan) (nextIn c) j → Ready (shape plan) (nextIn c) j
+    ready-done : (c : Core) {j : ℕ} → Living (shape plan) (nextIn c) j → Ready (shape plan) (nextIn c) j
         → (h m : ℕ) → h < length plan → m < size plan h → Follows plan (act plan j (nextIn c j)) (act plan h m) → m < nextIn c h
-    ready-done c j a r h m b l (next q i) = omega (arith, ap (nextIn c) q)
-    ready-done c j a r h m b l (born o i q) =
+    ready-done c a r h m b l (next q i) = omega (arith, ap (nextIn c) q)
+    ready-done c {j} a r h m b l (born o i q) =
         let s = spawned-once plan ok h m j b l q in
         omega (arith, a .begun o, ap (nextIn c) (s .2), s .3)
-    ready-done c j a r h m b l (joined o q i) = r h b m l q i
+    ready-done c a r h m b l (joined o q i) = r h b m l q i
 
     start-kept : {b : ℕ → ℕ} {c : Core} → ((w : ℕ) → b w ≡ 0) → Begins plan c → Kept 0 0 b c
     start-kept {c = c} idle s = record {
@@ -117,7 +128,7 @@ module _ (e : Terms) where
         fresh w j q z = record {
           early = omega arith;
           after = λ h m l i g.
-              let d = ready-done c j (s .lives w j q) (s .ready w j q) h m l i g in
+              let d = ready-done c (s .lives w j q) (s .ready w j q) h m l i g in
               (d, omega (arith, o .done h m l d .latest));
         }
 
@@ -139,11 +150,8 @@ module _ (e : Terms) where
 
     module _ {r k j : ℕ} {b : ℕ → ℕ} {c c′ : Core} (o : Kept r k b c) (mine : b k ≡ suc j)
         (left : suc (spentIn c j) < cost (act plan j (nextIn c j))) (s : Works plan j c c′) where
-      free-on : (x y : ℕ) → x ≢ j → Free y c x → Free y c′ x
-      free-on x y z f = record {
-        early = omega (arith, s .others x z, f .early);
-        after = rw (s .next, s .rows, s .others x z) (f .after);
-      }
+      free-works : {x y : ℕ} → x ≢ j → Free y c x → Free y c′ x
+      free-works {x} z = free-on (s .others x z) (ap (λ l. getD l x 0) (s .next)) (rw (s .next, s .rows) (λ h i l d. (d, refl)))
 
       works-kept : Kept r (suc k) b c′
       works-kept = record {
@@ -156,8 +164,8 @@ module _ (e : Terms) where
         worth = rw (s .next, s .rows) (o .worth);
         later = rw (s .next, s .rows) (o .later);
         lives = λ w x l q. rw (s .next) (o .lives w x (omega arith) q);
-        free = λ w x l q. free-on x r (other o mine w x (λ z. omega arith) q) (o .free w x (omega arith) q);
-        begun = λ x l. by-cases (ℕ-discrete x j) (λ z. rw z spent) (λ z. free-on x (suc r) z (o .begun x (omega (arith, s .others x z))));
+        free = λ w x l q. free-works (other o mine w x (λ z. omega arith) q) (o .free w x (omega arith) q);
+        begun = λ x l. by-cases (ℕ-discrete x j) (λ z. rw z spent) (λ z. free-works z (o .begun x (omega (arith, s .others x z))));
         unpaid = λ x l. rw (s .next) (by-cases (ℕ-discrete x j) (λ z. rw z (o .lives k j (omega arith) mine .left, omega (arith, s .spends)))
             (λ z. rw (s .others x z) (o .unpaid x (omega (arith, s .others x z)))));
       }
@@ -189,14 +197,8 @@ module _ (e : Terms) where
         others = s .acts .rests;
       }
 
-      free-after : (x y : ℕ) → x ≢ j → Free y c x → Free y c′ x
-      free-after x y z f = record {
-        early = omega (arith, s .others x z, f .early);
-        after = λ h m l i g.
-            let d = f .after h m l i (rw (s .acts .rests x z) at g) in
-            let q = acts-kept (s .acts) bounded h m l (d .0) in
-            (q .0, rw (q .1, s .others x z) (d .1));
-      }
+      free-ends : {x y : ℕ} → x ≢ j → Free y c x → Free y c′ x
+      free-ends {x} z = free-on (s .others x z) (s .acts .rests x z) (acts-kept (s .acts) bounded)
 
       ends-done : (h i : ℕ) → h < length plan → i < nextIn c′ h → Done workers r (suc k) (rowIn plan c′ h i)
       ends-done h i l d =
@@ -235,10 +237,10 @@ module _ (e : Terms) where
         worth = ends-worth;
         later = ends-later;
         lives = λ w x l q. stays action x (other o mine w x (λ z. omega arith) q) (o .lives w x (omega arith) q);
-        free = λ w x l q. free-after x r (other o mine w x (λ z. omega arith) q) (o .free w x (omega arith) q);
+        free = λ w x l q. free-ends (other o mine w x (λ z. omega arith) q) (o .free w x (omega arith) q);
         begun = λ x l.
             let z : x ≢ j = λ q. omega (arith, ap (spentIn c′) q, s .fresh) in
-            free-after x (suc r) z (o .begun x (omega (arith, s .others x z)));
+            free-ends z (o .begun x (omega (arith, s .others x z)));
         unpaid = λ x l.
             let z : x ≢ j = λ q. omega (arith, ap (spentIn c′) q, s .fresh) in
             rw (s .acts .rests x z, s .others x z) (o .unpaid x (omega (arith, s .others x z)));
@@ -251,14 +253,15 @@ module _ (e : Terms) where
     course-kept (works t mine h s) = works-kept (course-kept t) mine h s
     course-kept (ends t mine h s l) = ends-kept (course-kept t) mine h s
 
-    pub course-bound : {r m k : ℕ} {b : ℕ → ℕ} {c : Core} → Course e r m k b c → (j : ℕ) → j < length plan → nextIn c j ≤ size plan j
-    course-bound t = course-kept t .closed .bound
-
     -- when job 0 has ended, all is done
     pub course-done : {r m k : ℕ} {b : ℕ → ℕ} {c : Core} → Course e r m k b c → size plan 0 ≤ nextIn c 0 → (j : ℕ) → j < length plan → nextIn c j ≡ size plan j
     course-done {c = c} t = Progress.all-done (shape plan) (shape-valid plan ok) (nextIn c) (course-kept t .closed)
 
-    -- and its last action was done in this round
+    pub course-all : {r m k : ℕ} {b : ℕ → ℕ} {c : Core} → Course e r m k b c → size plan 0 ≤ nextIn c 0
+        → (j i : ℕ) → j < length plan → i < size plan j → i < nextIn c j
+    course-all t ended j i l m = omega (arith, course-done t ended j l)
+
+    -- and the last action of job 0 was done in this round
     pub course-ended : {r m k : ℕ} {b : ℕ → ℕ} {c : Core} → Course e r m k b c → size plan 0 ≤ nextIn c 0 → rowIn plan c 0 (size plan 0 - 1) .round ≡ r
     course-ended (begins idle s h) g =
         let z = jobs-range plan ok .0 in
@@ -276,7 +279,7 @@ module _ (e : Terms) where
 
         go : Dec (size plan 0 ≤ nextIn c 0) → (size plan 0 ≤ nextIn c 0 → rowIn plan c 0 (size plan 0 - 1) .round ≡ r)
             → rowIn plan c′ 0 (size plan 0 - 1) .round ≡ r
-        go (yes x) rec = rw (acts-kept (s .acts) (course-bound t) 0 (size plan 0 - 1) z (omega (arith, size-range plan ok 0 z)) .1) (rec x)
+        go (yes x) rec = rw (acts-kept (s .acts) (course-kept t .closed .bound) 0 (size plan 0 - 1) z (omega (arith, size-range plan ok 0 z)) .1) (rec x)
         go (no x) rec =
             ⊎-elim (λ q. rw (acts-new (s .acts) 0 (size plan 0 - 1) q) refl) (λ q. absurd (omega (arith, q .0, size-range plan ok 0 z)))
-            (acted (s .acts) (course-bound t) 0 (size plan 0 - 1) z last)
+            (acted (s .acts) (course-kept t .closed .bound) 0 (size plan 0 - 1) z last)

@@ -26,7 +26,7 @@ use Rattle.courses.specs.Row.{Row, noRow, place}
 use Rattle.courses.specs.Schedule.{rowOf, clash, alone, inOrder, keeps}
 use Rattle.courses.specs.Living.{lastRound}
 use Rattle.courses.proofs.Laws.Course.{Core, nextIn, rowIn, Terms, Course}
-use Rattle.courses.proofs.Laws.Kept.{Done, course-kept, course-done, course-ended}
+use Rattle.courses.proofs.Laws.Kept.{Done, course-kept, course-all, course-ended}
 use Rattle.courses.proofs.Laws.Apart.{course-calm}
 
 -- no two rows of a list clash
@@ -65,15 +65,14 @@ by-place p x y s (joined o a q) = joined o a (sym (ap (λ z. z .join) (s .is)) �
 module _ (e : Terms) (ok : Accepted (e .plan)) {r idle k : ℕ} {b : ℕ → ℕ} {c : Core} (t : Course e r idle k b c) (ended : size (e .plan) 0 ≤ nextIn c 0) where
   open Terms e using (plan, cost, workers, steady)
 
-  -- every action is done
-  done : (j i : ℕ) → j < length plan → i < size plan j → i < nextIn c j
-  done j i l m = omega (arith, course-done e ok t ended j l)
+  done : (x : Placed) → F.Acts plan x → x .position < nextIn c (x .job)
+  done x u = course-all e ok t ended (x .job) (x .position) (u .known) (u .within)
 
   -- every row is of a round from 1 to r, and of one of the workers
   pub course-row : (h : ℕ) → h < total plan → Done workers r k (getD (c .rows) h noRow)
   course-row h l =
       let q = locate plan h l in
-      rw (q .place) (course-kept e ok t .done (q .job) (q .position) (q .known) (done (q .job) (q .position) (q .known) (q .within)))
+      rw (q .place) (course-kept e ok t .done (q .job) (q .position) (q .known) (course-all e ok t ended (q .job) (q .position) (q .known) (q .within)))
 
   -- all that an action must follow is done before the rounds of its turns
   pub course-later : (x y : Placed) → Member x (placed plan) → Member y (placed plan) → T (mustFollow plan x y)
@@ -84,7 +83,7 @@ module _ (e : Terms) (ok : Accepted (e .plan)) {r idle k : ℕ} {b : ℕ → ℕ
       omega (
         arith,
         ap cost (u .is),
-        course-kept e ok t .later (x .job) (x .position) (y .job) (y .position) (u .known) (done (x .job) (x .position) (u .known) (u .within))
+        course-kept e ok t .later (x .job) (x .position) (y .job) (y .position) (u .known) (done x u)
             (v .known) (v .within) (by-place plan x y v (follows-of plan x y f)) .1,
       )
 
@@ -92,7 +91,7 @@ module _ (e : Terms) (ok : Accepted (e .plan)) {r idle k : ℕ} {b : ℕ → ℕ
   rises : (x : Placed) (l : List Placed) → Chain plan (x ∷ l) → rowOf plan (c .rows) x .round + costs cost l ≤ r
   rises x [] m =
       let u = member-acts plan x m in
-      omega (arith, course-kept e ok t .done (x .job) (x .position) (u .known) (done (x .job) (x .position) (u .known) (u .within)) .latest)
+      omega (arith, course-kept e ok t .done (x .job) (x .position) (u .known) (done x u) .latest)
   rises x (y ∷ l) m = omega (arith, rises y l (m .2), course-later y x (chain-head plan y l (m .2)) (m .0) (m .1))
 
   -- so there are no fewer rounds than a chain takes turns
@@ -104,7 +103,7 @@ module _ (e : Terms) (ok : Accepted (e .plan)) {r idle k : ℕ} {b : ℕ → ℕ
         arith,
         ap cost (u .is),
         rises x l m,
-        course-kept e ok t .worth (x .job) (x .position) (u .known) (done (x .job) (x .position) (u .known) (u .within)) .1,
+        course-kept e ok t .worth (x .job) (x .position) (u .known) (done x u) .1,
       )
 
   -- the last round is in the rows
@@ -134,8 +133,8 @@ module _ (e : Terms) (ok : Accepted (e .plan)) {r idle k : ℕ} {b : ℕ → ℕ
         let u = member-acts plan x m in
         let v = member-acts plan y n in
         ⊎-elim inl (λ h. inr (omega (arith, ap cost (v .is))))
-        (course-calm e ok calm t .apart (x .job) (x .position) (y .job) (y .position) (u .known) (done (x .job) (x .position) (u .known) (u .within))
-        (v .known) (done (y .job) (y .position) (v .known) (v .within)) f g)
+        (course-calm e ok calm t .apart (x .job) (x .position) (y .job) (y .position) (u .known) (done x u)
+        (v .known) (done y v) f g)
 
   -- where every action takes one turn
   module _ (one : (x : Placed) → cost x ≡ 1) where
@@ -156,8 +155,8 @@ module _ (e : Terms) (ok : Accepted (e .plan)) {r idle k : ℕ} {b : ℕ → ℕ
           let g′ = rw (x .place, y .place) at g in
           ⊎-elim (λ q. x .place ∙ ap (place plan (x .job)) (q .1) ∙ ap (λ j. place plan j (y .position)) (q .0) ∙ sym (y .place))
           (λ q. absurd (omega (arith, one (act plan (y .job) (y .position)))))
-          (course-calm e ok calm t .apart (x .job) (x .position) (y .job) (y .position) (x .known) (done (x .job) (x .position) (x .known) (x .within))
-          (y .known) (done (y .job) (y .position) (y .known) (y .within)) g′ (le-of-eq f′))
+          (course-calm e ok calm t .apart (x .job) (x .position) (y .job) (y .position) (x .known) (course-all e ok t ended (x .job) (x .position) (x .known) (x .within))
+          (y .known) (course-all e ok t ended (y .job) (y .position) (y .known) (y .within)) g′ (le-of-eq f′))
 
       -- the rows keep the rules of a schedule
       pub course-keeps : T (keeps plan workers (c .rows))

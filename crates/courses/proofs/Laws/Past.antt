@@ -18,13 +18,14 @@ use Rattle.plan.specs.Plan.{Plan}
 use Rattle.plan.specs.Rules.{Accepted}
 use Rattle.plan.proofs.Laws.Lists.{both-intro}
 use Rattle.plan.proofs.Laws.Counts.{decT, either-left, either-right}
+use Rattle.plan_measure.proofs.Laws.Follows.{act}
 use Rattle.courses.specs.Row.{Row, noRow}
 use Rattle.courses.specs.Ready.{weight}
 use Rattle.courses.specs.Living.{notAfter}
 use Rattle.lines.proofs.Laws.Shape.{Closed}
 use Rattle.lines.proofs.Laws.Start.{none-closed}
 use Rattle.courses.proofs.Laws.PlanShape.{shape}
-use Rattle.courses.proofs.Laws.Course.{Core, nextIn, rowIn, Terms, Begins, Works, Ends, acted, acts-kept, Course, begins, next-round, rests, works, ends}
+use Rattle.courses.proofs.Laws.Course.{Core, nextIn, spentIn, rowIn, Terms, Begins, Works, Ends, acted, acts-kept, Course, begins, next-round, rests, works, ends}
 use Rattle.courses.proofs.Laws.Start.{none-weight}
 use Rattle.courses.proofs.Laws.Kept.{Done, Kept, course-kept}
 
@@ -45,25 +46,26 @@ by-then a r w t =
     go false true z f g h t = (omega (arith, g tt), λ e. h t)
     go false false z f g h t = absurd t
 
--- a turn is later than the rows of what was done before it
-row-before : (n r k r′ w′ : ℕ) (x : Row) → Done n r k x → x .round ≡ r′ → x .worker ≡ w′ → T (notAfter (record { round = r; worker = k }) r′ w′) → ⊥
-row-before n r k r′ w′ x d e f t =
-    let u = by-then (record { round = r; worker = k }) r′ w′ t in
-    let g : r ≡ r′ = omega (arith, d .latest, u .0) in
-    omega (arith, u .1 g, d .turn (e ∙ sym g))
+module _ {n r k : ℕ} {a : Row} where
+  -- a turn is later than the rows of what was done before it
+  row-before : Done n r k a → T (notAfter (record { round = r; worker = k }) (a .round) (a .worker)) → ⊥
+  row-before d t =
+      let u = by-then (record { round = r; worker = k }) (a .round) (a .worker) t in
+      let g : r ≡ a .round = omega (arith, d .latest, u .0) in
+      omega (arith, u .1 g, d .turn (sym g))
 
--- and no earlier than they are
-row-by : (n r k r′ w′ : ℕ) (x : Row) → Done n r (suc k) x → T (notAfter (record { round = r; worker = k }) r′ w′) → T (notAfter x r′ w′)
-row-by n r k r′ w′ x d t =
-    let u = by-then (record { round = r; worker = k }) r′ w′ t in
-    not-after x r′ w′ (omega (arith, d .latest, u .0))
-    (λ e. let g : r ≡ r′ = omega (arith, d .latest, u .0) in omega (arith, u .1 g, d .turn (e ∙ sym g)))
+  -- and no earlier than they are
+  row-by : (r′ w′ : ℕ) → Done n r (suc k) a → T (notAfter (record { round = r; worker = k }) r′ w′) → T (notAfter a r′ w′)
+  row-by r′ w′ d t =
+      let u = by-then (record { round = r; worker = k }) r′ w′ t in
+      not-after a r′ w′ (omega (arith, d .latest, u .0))
+      (λ e. let g : r ≡ r′ = omega (arith, d .latest, u .0) in omega (arith, u .1 g, d .turn (e ∙ sym g)))
 
 abbrev pub Moment : Plan → Core → Row → Type 0
 Moment p c a = (a ≡ noRow) ⊎ ((j : ℕ) × (i : ℕ) × (j < length p) × (i < nextIn c j) × (rowIn p c j i ≡ a))
 
 module _ (e : Terms) where
-  open Terms e using (plan, workers, bound)
+  open Terms e using (plan, cost, bound)
 
   pub record Past (c : Core) (r w : ℕ) (l : List ℕ) : Type 0 where
     pub closed : Closed (shape plan) (λ j. getD l j 0)
@@ -99,8 +101,15 @@ module _ (e : Terms) where
   }
 
   module _ (ok : Accepted plan) (grows : (r r′ : ℕ) → r ≤ r′ → bound r ≤ bound r′) where
-    module _ {r k j : ℕ} {b : ℕ → ℕ} {c c′ : Core} (o : Kept e r k b c) (mine : b k ≡ suc j) (o′ : Kept e r (suc k) b c′)
-        (s : Ends plan r k j c c′) (light : weight plan (c′ .next) ≤ bound r) where
+    -- a turn that finishes an action
+    module _ {r m k j : ℕ} {b : ℕ → ℕ} {c c′ : Core} (t : Course e r m k b c) (mine : b k ≡ suc j)
+        (paid : suc (spentIn c j) ≡ cost (act plan j (nextIn c j))) (s : Ends plan r k j c c′) (light : weight plan (c′ .next) ≤ bound r) where
+      o : Kept e r k b c
+      o = course-kept e ok t
+
+      o′ : Kept e r (suc k) b c′
+      o′ = course-kept e ok (ends t mine paid s light)
+
       abbrev here : Row
       here = record { round = r; worker = k }
 
@@ -125,7 +134,7 @@ module _ (e : Terms) where
         closed = o′ .closed;
         within = le-trans light (grows r r′ (by-then here r′ w′ q .0));
         light = omega (arith, s .peak);
-        done = λ h i z d. (d, row-by workers r k r′ w′ (rowIn plan c′ h i) (o′ .done h i z d) q);
+        done = λ h i z d. (d, row-by r′ w′ (o′ .done h i z d) q);
         every = λ h i z d t. d;
       }
 
@@ -139,8 +148,7 @@ module _ (e : Terms) where
           later : Moment plan c (m .row) → T (notAfter here (m .row .round) (m .row .worker)) → ⊥
           later (inl q) x = omega (arith, o .first k j mine, ap (λ z. z .round) q, by-then here (m .row .round) (m .row .worker) x .0)
           later (inr q) x =
-              row-before workers r k (m .row .round) (m .row .worker) (rowIn plan c (q .0) (q .1)) (o .done (q .0) (q .1) (q .2) (q .3))
-              (ap (λ z. z .round) (q .4)) (ap (λ z. z .worker) (q .4)) x
+              row-before (o .done (q .0) (q .1) (q .2) (q .3)) (rw (← (q .4)) at x)
 
           old : Moment plan c (m .row) → Moment plan c′ (m .row)
           old (inl q) = inl q
@@ -180,7 +188,7 @@ module _ (e : Terms) where
     history (rests t q) r′ w′ = history t r′ w′
     history (works t mine h s) r′ w′ = let (l, past) = history t r′ w′ in (l, works-past s past)
     history (ends t mine h s l) r′ w′ =
-        ends-history (course-kept e ok t) mine (course-kept e ok (ends t mine h s l)) s l r′ w′ (history t r′ w′)
+        ends-history t mine h s l r′ w′ (history t r′ w′)
 
     -- the peak of every core was reached
     pub peaked : {r m k : ℕ} {b : ℕ → ℕ} {c : Core} → Course e r m k b c → Peaked c
@@ -194,4 +202,4 @@ module _ (e : Terms) where
     peaked (next-round t s h) = peaked t
     peaked (rests t q) = peaked t
     peaked (works t mine h s) = works-peaked s (peaked t)
-    peaked (ends t mine h s l) = ends-peaked (course-kept e ok t) mine (course-kept e ok (ends t mine h s l)) s l (peaked t)
+    peaked (ends t mine h s l) = ends-peaked t mine h s l (peaked t)

@@ -7,19 +7,20 @@ use mathlib.Core.Logic.{_≢_}
 use mathlib.Core.Bool.{Bool, true, false, not}
 use mathlib.Core.List.{List, [], _∷_}
 use native.Mathlib.Omega.{arith}
-use native.Mathlib.Nat.{le-of-suc-le-suc, not-suc-le-zero}
+use native.Mathlib.Nat.{not-suc-le-zero}
 use lib.Dec.{T, eqb, leb, ltb, leb→le, le→leb, ltb→lt, lt→ltb, eqb→eq, eqb-refl, T-not}
 use lib.ListN.{length, getD}
-use Rattle.plan.specs.Test.{both, either, largest, below}
+use Rattle.plan.specs.Test.{both, either, below}
 use Rattle.plan.specs.Plan.{Plan, Job, Placed, job, size, action, placed, noJob, noPlaced, parent, spawnAt, enters}
 use Rattle.plan_measure.specs.Measure.{pathOver, path, heaviest}
+use Rattle.plan_measure.proofs.Laws.Largest.{largest-above, member-below}
 use Rattle.courses.specs.Ready.{spawned, ready, living, frames, weight}
 use Rattle.lines.proofs.Laws.Shape.{Shape, Valid, Living, living?, Ready}
 use Rattle.lines.proofs.Laws.Sum.{sum, only, only-yes, only-no}
 use Rattle.lines.proofs.Laws.Weight.{held, path-root, path-child}
 use Rattle.lines.proofs.Laws.Weight
 use Rattle.plan.proofs.Laws.Lists.{both-intro, both-left, both-right, true-of, false-of, all-at, all-by}
-use Rattle.plan.proofs.Laws.Counts.{decT, below-length, below-at}
+use Rattle.plan.proofs.Laws.Counts.{decT}
 use Rattle.plan.proofs.Laws.Placed.{start, placed-length, placed-at, place-below, placed-of}
 use Rattle.plan.specs.Rules.{Accepted}
 use Rattle.plan.proofs.Laws.Valid.{jobs-range, size-range, older, spawned-there, spawned-once, join-target, last-sends}
@@ -197,11 +198,6 @@ module _ (p : Plan) (ok : Accepted p) where
   unfolding path
   path-same j h = over-path (length p) j h h
 
-pub largest-at : {A : Type 0} (f : A → ℕ) (l : List A) (d : A) (i : ℕ) → i < length l → f (getD l i d) ≤ largest f l
-largest-at f [] d i h = absurd (not-suc-le-zero h)
-largest-at f (x ∷ l) d zero h = omega arith
-largest-at f (x ∷ l) d (suc i) h = omega (arith, largest-at f l d i (le-of-suc-le-suc h))
-
 pub path-most : (p : Plan) (j : ℕ) → j < length p → path p j ≤ heaviest p
 unfolding heaviest
-path-most p j h = rw (below-at (length p) j h) at (largest-at (path p) (below (length p)) 0 j (omega (arith, below-length (length p))))
+path-most p j h = largest-above (path p) (below (length p)) j (member-below (length p) j h)
