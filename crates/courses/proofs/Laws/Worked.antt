@@ -34,7 +34,13 @@ module _ (e : Terms) where
   unfolding sum
   step j i = refl
 
+  -- a job whose next action has a turn left has had fewer turns than its actions take
+  had-less : (c : Core) (j : ℕ) → nextIn c j < size plan j → spentIn c j < cost (act plan j (nextIn c j)) → had c j < upTo j (size plan j)
+  had-less c j left more =
+      omega (arith, step j (nextIn c j), sum-mono (suc (nextIn c j)) (size plan j) (λ a. cost (act plan j a)) left)
+
   module _ (ok : Accepted plan) where
+    -- the turns are those of all jobs
     pub course-worked : {r m k : ℕ} {b : ℕ → ℕ} {c : Core} → Course e r m k b c → c .turns ≡ sum (length plan) (had c)
     unfolding sum
     course-worked (begins {b} {c} idle s h) = s .turns ∙ sym (none (length plan))
@@ -65,7 +71,7 @@ module _ (e : Terms) where
     had-most {c = c} t j l =
         let bound = course-kept e ok t .closed .bound j l in
         ⊎-elim (λ z. omega (arith, sum-mono (nextIn c j) (size plan j) (λ a. cost (act plan j a)) bound))
-        (λ z. let u = course-kept e ok t .unpaid j z in omega (arith, step j (nextIn c j), sum-mono (suc (nextIn c j)) (size plan j) (λ a. cost (act plan j a)) (u .0)))
+        (λ z. let u = course-kept e ok t .unpaid j z in omega (arith, had-less c j (u .0) (u .1)))
         (eq-zero-or-pos (spentIn c j))
 
     pub turns-most : {r m k : ℕ} {b : ℕ → ℕ} {c : Core} → Course e r m k b c → c .turns ≤ price
@@ -104,9 +110,8 @@ module _ (e : Terms) where
         more w j l q =
             let a = course-kept e ok t .lives w j l q in
             let h : had c j < upTo j (size plan j) = ⊎-elim
-            (λ z. omega (arith, step j (nextIn c j), positive j (nextIn c j) (a .below) (a .left), sum-mono (suc (nextIn c j)) (size plan j) (λ i. cost (act plan j i)) (a .left)))
-            (λ z. let u = course-kept e ok t .unpaid j z in omega (arith, step j (nextIn c j), sum-mono (suc (nextIn c j)) (size plan j) (λ i. cost (act plan j i)) (u .0)))
-            (eq-zero-or-pos (spentIn c j)) in
+            (λ z. had-less c j (a .left) (omega (arith, positive j (nextIn c j) (a .below) (a .left))))
+            (λ z. let u = course-kept e ok t .unpaid j z in had-less c j (u .0) (u .1)) (eq-zero-or-pos (spentIn c j)) in
             omega (arith, course-worked t, sum-less (length plan) (had c) (λ j. upTo j (size plan j)) (had-most t) j (a .below) h)
 
         go : ((w : ℕ) × (w < workers) × ((k ≤ w) × (1 ≤ b w))) ⊎ ((w : ℕ) → w < workers → ¬ ((k ≤ w) × (1 ≤ b w))) → r ≤ price + m
