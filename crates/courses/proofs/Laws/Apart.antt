@@ -12,7 +12,8 @@ use lib.Dec.{T}
 use lib.ListN.{length}
 use Rattle.plan.specs.Rules.{Accepted}
 use Rattle.plan_measure.proofs.Laws.Follows.{act}
-use Rattle.courses.proofs.Laws.Course.{Core, nextIn, spentIn, rowIn, New, Old, acted, acts-new, Terms, Works, Ends, Hands, Course, begins, next-round, rests, works, ends}
+use Rattle.courses.proofs.Laws.Course.{Core, nextIn, spentIn, rowIn, New, Old, acted, acts-new, Terms, Works, Ends, Hands}
+use Rattle.courses.proofs.Laws.Course.{Course, begins, next-round, rests, works, ends}
 use Rattle.courses.proofs.Laws.Kept.{Kept, other, course-kept}
 
 module _ (e : Terms) where
@@ -37,7 +38,8 @@ module _ (e : Terms) where
     next-calm : {b′ : ℕ → ℕ} → Kept e r k b c → Hands e k b b′ c → T steady → Calm (suc r) 0 b′ c
     next-calm o s calm = record {
       apart = a .apart;
-      turns = λ w j l q. ⊎-elim (λ z h m y d f. omega (arith, o .done h m y d .latest)) (λ z. had w j (s .stays calm w j q z) z) (eq-zero-or-pos (spentIn c j));
+      turns = λ w j l q.
+          ⊎-elim (λ z h m y d f. omega (arith, o .done h m y d .latest)) (λ z. had w j (s .stays calm w j q z) z) (eq-zero-or-pos (spentIn c j));
       taken = λ w j l. absurd (not-suc-le-zero l);
     }
 

@@ -11,7 +11,6 @@
 --   Acts, Ends p r w j c c′ == c′ is c after worker w finished the next action of job j in round r
 --   Course e r m k b c == c is the core of a course in round r, which has the hands b, when the workers below k have had their turns;
 --                       round 0 is the start, and in m of the rounds no worker had a job
--- Assumes nothing.
 use Prim.Native.Nat.{ℕ, suc, _≤_, _<_, max}
 use mathlib.Core.Path.{_≡_, ap}
 use mathlib.Core.Logic.{_⊎_, inl, inr, _≢_, by-cases}

@@ -3,7 +3,6 @@
 --   Done n r k a     == row a is of one of n workers, and stands before the turn of worker k in round r
 --   Free e r c j     == all that the next action of job j must follow, and the turns that it has had, came before round r
 --   Kept e r k b c   == what holds of the core c
--- Assumes nothing.
 use Prim.Native.Nat.{ℕ, suc, _+_, _-_, _≤_, _<_}
 use mathlib.Core.Path.{_≡_, refl, ap, _∙_}
 use mathlib.Core.Logic.{_⊎_, inl, inr, _≢_, ⊎-elim, by-cases}
@@ -21,7 +20,8 @@ use Rattle.lines.proofs.Laws.Start.{none-closed}
 use Rattle.lines.proofs.Laws.Progress
 use Rattle.lines.proofs.Laws.Act.{Act, acted-closed, stays}
 use Rattle.courses.proofs.Laws.PlanShape.{shape, shape-valid}
-use Rattle.courses.proofs.Laws.Course.{Core, nextIn, spentIn, rowIn, Terms, Begins, Hands, Works, Ends, New, Old, acted, acts-new, acts-kept, Course, begins, next-round, rests, works, ends}
+use Rattle.courses.proofs.Laws.Course.{Core, nextIn, spentIn, rowIn, New, Old, acted, acts-new, acts-kept, Terms, Begins, Hands, Works, Ends}
+use Rattle.courses.proofs.Laws.Course.{Course, begins, next-round, rests, works, ends}
 
 pub record Done (n r k : ℕ) (a : Row) : Type 0 where
   pub first : 1 ≤ a .round
@@ -40,6 +40,10 @@ module _ (e : Terms) where
     pub after : (h m : ℕ) → h < length plan → m < size plan h → Follows plan (act plan j (nextIn c j)) (act plan h m)
         → (m < nextIn c h) × (rowIn plan c h m .round + spentIn c j < r)
 
+  abbrev pub Later : Core → ℕ → ℕ → Type 0
+  Later c j i = (h m : ℕ) → h < length plan → m < size plan h → Follows plan (act plan j i) (act plan h m)
+      → (m < nextIn c h) × (rowIn plan c h m .round + cost (act plan j i) ≤ rowIn plan c j i .round)
+
   pub record Kept (r k : ℕ) (b : ℕ → ℕ) (c : Core) : Type 0 where
     pub first : (w j : ℕ) → b w ≡ suc j → 1 ≤ r
     pub known : (w j : ℕ) → b w ≡ suc j → w < workers
@@ -50,9 +54,7 @@ module _ (e : Terms) where
     -- an action takes its turns, after all that it must follow
     pub worth : (j i : ℕ) → j < length plan → i < nextIn c j
         → (1 ≤ cost (act plan j i)) × (cost (act plan j i) ≤ rowIn plan c j i .round)
-    pub later : (j i h m : ℕ) → j < length plan → i < nextIn c j → h < length plan → m < size plan h
-        → Follows plan (act plan j i) (act plan h m)
-        → (m < nextIn c h) × (rowIn plan c h m .round + cost (act plan j i) ≤ rowIn plan c j i .round)
+    pub later : (j i : ℕ) → j < length plan → i < nextIn c j → Later c j i
     -- the job of a worker that has not had its turn
     pub lives : (w j : ℕ) → k ≤ w → b w ≡ suc j → Living (shape plan) (nextIn c) j
     pub free : (w j : ℕ) → k ≤ w → b w ≡ suc j → Free r c j
@@ -66,7 +68,8 @@ module _ (e : Terms) where
 
   -- a job stays free if it has had no turn, and what was done is done, with the row that it had
   free-on : {r x : ℕ} {c c′ : Core} → spentIn c′ x ≡ spentIn c x → nextIn c′ x ≡ nextIn c x
-      → ((h m : ℕ) → h < length plan → m < nextIn c h → (m < nextIn c′ h) × (rowIn plan c′ h m ≡ rowIn plan c h m)) → Free r c x → Free r c′ x
+      → ((h m : ℕ) → h < length plan → m < nextIn c h → (m < nextIn c′ h) × (rowIn plan c′ h m ≡ rowIn plan c h m))
+      → Free r c x → Free r c′ x
   free-on spent same old f = record {
     early = omega (arith, spent, f .early);
     after = λ h m l i g.
@@ -97,7 +100,7 @@ module _ (e : Terms) where
       closed = none-closed (shape plan) (nextIn c) (s .none);
       done = λ j i l d. absurd (omega (arith, s .none j));
       worth = λ j i l d. absurd (omega (arith, s .none j));
-      later = λ j i h m l d. absurd (omega (arith, s .none j));
+      later = λ j i l d. absurd (omega (arith, s .none j));
       lives = λ w j l q. absurd (omega (arith, idle w));
       free = λ w j l q. absurd (omega (arith, idle w));
       begun = λ j l. absurd (omega (arith, s .fresh j));
@@ -166,7 +169,8 @@ module _ (e : Terms) where
         lives = λ w x l q. rw (s .next) (o .lives w x (omega arith) q);
         free = λ w x l q. free-works (other o mine w x (λ z. omega arith) q) (o .free w x (omega arith) q);
         begun = λ x l. by-cases (ℕ-discrete x j) (λ z. rw z spent) (λ z. free-works z (o .begun x (omega (arith, s .others x z))));
-        unpaid = λ x l. rw (s .next) (by-cases (ℕ-discrete x j) (λ z. rw z (o .lives k j (omega arith) mine .left, omega (arith, s .spends)))
+        unpaid = λ x l. rw (s .next) (by-cases (ℕ-discrete x j)
+            (λ z. rw z (o .lives k j (omega arith) mine .left, omega (arith, s .spends)))
             (λ z. rw (s .others x z) (o .unpaid x (omega (arith, s .others x z)))));
       }
         where
@@ -202,18 +206,20 @@ module _ (e : Terms) where
 
       ends-done : (h i : ℕ) → h < length plan → i < nextIn c′ h → Done workers r (suc k) (rowIn plan c′ h i)
       ends-done h i l d =
-          ⊎-elim
-          (λ q. rw (acts-new (s .acts) h i q) (record { first = o .first k j mine; known = o .known k j mine; latest = omega arith; turn = λ z. omega arith }))
-          (λ q. rw (q .1) (done-on (omega arith) (o .done h i l (q .0)))) (acted (s .acts) bounded h i l d)
+          ⊎-elim (λ q. rw (acts-new (s .acts) h i q) now) (λ q. rw (q .1) (done-on (omega arith) (o .done h i l (q .0))))
+          (acted (s .acts) bounded h i l d)
+        where
+          now : Done workers r (suc k) (record { round = r; worker = k })
+          now = record { first = o .first k j mine; known = o .known k j mine; latest = omega arith; turn = λ z. omega arith }
 
       ends-worth : (h i : ℕ) → h < length plan → i < nextIn c′ h
           → (1 ≤ cost (act plan h i)) × (cost (act plan h i) ≤ rowIn plan c′ h i .round)
       ends-worth h i l d =
-          ⊎-elim (λ q. rw (acts-new (s .acts) h i q, q .0, q .1) (omega (arith, me .early), omega (arith, me .early))) (λ q. rw (q .1) (o .worth h i l (q .0))) (acted (s .acts) bounded h i l d)
+          ⊎-elim (λ q. rw (acts-new (s .acts) h i q, q .0, q .1) (omega (arith, me .early), omega (arith, me .early)))
+          (λ q. rw (q .1) (o .worth h i l (q .0))) (acted (s .acts) bounded h i l d)
 
-      ends-later : (x i h m : ℕ) → x < length plan → i < nextIn c′ x → h < length plan → m < size plan h → Follows plan (act plan x i) (act plan h m)
-          → (m < nextIn c′ h) × (rowIn plan c′ h m .round + cost (act plan x i) ≤ rowIn plan c′ x i .round)
-      ends-later x i h m l d z y f = go (acted (s .acts) bounded x i l d)
+      ends-later : (x i : ℕ) → x < length plan → i < nextIn c′ x → Later c′ x i
+      ends-later x i l d h m z y f = go (acted (s .acts) bounded x i l d)
         where
           go : New j c x i ⊎ Old plan c c′ x i
               → (m < nextIn c′ h) × (rowIn plan c′ h m .round + cost (act plan x i) ≤ rowIn plan c′ x i .round)
@@ -222,7 +228,7 @@ module _ (e : Terms) where
               let q = acts-kept (s .acts) bounded h m z (t .0) in
               (q .0, rw (acts-new (s .acts) x i u, q .1, u .0, u .1) (omega (arith, t .1)))
           go (inr u) =
-              let t = o .later x i h m l (u .0) z y f in
+              let t = o .later x i l (u .0) h m z y f in
               let q = acts-kept (s .acts) bounded h m z (t .0) in
               (q .0, rw (q .1, u .1) (t .1))
 
@@ -254,7 +260,8 @@ module _ (e : Terms) where
     course-kept (ends t mine h s l) = ends-kept (course-kept t) mine h s
 
     -- when job 0 has ended, all is done
-    pub course-done : {r m k : ℕ} {b : ℕ → ℕ} {c : Core} → Course e r m k b c → size plan 0 ≤ nextIn c 0 → (j : ℕ) → j < length plan → nextIn c j ≡ size plan j
+    pub course-done : {r m k : ℕ} {b : ℕ → ℕ} {c : Core} → Course e r m k b c → size plan 0 ≤ nextIn c 0
+        → (j : ℕ) → j < length plan → nextIn c j ≡ size plan j
     course-done {c = c} t = Progress.all-done (shape plan) (shape-valid plan ok) (nextIn c) (course-kept t .closed)
 
     pub course-all : {r m k : ℕ} {b : ℕ → ℕ} {c : Core} → Course e r m k b c → size plan 0 ≤ nextIn c 0
@@ -262,7 +269,8 @@ module _ (e : Terms) where
     course-all t ended j i l m = omega (arith, course-done t ended j l)
 
     -- and the last action of job 0 was done in this round
-    pub course-ended : {r m k : ℕ} {b : ℕ → ℕ} {c : Core} → Course e r m k b c → size plan 0 ≤ nextIn c 0 → rowIn plan c 0 (size plan 0 - 1) .round ≡ r
+    pub course-ended : {r m k : ℕ} {b : ℕ → ℕ} {c : Core} → Course e r m k b c → size plan 0 ≤ nextIn c 0
+        → rowIn plan c 0 (size plan 0 - 1) .round ≡ r
     course-ended (begins idle s h) g =
         let z = jobs-range plan ok .0 in
         absurd (omega (arith, s .none 0, size-range plan ok 0 z))
@@ -279,7 +287,8 @@ module _ (e : Terms) where
 
         go : Dec (size plan 0 ≤ nextIn c 0) → (size plan 0 ≤ nextIn c 0 → rowIn plan c 0 (size plan 0 - 1) .round ≡ r)
             → rowIn plan c′ 0 (size plan 0 - 1) .round ≡ r
-        go (yes x) rec = rw (acts-kept (s .acts) (course-kept t .closed .bound) 0 (size plan 0 - 1) z (omega (arith, size-range plan ok 0 z)) .1) (rec x)
+        go (yes x) rec =
+            rw (acts-kept (s .acts) (course-kept t .closed .bound) 0 (size plan 0 - 1) z (omega (arith, size-range plan ok 0 z)) .1) (rec x)
         go (no x) rec =
             ⊎-elim (λ q. rw (acts-new (s .acts) 0 (size plan 0 - 1) q) refl) (λ q. absurd (omega (arith, q .0, size-range plan ok 0 z)))
             (acted (s .acts) (course-kept t .closed .bound) 0 (size plan 0 - 1) z last)

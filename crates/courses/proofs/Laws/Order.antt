@@ -1,7 +1,6 @@
 -- The order of the rows of a course that has ended: each action comes so many rounds after all that it must follow as it takes turns, so
 -- that no chain of actions takes more turns than there are rounds; and, where the course is steady, the rows keep the rules of a schedule.
 --   costs f l == how many turns the actions of a list take
--- Assumes nothing.
 use Prim.Native.Nat.{ℕ, suc, _+_, _-_, _≤_, _<_}
 use mathlib.Core.Path.{_≡_, refl, ap, sym, _∙_}
 use mathlib.Core.Logic.{_⊎_, inl, inr, ⊎-elim}
@@ -62,17 +61,18 @@ by-place p x y s (next a b) = next a b
 by-place p x y s (born o z q) = born o z (sym (ap (λ z. z .spawn) (s .is)) ∙ q)
 by-place p x y s (joined o a q) = joined o a (sym (ap (λ z. z .join) (s .is)) ∙ q)
 
-module _ (e : Terms) (ok : Accepted (e .plan)) {r idle k : ℕ} {b : ℕ → ℕ} {c : Core} (t : Course e r idle k b c) (ended : size (e .plan) 0 ≤ nextIn c 0) where
+module _ (e : Terms) (ok : Accepted (e .plan)) {r idle k : ℕ} {b : ℕ → ℕ} {c : Core} (t : Course e r idle k b c)
+    (ended : size (e .plan) 0 ≤ nextIn c 0) where
   open Terms e using (plan, cost, workers, steady)
 
-  done : (x : Placed) → F.Acts plan x → x .position < nextIn c (x .job)
-  done x u = course-all e ok t ended (x .job) (x .position) (u .known) (u .within)
+  done : (j i : ℕ) → j < length plan → i < size plan j → i < nextIn c j
+  done = course-all e ok t ended
 
   -- every row is of a round from 1 to r, and of one of the workers
   pub course-row : (h : ℕ) → h < total plan → Done workers r k (getD (c .rows) h noRow)
   course-row h l =
       let q = locate plan h l in
-      rw (q .place) (course-kept e ok t .done (q .job) (q .position) (q .known) (course-all e ok t ended (q .job) (q .position) (q .known) (q .within)))
+      rw (q .place) (course-kept e ok t .done (q .job) (q .position) (q .known) (done (q .job) (q .position) (q .known) (q .within)))
 
   -- all that an action must follow is done before the rounds of its turns
   pub course-later : (x y : Placed) → Member x (placed plan) → Member y (placed plan) → T (mustFollow plan x y)
@@ -83,15 +83,15 @@ module _ (e : Terms) (ok : Accepted (e .plan)) {r idle k : ℕ} {b : ℕ → ℕ
       omega (
         arith,
         ap cost (u .is),
-        course-kept e ok t .later (x .job) (x .position) (y .job) (y .position) (u .known) (done x u)
-            (v .known) (v .within) (by-place plan x y v (follows-of plan x y f)) .1,
+        course-kept e ok t .later (x .job) (x .position) (u .known) (done (x .job) (x .position) (u .known) (u .within))
+            (y .job) (y .position) (v .known) (v .within) (by-place plan x y v (follows-of plan x y f)) .1,
       )
 
   -- the turns of a chain come one after the other
   rises : (x : Placed) (l : List Placed) → Chain plan (x ∷ l) → rowOf plan (c .rows) x .round + costs cost l ≤ r
   rises x [] m =
       let u = member-acts plan x m in
-      omega (arith, course-kept e ok t .done (x .job) (x .position) (u .known) (done x u) .latest)
+      omega (arith, course-kept e ok t .done (x .job) (x .position) (u .known) (done (x .job) (x .position) (u .known) (u .within)) .latest)
   rises x (y ∷ l) m = omega (arith, rises y l (m .2), course-later y x (chain-head plan y l (m .2)) (m .0) (m .1))
 
   -- so there are no fewer rounds than a chain takes turns
@@ -103,7 +103,7 @@ module _ (e : Terms) (ok : Accepted (e .plan)) {r idle k : ℕ} {b : ℕ → ℕ
         arith,
         ap cost (u .is),
         rises x l m,
-        course-kept e ok t .worth (x .job) (x .position) (u .known) (done x u) .1,
+        course-kept e ok t .worth (x .job) (x .position) (u .known) (done (x .job) (x .position) (u .known) (u .within)) .1,
       )
 
   -- the last round is in the rows
@@ -112,11 +112,12 @@ module _ (e : Terms) (ok : Accepted (e .plan)) {r idle k : ℕ} {b : ℕ → ℕ
   course-last =
       let z = jobs-range plan ok .0 in
       let within : size plan 0 - 1 < size plan 0 = omega (arith, size-range plan ok 0 z) in
-      let here : place plan 0 (size plan 0 - 1) < length (c .rows) = omega (arith, course-kept e ok t .long, place-below plan 0 (size plan 0 - 1) z within) in
+      let last = size plan 0 - 1 in
+      let here : place plan 0 last < length (c .rows) = omega (arith, course-kept e ok t .long, place-below plan 0 last z within) in
       omega (
         arith,
         rounds-most (c .rows) (λ h l. course-row h (omega (arith, course-kept e ok t .long)) .latest),
-        largest-above (λ a. a .round) (c .rows) (rowIn plan c 0 (size plan 0 - 1)) (member-at (c .rows) noRow (place plan 0 (size plan 0 - 1)) here),
+        largest-above (λ a. a .round) (c .rows) (rowIn plan c 0 last) (member-at (c .rows) noRow (place plan 0 last) here),
         course-ended e ok t ended,
       )
     where
@@ -133,8 +134,9 @@ module _ (e : Terms) (ok : Accepted (e .plan)) {r idle k : ℕ} {b : ℕ → ℕ
         let u = member-acts plan x m in
         let v = member-acts plan y n in
         ⊎-elim inl (λ h. inr (omega (arith, ap cost (v .is))))
-        (course-calm e ok calm t .apart (x .job) (x .position) (y .job) (y .position) (u .known) (done x u)
-        (v .known) (done y v) f g)
+        (course-calm e ok calm t .apart (x .job) (x .position) (y .job) (y .position)
+        (u .known) (done (x .job) (x .position) (u .known) (u .within))
+        (v .known) (done (y .job) (y .position) (v .known) (v .within)) f g)
 
   -- where every action takes one turn
   module _ (one : (x : Placed) → cost x ≡ 1) where
@@ -155,8 +157,9 @@ module _ (e : Terms) (ok : Accepted (e .plan)) {r idle k : ℕ} {b : ℕ → ℕ
           let g′ = rw (x .place, y .place) at g in
           ⊎-elim (λ q. x .place ∙ ap (place plan (x .job)) (q .1) ∙ ap (λ j. place plan j (y .position)) (q .0) ∙ sym (y .place))
           (λ q. absurd (omega (arith, one (act plan (y .job) (y .position)))))
-          (course-calm e ok calm t .apart (x .job) (x .position) (y .job) (y .position) (x .known) (course-all e ok t ended (x .job) (x .position) (x .known) (x .within))
-          (y .known) (course-all e ok t ended (y .job) (y .position) (y .known) (y .within)) g′ (le-of-eq f′))
+          (course-calm e ok calm t .apart (x .job) (x .position) (y .job) (y .position)
+          (x .known) (done (x .job) (x .position) (x .known) (x .within))
+          (y .known) (done (y .job) (y .position) (y .known) (y .within)) g′ (le-of-eq f′))
 
       -- the rows keep the rules of a schedule
       pub course-keeps : T (keeps plan workers (c .rows))
@@ -180,11 +183,13 @@ module _ (e : Terms) (ok : Accepted (e .plan)) {r idle k : ℕ} {b : ℕ → ℕ
           none k h l m z =
               let x = getD (c .rows) k noRow in
               let y = getD (c .rows) h noRow in
-              let q : k ≡ h = course-alone k h (omega (arith, long)) (omega (arith, long)) (eqb→eq (x .round) (y .round) (both-left (eqb (x .round) (y .round)) _ z))
+              let q : k ≡ h = course-alone k h (omega (arith, long)) (omega (arith, long))
+              (eqb→eq (x .round) (y .round) (both-left (eqb (x .round) (y .round)) _ z))
               (eqb→eq (x .worker) (y .worker) (both-right (eqb (x .round) (y .round)) _ z)) in
               omega arith
 
-          order : (k h : ℕ) → k < length (placed plan) → h < length (placed plan) → T (rule (getD (placed plan) k noPlaced) (getD (placed plan) h noPlaced))
+          order : (k h : ℕ) → k < length (placed plan) → h < length (placed plan)
+              → T (rule (getD (placed plan) k noPlaced) (getD (placed plan) h noPlaced))
           order k h l m =
               let x = getD (placed plan) k noPlaced in
               let y = getD (placed plan) h noPlaced in

@@ -2,7 +2,6 @@
 --   Past e c r w l == l are those counts for the turn of worker w in round r, as the rows of the later core c tell it
 --   Moment p c a   == row a stands for the start, or it is the row of an action that is done
 --   Peaked e c     == the peak of the core c is the weight of its past at such a moment
--- Assumes nothing.
 use Prim.Native.Nat.{ℕ, suc, _≤_, _<_}
 use mathlib.Core.Path.{_≡_, refl, ap, sym, _∙_}
 use mathlib.Core.Logic.{_⊎_, inl, inr, ⊎-elim, by-cases}
@@ -25,7 +24,8 @@ use Rattle.courses.specs.Living.{notAfter}
 use Rattle.lines.proofs.Laws.Shape.{Closed}
 use Rattle.lines.proofs.Laws.Start.{none-closed}
 use Rattle.courses.proofs.Laws.PlanShape.{shape}
-use Rattle.courses.proofs.Laws.Course.{Core, nextIn, spentIn, rowIn, Terms, Begins, Works, Ends, acted, acts-kept, Course, begins, next-round, rests, works, ends}
+use Rattle.courses.proofs.Laws.Course.{Core, nextIn, spentIn, rowIn, acted, acts-kept, Terms, Begins, Works, Ends}
+use Rattle.courses.proofs.Laws.Course.{Course, begins, next-round, rests, works, ends}
 use Rattle.courses.proofs.Laws.Start.{none-weight}
 use Rattle.courses.proofs.Laws.Kept.{Done, Kept, course-kept}
 
@@ -103,7 +103,8 @@ module _ (e : Terms) where
   module _ (ok : Accepted plan) (grows : (r r′ : ℕ) → r ≤ r′ → bound r ≤ bound r′) where
     -- a turn that finishes an action
     module _ {r m k j : ℕ} {b : ℕ → ℕ} {c c′ : Core} (t : Course e r m k b c) (mine : b k ≡ suc j)
-        (paid : suc (spentIn c j) ≡ cost (act plan j (nextIn c j))) (s : Ends plan r k j c c′) (light : weight plan (c′ .next) ≤ bound r) where
+        (paid : suc (spentIn c j) ≡ cost (act plan j (nextIn c j))) (s : Ends plan r k j c c′)
+        (light : weight plan (c′ .next) ≤ bound r) where
       o : Kept e r k b c
       o = course-kept e ok t
 

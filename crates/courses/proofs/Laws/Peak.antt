@@ -1,6 +1,5 @@
 -- The weights and the peak of a course that has ended, read off the plan and the rows alone: no weight is above the bound of its round,
 -- the largest is the peak, and the peak is at least S1.
--- Assumes nothing.
 use Prim.Native.Nat.{ℕ, zero, suc, _+_, _-_, _≤_, _<_, max}
 use mathlib.Core.Path.{_≡_, refl, ap, _∙_}
 use mathlib.Core.Logic.{inl, inr, by-cases}
@@ -58,8 +57,8 @@ path-living p ok l closed j h b s =
     rw (weight-held p l, path-same p ok j h)
     (Weight.path-held (shape p) (shape-valid p ok) (λ j. getD l j 0) closed j (record { below = h; begun = b; left = s }))
 
-module _ (e : Terms) (ok : Accepted (e .plan)) (grows : (r r′ : ℕ) → r ≤ r′ → e .bound r ≤ e .bound r′) {r idle k : ℕ} {b : ℕ → ℕ} {c : Core}
-    (t : Course e r idle k b c) (ended : size (e .plan) 0 ≤ nextIn c 0) where
+module _ (e : Terms) (ok : Accepted (e .plan)) (grows : (r r′ : ℕ) → r ≤ r′ → e .bound r ≤ e .bound r′)
+    {r idle k : ℕ} {b : ℕ → ℕ} {c : Core} (t : Course e r idle k b c) (ended : size (e .plan) 0 ≤ nextIn c 0) where
   open Terms e using (plan, bound)
 
   module _ {r′ w′ : ℕ} {u : List ℕ} (past : Past e c r′ w′ u) where
@@ -72,10 +71,11 @@ module _ (e : Terms) (ok : Accepted (e .plan)) (grows : (r r′ : ℕ) → r ≤
     lives-read : (j : ℕ) → j < length plan → livesAfter plan (c .rows) r′ w′ j ≡ living plan u j
     unfolding livesAfter living spawned
     lives-read j h =
-        lives-same (eqb j 0) (doneBy plan (c .rows) r′ w′ (parent plan j) (spawnAt plan j)) (ltb (spawnAt plan j) (getD u (parent plan j) 0))
-        (doneBy plan (c .rows) r′ w′ j (size plan j - 1)) (ltb (getD u j 0) (size plan j)) spawns ends
+        lives-same (eqb j 0) (doneBy plan (c .rows) r′ w′ (parent plan j) (spawnAt plan j))
+        (ltb (spawnAt plan j) (getD u (parent plan j) 0)) (doneBy plan (c .rows) r′ w′ j (size plan j - 1)) (ltb (getD u j 0) (size plan j)) spawns ends
       where
-        spawns : (T (eqb j 0) → ⊥) → doneBy plan (c .rows) r′ w′ (parent plan j) (spawnAt plan j) ≡ ltb (spawnAt plan j) (getD u (parent plan j) 0)
+        spawns : (T (eqb j 0) → ⊥)
+            → doneBy plan (c .rows) r′ w′ (parent plan j) (spawnAt plan j) ≡ ltb (spawnAt plan j) (getD u (parent plan j) 0)
         spawns f =
             let g : 1 ≤ j = by-cases (decLe 1 j) (λ g. g) (λ g. let z : j ≡ 0 = omega arith in absurd (f (rw z (eqb-refl 0)))) in
             done-read (parent plan j) (spawnAt plan j) (omega (arith, older plan ok j g h)) (spawned-there plan ok j g h .0)
@@ -87,10 +87,12 @@ module _ (e : Terms) (ok : Accepted (e .plan)) (grows : (r r′ : ℕ) → r ≤
         ends =
             same-test (not (doneBy plan (c .rows) r′ w′ j (size plan j - 1))) (ltb (getD u j 0) (size plan j))
             (λ q. by-cases (decLe (size plan j) (getD u j 0))
-            (λ z. absurd (T-not (doneBy plan (c .rows) r′ w′ j (size plan j - 1)) q (past .done j (size plan j - 1) h (omega (arith, last)) .1)))
+            (λ z. absurd (T-not (doneBy plan (c .rows) r′ w′ j (size plan j - 1)) q
+            (past .done j (size plan j - 1) h (omega (arith, last)) .1)))
             (λ z. lt→ltb (getD u j 0) (size plan j) (omega arith)))
             (λ q. not-T (doneBy plan (c .rows) r′ w′ j (size plan j - 1))
-            (λ z. omega (arith, ltb→lt (getD u j 0) (size plan j) q, past .every j (size plan j - 1) h (course-all e ok t ended j (size plan j - 1) h last) z)))
+            (λ z. let d = course-all e ok t ended j (size plan j - 1) h last in
+            omega (arith, ltb→lt (getD u j 0) (size plan j) q, past .every j (size plan j - 1) h d z)))
 
     -- the weight that the rows tell is that of a past
     weight-read : weightAfter plan (c .rows) r′ w′ ≡ weight plan u
@@ -110,7 +112,9 @@ module _ (e : Terms) (ok : Accepted (e .plan)) (grows : (r r′ : ℕ) → r ≤
 
   pub course-peak : c .peak ≡ peakOf plan (c .rows)
   unfolding peakOf
-  course-peak = omega (arith, peak-above 0 0, largest-within at (c .rows) (c .peak) (λ a m. peak-above (a .round) (a .worker)), reached (m .when))
+  course-peak =
+      let most = largest-within at (c .rows) (c .peak) (λ a m. peak-above (a .round) (a .worker)) in
+      omega (arith, peak-above 0 0, reached (m .when))
     where
       at : Row → ℕ
       at a = weightAfter plan (c .rows) (a .round) (a .worker)
@@ -157,7 +161,7 @@ module _ (e : Terms) (ok : Accepted (e .plan)) (grows : (r r′ : ℕ) → r ≤
         arith,
         by-then (rowIn plan c x 0) (a .round) (a .worker) q .0,
         course-kept e ok t .worth x 0 h l .0,
-        course-kept e ok t .later x 0 (parent plan x) (spawnAt plan x) h l known (there .0) (born one refl (there .1)) .1,
+        course-kept e ok t .later x 0 h l (parent plan x) (spawnAt plan x) known (there .0) (born one refl (there .1)) .1,
       ))
 
   pub peak-least : heaviest plan ≤ c .peak

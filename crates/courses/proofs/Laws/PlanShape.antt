@@ -1,6 +1,5 @@
 -- An accepted plan in the theory of lines: its shape is valid, the tests of a turn say what that theory says, and so do its weights.
 --   shape p == the plan as the theory of lines has it
--- Assumes nothing.
 use Prim.Native.Nat.{ℕ, zero, suc, _+_, _≤_, _<_}
 use mathlib.Core.Path.{_≡_, refl, ap, sym, _∙_}
 use mathlib.Core.Logic.{_≢_}
@@ -85,7 +84,9 @@ module _ (p : Plan) (next : List ℕ) where
 
   pub spawned-by : (j : ℕ) → (1 ≤ j → spawnAt p j < done (parent p j)) → T (spawned p next j)
   unfolding spawned
-  spawned-by j b = either-by (eqb j 0) _ (λ n. let f : j ≢ 0 = λ e. n (rw e (eqb-refl 0)) in lt→ltb (spawnAt p j) (done (parent p j)) (b (omega arith)))
+  spawned-by j b =
+      either-by (eqb j 0) _
+      (λ n. let f : j ≢ 0 = λ e. n (rw e (eqb-refl 0)) in lt→ltb (spawnAt p j) (done (parent p j)) (b (omega arith)))
 
   pub living-is : (j : ℕ) → j < length p → T (living p next j) → Living (shape p) done j
   unfolding living
@@ -145,13 +146,15 @@ frames-miss : (f : ℕ → Bool) (o : ℕ) (b : Job) (l : List Job) → (T (f o)
 frames-miss f o b l n = rw (frames, false-of (f o) n)
 
 -- the frames that a test picks, as a sum
-frames-sum : (f : ℕ → Bool) (o : ℕ) (l : List Job) (g : ℕ → ℕ) → ((i n : ℕ) → i < length l → o + i ≡ n → T (f n) → g i ≡ getD l i noJob .frame)
+frames-sum : (f : ℕ → Bool) (o : ℕ) (l : List Job) (g : ℕ → ℕ)
+    → ((i n : ℕ) → i < length l → o + i ≡ n → T (f n) → g i ≡ getD l i noJob .frame)
     → ((i n : ℕ) → i < length l → o + i ≡ n → (T (f n) → ⊥) → g i ≡ 0) → frames f o l ≡ sum (length l) g
 unfolding sum
 frames-sum f o [] g hit miss = refl
 frames-sum f o (b ∷ l) g hit miss =
     go (decT (f o))
-    (frames-sum f (suc o) l (λ i. g (suc i)) (λ i n h e. hit (suc i) n (omega arith) (omega arith)) (λ i n h e. miss (suc i) n (omega arith) (omega arith)))
+    (frames-sum f (suc o) l (λ i. g (suc i)) (λ i n h e. hit (suc i) n (omega arith) (omega arith))
+    (λ i n h e. miss (suc i) n (omega arith) (omega arith)))
   where
     go : Dec (T (f o)) → frames f (suc o) l ≡ sum (length l) (λ i. g (suc i)) → frames f o (b ∷ l) ≡ sum (suc (length l)) g
     go (yes t) r = omega (arith, frames-hit f o b l t, sum-front (length l) g, hit 0 o (omega arith) (omega arith) t)
@@ -192,7 +195,8 @@ module _ (p : Plan) (ok : Accepted p) where
       go (no m) r =
           let f : j ≢ 0 = λ e. m (rw e (eqb-refl 0)) in
           let o = older p ok j (omega arith) b in
-          over-child n j f ∙ ap (λ x. job p j .frame + x) (r (omega arith) (omega arith)) ∙ sym (path-child (shape p) (shape-valid p ok) j (omega arith) b)
+          over-child n j f ∙ ap (λ x. job p j .frame + x) (r (omega arith) (omega arith))
+          ∙ sym (path-child (shape p) (shape-valid p ok) j (omega arith) b)
 
   pub path-same : (j : ℕ) → j < length p → path p j ≡ Weight.path (shape p) j
   unfolding path

@@ -5,7 +5,6 @@
 --                           parent if j ended, no child of the parent lives and nobody has the parent; or none
 --   Pool p cost n r k b h c == c is the core of a pool's run of n workers in round r when the workers below k have had their turns, b are
 --                           the hands as the round began and h those by now
--- Assumes nothing.
 use Prim.Native.Nat.{ℕ, zero, suc, _*_, _≤_, _<_}
 use mathlib.Core.Path.{_≡_, refl, ap, sym, _∙_}
 use mathlib.Core.Logic.{inl, _≢_, ⊎-elim, by-cases}
@@ -108,7 +107,8 @@ module _ (p : Plan) where
           zeroth w j q = by-cases (ℕ-discrete w 0) (λ z. (z, omega (arith, ap h z))) (λ f. absurd (omega (arith, idle w f)))
 
           good : Good (shape p) (nextIn c) (lineOf h)
-          good = start-good (shape p) (shape-valid p ok) (nextIn c) (lineOf h) (s .none) (line-by (h 0) 0 root) (λ w f. ap lineIn (idle w f))
+          good =
+              start-good (shape p) (shape-valid p ok) (nextIn c) (lineOf h) (s .none) (line-by (h 0) 0 root) (λ w f. ap lineIn (idle w f))
 
       takes-manned : {b h h′ : ℕ → ℕ} {c : Core} → Takes n h h′ c → Manned n b h c → Manned 0 h′ h′ c
       takes-manned {b} {h} {h′} {c} s o = record {
@@ -124,7 +124,8 @@ module _ (p : Plan) where
         ready = λ w j q. lives′ w j q .1;
         once = λ v w j q i. ⊎-elim
             (λ z. ⊎-elim (λ y. s .apart v w j z y q i) (λ y. absurd (s .free v j z q .1 .2 w (old w j y i))) (eq-zero-or-pos (h w)))
-            (λ z. ⊎-elim (λ y. absurd (s .free w j y i .1 .2 v (old v j z q))) (λ y. o .once v w j (old v j z q) (old w j y i)) (eq-zero-or-pos (h w)))
+            (λ z. ⊎-elim (λ y. absurd (s .free w j y i .1 .2 v (old v j z q)))
+            (λ y. o .once v w j (old v j z q) (old w j y i)) (eq-zero-or-pos (h w)))
             (eq-zero-or-pos (h v));
         ahead = λ w l. refl;
         begun = λ j l. let (w, q, i) = o .begun j l in (w, s .keeps w j i, s .keeps w j i);
@@ -138,7 +139,9 @@ module _ (p : Plan) where
               go (suc i) e z = omega (arith, s .keeps w i e)
 
           lives′ : (w j : ℕ) → h′ w ≡ suc j → Living (shape p) (nextIn c) j × Ready (shape p) (nextIn c) j
-          lives′ w j q = ⊎-elim (λ z. let f = s .free w j z q .1 in (f .0, f .1)) (λ z. (o .lives w j (old w j z q), o .ready w j (old w j z q))) (eq-zero-or-pos (h w))
+          lives′ w j q =
+              ⊎-elim (λ z. let f = s .free w j z q .1 in (f .0, f .1)) (λ z. (o .lives w j (old w j z q), o .ready w j (old w j z q)))
+              (eq-zero-or-pos (h w))
 
       works-manned : {k j : ℕ} {b h : ℕ → ℕ} {c c′ : Core} → b k ≡ suc j → Works p j c c′ → Manned k b h c → Manned (suc k) b h c′
       works-manned {k} {j} mine s o = record {
@@ -149,7 +152,8 @@ module _ (p : Plan) where
         ready = rw (s .next) (o .ready);
         once = o .once;
         ahead = λ w l. o .ahead w (omega arith);
-        begun = λ x l. by-cases (ℕ-discrete x j) (λ z. rw z (k, mine, o .ahead k (omega arith) ∙ mine)) (λ z. o .begun x (omega (arith, s .others x z)));
+        begun = λ x l.
+            by-cases (ℕ-discrete x j) (λ z. rw z (k, mine, o .ahead k (omega arith) ∙ mine)) (λ z. o .begun x (omega (arith, s .others x z)));
       }
 
       module _ {r k j : ℕ} {b h h′ : ℕ → ℕ} {c c′ : Core} (mine : b k ≡ suc j) (s : Ends p r k j c c′) (t : Passes k j c c′ h h′)

@@ -1,6 +1,5 @@
 -- The space of a plan's living jobs where each that has no living child is the first of a line: one heaviest path for each line that is
 -- not empty.
--- Assumes nothing.
 use Prim.Native.Nat.{ℕ, _*_, _≤_}
 use mathlib.Core.Path.{_≡_}
 use mathlib.Core.List.{List, []}

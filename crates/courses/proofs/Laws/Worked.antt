@@ -2,7 +2,6 @@
 -- each round in which some worker has a job has one.
 --   upTo e j i == how many turns the actions of job j before position i take; price e == all actions
 --   had e c j  == the turns that were had with job j
--- Assumes nothing.
 use Prim.Native.Nat.{ℕ, zero, suc, _+_, _-_, _≤_, _<_}
 use mathlib.Core.Path.{_≡_, refl, ap, sym, _∙_}
 use mathlib.Core.Logic.{_⊎_, inl, inr, _≢_, ⊎-elim, Dec·and}
@@ -51,8 +50,11 @@ module _ (e : Terms) where
     course-worked (next-round t s h) = course-worked t
     course-worked (rests t q) = course-worked t
     course-worked (works {r} {m} {k} {j} {b} {c} {c′} t mine h s) =
-        s .turns ∙ (ap suc (course-worked t) ∙ sym (sum-suc (length plan) (had c) (had c′) j (course-kept e ok t .lives k j (omega arith) mine .below) here there))
+        s .turns ∙ (ap suc (course-worked t) ∙ sym (sum-suc (length plan) (had c) (had c′) j known here there))
       where
+        known : j < length plan
+        known = course-kept e ok t .lives k j (omega arith) mine .below
+
         here : had c′ j ≡ suc (had c j)
         here = rw (s .next) (omega (arith, s .spends))
 
@@ -84,14 +86,17 @@ module _ (e : Terms) where
         each : (j : ℕ) → j < length plan → had c j ≡ upTo j (size plan j)
         each j l =
             let d = course-done e ok t ended j l in
-            ⊎-elim (λ z. omega (arith, ap (upTo j) d)) (λ z. absurd (omega (arith, course-kept e ok t .unpaid j z))) (eq-zero-or-pos (spentIn c j))
+            ⊎-elim (λ z. omega (arith, ap (upTo j) d)) (λ z. absurd (omega (arith, course-kept e ok t .unpaid j z)))
+            (eq-zero-or-pos (spentIn c j))
 
     -- a round in which a worker has a job has a turn, once all that have one have had theirs
     course-turned : {r m k : ℕ} {b : ℕ → ℕ} {c : Core} → Course e r m k b c
         → (r ≤ suc (c .turns + m)) × (((w j : ℕ) → b w ≡ suc j → w < k) → r ≤ c .turns + m)
     course-turned (begins idle s h) = (omega arith, λ f. omega arith)
     course-turned (next-round t s (inr h)) = let i = course-turned t .1 (s .over) in (omega arith, λ f. omega arith)
-    course-turned (next-round t s (inl (h, (w, j, q)))) = let i = course-turned t .1 (s .over) in (omega arith, λ f. absurd (not-suc-le-zero (f w j q)))
+    course-turned (next-round t s (inl (h, (w, j, q)))) =
+        let i = course-turned t .1 (s .over) in
+        (omega arith, λ f. absurd (not-suc-le-zero (f w j q)))
     course-turned (rests {r} {m} {k} {b} {c} t q) = (
       course-turned t .0,
       λ f. course-turned t .1 (λ w j i. let g : w ≢ k = λ z. omega (arith, ap b z) in omega (arith, f w j i)),
@@ -117,5 +122,6 @@ module _ (e : Terms) where
         go : ((w : ℕ) × (w < workers) × ((k ≤ w) × (1 ≤ b w))) ⊎ ((w : ℕ) → w < workers → ¬ ((k ≤ w) × (1 ≤ b w))) → r ≤ price + m
         go (inl (w, l, (h, i))) = omega (arith, course-turned t .0, more w (b w - 1) h (omega arith))
         go (inr f) =
-            let all : (w j : ℕ) → b w ≡ suc j → w < k = λ w j q. lt-of-not-le (λ h. f w (course-kept e ok t .known w j q) (h, omega arith)) in
+            let all : (w j : ℕ) → b w ≡ suc j → w < k =
+            λ w j q. lt-of-not-le (λ h. f w (course-kept e ok t .known w j q) (h, omega arith)) in
             omega (arith, course-turned t .1 all, turns-most t)

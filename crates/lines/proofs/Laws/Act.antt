@@ -99,7 +99,8 @@ module _ {P : Shape} {next next′ : ℕ → ℕ} {j : ℕ} (act : Act P next ne
     lived x f g a = record {
       below = a .below;
       begun = λ o. by-cases (ℕ-discrete (parent x) j)
-          (λ e. let d : spawnAt x ≢ next j = λ s. g (cc (ok .spawns x o (a .below))) in omega (arith, acts, a .begun o, ap next e, ap next′ e))
+          (λ e. let d : spawnAt x ≢ next j = λ s. g (cc (ok .spawns x o (a .below))) in
+          omega (arith, acts, a .begun o, ap next e, ap next′ e))
           (λ h. rw (← (others (parent x) h)) (a .begun o));
       left = rw (← (others x f)) (a .left);
     }

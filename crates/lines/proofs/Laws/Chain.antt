@@ -1,5 +1,4 @@
 -- Chains of jobs.
--- Assumes nothing.
 use mathlib.Core.Path.{refl}
 use mathlib.Core.Logic.{inl, inr}
 use mathlib.Core.List.{List, [], _∷_, _++_}
@@ -38,7 +37,8 @@ module _ (P : Shape) where
   chain-front (x ∷ (y ∷ l)) r c = (c .0, c .1, chain-front (y ∷ l) r (c .2))
 
   -- so the last number is below those before it
-  pub last-low : Valid P → (l : List ℕ) (x : ℕ) → ((y : ℕ) → y ∈ l ++ (x ∷ []) → y < jobs) → Chain P (l ++ (x ∷ [])) → (y : ℕ) → y ∈ l → x < y
+  pub last-low : Valid P → (l : List ℕ) (x : ℕ) → ((y : ℕ) → y ∈ l ++ (x ∷ []) → y < jobs) → Chain P (l ++ (x ∷ []))
+      → (y : ℕ) → y ∈ l → x < y
   last-low ok [] x b c y m = absurd m
   last-low ok (z ∷ l) x b c y (inl e) = rw e (falls ok z (l ++ (x ∷ [])) b c x (in-back l (x ∷ []) x (inl refl)))
   last-low ok (z ∷ l) x b c y (inr m) = last-low ok l x (λ u i. b u (inr i)) (chain-tail z (l ++ (x ∷ [])) c) y m

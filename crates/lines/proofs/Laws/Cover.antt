@@ -1,5 +1,4 @@
 -- Every living job is an ancestor of the first job of some line, or that job itself.
--- Assumes nothing.
 use mathlib.Core.Path.{_≡_, refl, sym, ap, _∙_}
 use mathlib.Core.Logic.{_⊎_, inl, inr, Dec·and}
 use mathlib.Core.List.{List, _∷_}

@@ -1,5 +1,4 @@
 -- In a good state every living job that has no living child is the first of a line.
--- Assumes nothing.
 use mathlib.Core.Path.{_≡_, refl}
 use mathlib.Core.Logic.{_⊎_, inl, inr}
 use mathlib.Core.List.{List, [], _∷_}

@@ -1,5 +1,4 @@
 -- Lines that are handed on whole, to whoever had none: the state stays good.
--- Assumes nothing.
 use mathlib.Core.Path.{_≡_, refl, sym, ap, _∙_}
 use mathlib.Core.Logic.{_⊎_, inl, inr, _≢_, by-cases, Dec·and}
 use mathlib.Core.List.{List, [], _∷_}

@@ -1,5 +1,4 @@
 -- A plan of a fully strict computation, the states of its run by lines of jobs, and what holds of each state.
--- Assumes nothing.
 use mathlib.Core.Path.{_≡_}
 use mathlib.Core.Logic.{_≢_, Dec·and}
 use mathlib.Core.List.{List, [], _∷_}

@@ -1,5 +1,4 @@
 -- The first state is good: nothing is done, and one worker holds the root.
--- Assumes nothing.
 use mathlib.Core.Path.{_≡_}
 use mathlib.Core.Logic.{_⊎_, inl, inr, _≢_, by-cases}
 use mathlib.Core.List.{List, [], _∷_}

@@ -1,5 +1,4 @@
 -- A theft keeps a state good: the last job of a line becomes the line of a worker that had none.
--- Assumes nothing.
 use mathlib.Core.Path.{_≡_, refl, sym, _∙_}
 use mathlib.Core.Logic.{inl, _≢_, by-cases, ⊎-elim}
 use mathlib.Core.List.{List, [], _∷_, _++_}

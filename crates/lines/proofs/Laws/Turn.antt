@@ -10,7 +10,8 @@ use native.Mathlib.Decide.{ℕ-discrete}
 use Rattle.lines.proofs.Laws.Shape.{Shape, Valid, Living, Ready, Chain, Good}
 use Rattle.lines.proofs.Laws.Member.{_∈_, put, put-new, put-old, put-from}
 use Rattle.lines.proofs.Laws.Chain.{chain-put, falls}
-use Rattle.lines.proofs.Laws.Act.{Goes, goes?, Wakes, wakes?, Act, stays, ready-stays, goes-lives, acted-closed, was-ready, stalled, lived, parent-stays, sender, born-is, not-born, born-good, spawner-goes}
+use Rattle.lines.proofs.Laws.Act.{Act, Goes, goes?, Wakes, wakes?, stays, ready-stays, goes-lives, acted-closed, was-ready, lived}
+use Rattle.lines.proofs.Laws.Act.{stalled, sender, parent-stays, born-is, not-born, born-good, spawner-goes}
 
 module _ (P : Shape) where
   open Shape P using (parent, child)

@@ -1,5 +1,4 @@
 -- The frames of the living jobs weigh at most as much as one path of the tree for each line.
--- Assumes nothing.
 use mathlib.Core.Path.{_≡_, refl, sym, ap, _∙_}
 use mathlib.Core.List.{List, [], _∷_}
 use Prim.Native.Nat.{ℕ, zero, suc, _+_, _*_, _≤_, _<_, zero-le}
@@ -10,7 +9,8 @@ use Rattle.lines.proofs.Laws.Member.{not-nil}
 use Rattle.lines.proofs.Laws.Shape.{Shape, Valid, Living, living?, Closed, Leaves}
 use Rattle.lines.proofs.Laws.Cover.{Above, self, up, cover}
 use Rattle.lines.proofs.Laws.Progress.{parent-lives}
-use Rattle.lines.proofs.Laws.Sum.{sum, only, only-yes, sum-le, sum-add, sum-zero, sum-swap, sum-term, sum-mono, sum-bound, sum-times, sum-only}
+use Rattle.lines.proofs.Laws.Sum.{sum, only, only-yes, sum-le, sum-add, sum-zero, sum-swap, sum-term, sum-mono, sum-bound}
+use Rattle.lines.proofs.Laws.Sum.{sum-times, sum-only}
 
 -- whether a line is not empty, as a number
 unfoldable pub full : List ℕ → ℕ
@@ -129,7 +129,8 @@ module _ (P : Shape) where
       pub held-reach : held next ≤ sum size (λ w. reach (line w))
       unfolding held only
       held-reach =
-          le-trans (sum-le jobs (λ x. only (living? P next x) (frame x)) (λ x. sum size (λ w. part (line w) x)) (λ x b. each x (living? P next x)))
+          le-trans (sum-le jobs (λ x. only (living? P next x) (frame x)) (λ x. sum size (λ w. part (line w) x))
+          (λ x b. each x (living? P next x)))
           (le-trans (le-of-eq (sum-swap jobs size (λ x w. part (line w) x)))
           (sum-le size (λ w. sum jobs (part (line w))) (λ w. reach (line w)) (λ w b. parts (line w))))
         where

@@ -20,7 +20,7 @@ use Rattle.runs.specs.Turn.{wakes, woken, Seat, takeBottom, seatAfter, t
 pub use Rattle.runs.specs.Parts.{afterOf, aboveOf}
 use Rattle.lines.proofs.Laws.Shape.{Living, Ready, Chain}
 use Rattle.lines.proofs.Laws.Member.{put}
-use Rattle.lines.proofs.Laws.Act.{Goes, goes?, Wakes, wakes?, Act, wakes-iff, stalled}
+use Rattle.lines.proofs.Laws.Act.{Goes, goes?, Wakes, wakes?, Act, wakes-iff, stalled, sender}
 use Rattle.lines.proofs.Laws.Turn.{turnLine, turn-spawn, turn-none, turn-good}
 use Rattle.plan.proofs.Laws.Lists.{both-intro, both-left, both-right}
 use Rattle.plan.specs.Rules.{Accepted}
@@ -86,7 +86,8 @@ module _ (p : Plan) (after : List ℕ) (j i : ℕ) (d : List ℕ) where
 abbrev pub seatOf : Plan → State → ℕ → ℕ → Seat
 seatOf p s w j = seatAfter p (afterOf s j) j (nextOf s j) (aboveOf p s w j)
 
-module _ (p : Plan) (ok : Accepted p) (n : ℕ) (most : n ≤ 16) (s : State) (sound : Sound p n s) (w j : ℕ) (holds : workerOf s w ≡ Holding j) where
+module _ (p : Plan) (ok : Accepted p) (n : ℕ) (most : n ≤ 16) (s : State) (sound : Sound p n s) (w j : ℕ)
+    (holds : workerOf s w ≡ Holding j) where
   abbrev pub next′ : ℕ → ℕ
   next′ k = getD (afterOf s j) k 0
 
@@ -133,7 +134,7 @@ module _ (p : Plan) (ok : Accepted p) (n : ℕ) (most : n ≤ 16) (s : State) (s
   pub wakes-by : Wakes (shape p) (nextOf s) next′ j → T (wakes p (s .next) (afterOf s j) j (nextOf s j))
   unfolding wakes
   wakes-by k =
-      let o = join-target p ok j (nextOf s j) (nextOf s (parent p j)) (me .0 .below) (me .0 .left) (k .sends) .0 in
+      let o = sender action-of (shape-valid p ok) k in
       let b = parent-begun o in
       let t = wakes-iff action-of (shape-valid p ok) o .0 k in
       let before = ready p (s .next) (parent p j) in
@@ -171,8 +172,8 @@ module _ (p : Plan) (ok : Accepted p) (n : ℕ) (most : n ≤ 16) (s : State) (s
 
       above : aboveOf p s w j ≡ up
       above =
-          to-put (wakes p (s .next) (afterOf s j) j (nextOf s j)) (wakes? (shape p) (nextOf s) next′ j) wakes-is wakes-by (parent p j) (dequeOf s w)
-          (λ b. woken b (parent p j) (dequeOf s w)) refl refl
+          to-put (wakes p (s .next) (afterOf s j) j (nextOf s j)) (wakes? (shape p) (nextOf s) next′ j) wakes-is wakes-by
+          (parent p j) (dequeOf s w) (λ b. woken b (parent p j) (dequeOf s w)) refl refl
 
       go : (x : ℕ) → action p j (nextOf s j) .spawn ≡ x → lineAt (seatOf p s w j) ≡ turnLine (shape p) (nextOf s) next′ j (dequeOf s w)
       go (suc c) e =
@@ -180,8 +181,8 @@ module _ (p : Plan) (ok : Accepted p) (n : ℕ) (most : n ≤ 16) (s : State) (s
           ∙ sym (turn-spawn (shape p) (nextOf s) next′ j (dequeOf s w) c e)
       go zero e =
           ap lineAt (seat-none p (afterOf s j) j (nextOf s j) (aboveOf p s w j) e)
-          ∙ to-put (both (ltb (suc (nextOf s j)) (size p j)) (ready p (afterOf s j) j)) (goes? (shape p) next′ j) goes-is goes-by j (aboveOf p s w j)
-          (λ b. lineAt (stay b j (aboveOf p s w j))) refl (bottom-line (aboveOf p s w j))
+          ∙ to-put (both (ltb (suc (nextOf s j)) (size p j)) (ready p (afterOf s j) j)) (goes? (shape p) next′ j) goes-is goes-by
+          j (aboveOf p s w j) (λ b. lineAt (stay b j (aboveOf p s w j))) refl (bottom-line (aboveOf p s w j))
           ∙ ap (put (goes? (shape p) next′ j) j) above ∙ sym (turn-none (shape p) (nextOf s) next′ j (dequeOf s w) e)
 
   pub turn-sound : (r : ℕ) → Sound p n (turn p r w j s)
