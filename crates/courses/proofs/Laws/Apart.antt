@@ -39,7 +39,8 @@ module _ (e : Terms) where
     next-calm o s calm = record {
       apart = a .apart;
       turns = λ w j l q.
-          ⊎-elim (λ z h m y d f. omega (arith, o .done h m y d .latest)) (λ z. had w j (s .stays calm w j q z) z) (eq-zero-or-pos (spentIn c j));
+          ⊎-elim (λ z h m y d f. omega (arith, o .done h m y d .latest)) (λ z. had w j (s .stays calm w j q z) z)
+          (eq-zero-or-pos (spentIn c j));
       taken = λ w j l. absurd (not-suc-le-zero l);
     }
 

@@ -7,7 +7,7 @@ use Prim.Native.Nat.{ℕ, suc, _+_, _-_, _≤_, _<_}
 use mathlib.Core.Path.{_≡_, refl, ap, _∙_}
 use mathlib.Core.Logic.{_⊎_, inl, inr, _≢_, ⊎-elim, by-cases}
 use native.Mathlib.Omega.{arith}
-use native.Mathlib.Nat.{not-suc-le-zero, eq-zero-or-pos}
+use native.Mathlib.Nat.{eq-zero-or-pos}
 use native.Mathlib.Decide.{ℕ-discrete, decLe}
 use lib.ListN.{length, getD}
 use Rattle.plan.specs.Plan.{size, total}
@@ -20,8 +20,8 @@ use Rattle.lines.proofs.Laws.Start.{none-closed}
 use Rattle.lines.proofs.Laws.Progress
 use Rattle.lines.proofs.Laws.Act.{Act, acted-closed, stays}
 use Rattle.courses.proofs.Laws.PlanShape.{shape, shape-valid}
-use Rattle.courses.proofs.Laws.Course.{Core, nextIn, spentIn, rowIn, New, Old, acted, acts-new, acts-kept, Terms, Begins, Hands, Works, Ends}
-use Rattle.courses.proofs.Laws.Course.{Course, begins, next-round, rests, works, ends}
+use Rattle.courses.proofs.Laws.Course.{Core, nextIn, spentIn, rowIn, New, Old, acted, acts-new, acts-kept}
+use Rattle.courses.proofs.Laws.Course.{Terms, Begins, Hands, Works, Ends, Course, begins, next-round, rests, works, ends}
 
 pub record Done (n r k : ℕ) (a : Row) : Type 0 where
   pub first : 1 ≤ a .round

@@ -1,6 +1,10 @@
 -- The order of the rows of a course that has ended: each action comes so many rounds after all that it must follow as it takes turns, so
 -- that no chain of actions takes more turns than there are rounds; and, where the course is steady, the rows keep the rules of a schedule.
---   costs f l == how many turns the actions of a list take
+--   costs f l    == how many turns the actions of a list take
+--   course-later == an action's turns come after the rounds of all that it must follow
+--   course-chain == there are no fewer rounds than a chain takes turns
+--   course-apart == where the course is steady, no worker works on two actions at a time
+--   course-keeps == where besides every action takes one turn, the rows keep the rules of a schedule
 use Prim.Native.Nat.{ℕ, suc, _+_, _-_, _≤_, _<_}
 use mathlib.Core.Path.{_≡_, refl, ap, sym, _∙_}
 use mathlib.Core.Logic.{_⊎_, inl, inr, ⊎-elim}

@@ -1,5 +1,8 @@
--- The weights and the peak of a course that has ended, read off the plan and the rows alone: no weight is above the bound of its round,
--- the largest is the peak, and the peak is at least S1.
+-- The weights and the peak of a course that has ended, read off the plan and the rows alone.
+--   course-space == no weight is above the bound of its round
+--   course-peak  == the peak is the largest weight that the rows tell
+--   peak-least   == the peak is at least the weight of the heaviest path
+--   peak-most    == the peak is at most what bounds the weight in every round
 use Prim.Native.Nat.{ℕ, zero, suc, _+_, _-_, _≤_, _<_, max}
 use mathlib.Core.Path.{_≡_, refl, ap, _∙_}
 use mathlib.Core.Logic.{inl, inr, by-cases}
@@ -72,7 +75,8 @@ module _ (e : Terms) (ok : Accepted (e .plan)) (grows : (r r′ : ℕ) → r ≤
     unfolding livesAfter living spawned
     lives-read j h =
         lives-same (eqb j 0) (doneBy plan (c .rows) r′ w′ (parent plan j) (spawnAt plan j))
-        (ltb (spawnAt plan j) (getD u (parent plan j) 0)) (doneBy plan (c .rows) r′ w′ j (size plan j - 1)) (ltb (getD u j 0) (size plan j)) spawns ends
+        (ltb (spawnAt plan j) (getD u (parent plan j) 0)) (doneBy plan (c .rows) r′ w′ j (size plan j - 1)) (ltb (getD u j 0) (size plan j))
+        spawns ends
       where
         spawns : (T (eqb j 0) → ⊥)
             → doneBy plan (c .rows) r′ w′ (parent plan j) (spawnAt plan j) ≡ ltb (spawnAt plan j) (getD u (parent plan j) 0)

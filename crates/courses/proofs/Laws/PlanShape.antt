@@ -1,5 +1,9 @@
 -- An accepted plan in the theory of lines: its shape is valid, the tests of a turn say what that theory says, and so do its weights.
---   shape p == the plan as the theory of lines has it
+--   shape p     == the plan as the theory of lines has it
+--   done p l k  == how many actions of job k are done, by the list l of these counts
+--   X-is, X-by  == where the test X of the plan passes its meaning in the theory of lines holds, and the other way round
+--   weight-held == the weight by the plan is the weight held in the theory of lines
+--   path-same   == so is the weight of a path
 use Prim.Native.Nat.{ℕ, zero, suc, _+_, _≤_, _<_}
 use mathlib.Core.Path.{_≡_, refl, ap, sym, _∙_}
 use mathlib.Core.Logic.{_≢_}

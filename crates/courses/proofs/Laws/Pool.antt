@@ -15,7 +15,7 @@ use native.Mathlib.Nat.{le-refl, le-trans, mul-le-mul, eq-zero-or-pos}
 use native.Mathlib.Decide.{ℕ-discrete}
 use Rattle.plan.specs.Plan.{Plan, Placed, size, action, parent}
 use Rattle.plan.specs.Rules.{Accepted}
-use Rattle.plan.proofs.Laws.Valid.{jobs-range, size-range, older}
+use Rattle.plan.proofs.Laws.Valid.{jobs-range, size-range}
 use Rattle.plan_measure.specs.Measure.{heaviest}
 use Rattle.plan_measure.proofs.Laws.Follows.{act}
 use Rattle.courses.specs.Ready.{weight}
@@ -153,7 +153,8 @@ module _ (p : Plan) where
         once = o .once;
         ahead = λ w l. o .ahead w (omega arith);
         begun = λ x l.
-            by-cases (ℕ-discrete x j) (λ z. rw z (k, mine, o .ahead k (omega arith) ∙ mine)) (λ z. o .begun x (omega (arith, s .others x z)));
+            by-cases (ℕ-discrete x j) (λ z. rw z (k, mine, o .ahead k (omega arith) ∙ mine))
+            (λ z. o .begun x (omega (arith, s .others x z)));
       }
 
       module _ {r k j : ℕ} {b h h′ : ℕ → ℕ} {c c′ : Core} (mine : b k ≡ suc j) (s : Ends p r k j c c′) (t : Passes k j c c′ h h′)

@@ -1,5 +1,6 @@
 -- The space of a plan's living jobs where each that has no living child is the first of a line: one heaviest path for each line that is
 -- not empty.
+--   leaves-space == the weight is at most the number of lines that are not empty times the weight of the heaviest path
 use Prim.Native.Nat.{ℕ, _*_, _≤_}
 use mathlib.Core.Path.{_≡_}
 use mathlib.Core.List.{List, []}

@@ -1,4 +1,5 @@
 -- Where nothing is done just job 0 lives, and its frame is all the weight.
+--   none-weight == the weight where nothing is done is the frame of job 0
 use Prim.Native.Nat.{ℕ, suc, _+_, _≤_, _<_}
 use mathlib.Core.Path.{_≡_, refl}
 use mathlib.Core.Bool.{Bool, true, false}

@@ -1,7 +1,7 @@
 -- One action of a job: what lives and is ready after it, by what lived and was ready before it, and that what is done stays closed.
 --   Act P next next′ j   == job j, which lives and is ready, does its next action; next counts what is done before it, next′ after it
 --   Goes P next j        == job j has an action left, and its next one is ready
---   Wakes P next next′ j == the action's join is for the next action of j's parent, and is the last that this waits for
+--   Wakes P next next′ j == the action's join is for the next action of j's parent, and is the last that this one waits for
 use mathlib.Core.Path.{_≡_, refl, ap, _∙_}
 use mathlib.Core.Logic.{_≢_, _↔_, by-cases, ⊎-elim, Dec·and, Dec·not-not}
 use Prim.Native.Nat.{ℕ, suc, _-_, _≤_, _<_}

@@ -1,4 +1,6 @@
--- Chains of jobs.
+-- Chains of jobs: their parts are chains, and their numbers fall, since a parent is older than its child.
+--   falls    == every job of a chain is below the first
+--   last-low == the last job of a chain is below the others
 use mathlib.Core.Path.{refl}
 use mathlib.Core.Logic.{inl, inr}
 use mathlib.Core.List.{List, [], _∷_, _++_}
@@ -8,7 +10,7 @@ use Rattle.lines.proofs.Laws.Member.{_∈_, in-back, put}
 use Rattle.lines.proofs.Laws.Shape.{Shape, Valid, Chain}
 
 module _ (P : Shape) where
-  open Shape P using (jobs, parent)
+  open Shape P using (jobs)
 
   chain-tail : (h : ℕ) (l : List ℕ) → Chain P (h ∷ l) → Chain P l
   chain-tail h [] c = tt

@@ -1,4 +1,8 @@
--- Every living job is an ancestor of the first job of some line, or that job itself.
+-- Every living job is the first job of some line or an ancestor of one.
+--   Above P x h == h is x or descends from x
+--   Covered x   == the first job of some line is x or descends from x
+--   cover       == every living job is covered
+--   busy        == some line is not empty as long as the root lives
 use mathlib.Core.Path.{_≡_, refl, sym, ap, _∙_}
 use mathlib.Core.Logic.{_⊎_, inl, inr, Dec·and}
 use mathlib.Core.List.{List, _∷_}

@@ -1,8 +1,10 @@
 -- In a good state every living job that has no living child is the first of a line.
+--   ready-of    == a job that has no living child is ready
+--   good-leaves == a good state has its leaves first in lines
 use mathlib.Core.Path.{_≡_, refl}
 use mathlib.Core.Logic.{_⊎_, inl, inr}
 use mathlib.Core.List.{List, [], _∷_}
-use Prim.Native.Nat.{ℕ, _≤_, _<_}
+use Prim.Native.Nat.{ℕ, _≤_}
 use native.Mathlib.Nat.{lt-of-not-le}
 use native.Mathlib.Omega.{arith}
 use Rattle.lines.proofs.Laws.Shape.{Shape, Valid, Living, Ready, Chain, Lone, Leads, Leaves, Good}

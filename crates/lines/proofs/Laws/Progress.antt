@@ -1,4 +1,8 @@
 -- A run goes on until its root has ended, and then every job has.
+--   ends         == the last action of a job that has a parent sends a join, to a later action of the parent than the spawn
+--   parent-lives == the parent of a living job lives
+--   root-lives   == the root lives as long as any job
+--   all-done     == when the root has ended, every action is done
 use mathlib.Core.Path.{_≡_, sym}
 use mathlib.Core.Logic.{⊎-elim}
 use Prim.Native.Nat.{ℕ, suc, pred, _-_, _≤_, _<_}

@@ -1,4 +1,15 @@
--- A plan of a fully strict computation, the states of its run by lines of jobs, and what holds of each state.
+-- A plan of a fully strict computation and the states of its run: how many actions of each job are done, and lines of jobs.
+--   Shape              == a plan: its jobs, and of each its length, parent, spawn, frame, children and joins
+--   Valid P            == the rules that a plan keeps
+--   Living P next j    == job j was spawned and has not ended, where next j is how many actions of job j are done
+--   Ready P next j     == every join into the next action of job j was sent
+--   Closed P next      == nothing is done before what it must follow
+--   Chain P l          == each job of l, but for the last, has the one after it as its parent
+--   Heir P next x k    == k is a living child of x
+--   Lone P next x      == no child of x lives
+--   Leads line x       == x is the first of a line
+--   Leaves P next line == every living job that has no living child is the first of a line
+--   Good P next line   == what is done is closed, each line is a chain, and the living jobs that are ready stand in one line each
 use mathlib.Core.Path.{_≡_}
 use mathlib.Core.Logic.{_≢_, Dec·and}
 use mathlib.Core.List.{List, [], _∷_}

@@ -1,6 +1,8 @@
 -- A worker's turn keeps a state good.
---   turnLine P next next′ j l == the line of a worker after the next action of job j, by its line j ∷ l before it
---   Turned P next next′ j line line′ == line′ are the lines line after the turn of the worker whose line job j is the first of
+--   turnLine P next next′ j l == a worker's line after the next action of job j, where its line before is j ∷ l: the job that the
+--                                action spawned, or j if it goes on, before the parent if the action woke it, and l
+--   Turned P next next′ j line line′ == the lines line′ are line after the turn of the worker whose line begins with job j
+--   turn-good                 == a turn keeps a state good
 use mathlib.Core.Path.{_≡_, refl, ap}
 use mathlib.Core.Logic.{inl, inr, _≢_, by-cases, ⊎-elim, Dec·and}
 use mathlib.Core.List.{List, [], _∷_}

@@ -1,4 +1,9 @@
--- The frames of the living jobs weigh at most as much as one path of the tree for each line.
+-- The frames of the living jobs weigh at most as much as one path of the tree for each line that is not empty.
+--   full l           == 1 if the list l has an element, 0 if not
+--   filled size line == how many of the lines below size are not empty
+--   path P h         == the weight of the frames on the path from the root to job h
+--   reach P l        == the path of the first job of the line l, and 0 if it has none
+--   held P next      == the weight of the living jobs' frames
 use mathlib.Core.Path.{_≡_, refl, sym, ap, _∙_}
 use mathlib.Core.List.{List, [], _∷_}
 use Prim.Native.Nat.{ℕ, zero, suc, _+_, _*_, _≤_, _<_, zero-le}
