@@ -1,16 +1,20 @@
 -- What every kind of run is as far as its rows, weights and order go: rounds of turns, in which each worker works on the job that it
 -- has in that round.
---   Core             == how many actions of each job are done, how many turns its next action has had, the rows, the number of
---                       turns, and the peak
---   Terms            == the plan, how many turns each action takes, a number above every worker's, a bound on the weight in each
---                       round, and whether a job that was begun stays with its worker
---   Begins p c       == c is how a course begins
---   Hands e k b b′ c == a round begins with the hands b′ after one with the hands b in which the workers below k had their turns;
---                       b w is suc j where worker w has job j, and 0 where it has none
---   Works p j c c′   == c′ is c after a turn with job j that does not finish its next action
---   Acts, Ends p r w j c c′ == c′ is c after worker w finished the next action of job j in round r
+--   Core               == how many actions of each job are done, how many turns its next action has had, the rows, the number of turns,
+--                         and the peak
+--   New j c h i        == action i of job h is the one that job j does next
+--   Old p c c′ h i     == action i of job h was done in the core c, and has the same row in c′
+--   Terms              == the plan, how many turns each action takes, a number above every worker's, a bound on the weight in each
+--                         round, and whether a job that was begun stays with its worker
+--   Begins p c         == c is how a course begins
+--   Hands e k b b′ c   == a round begins with the hands b′ after one with the hands b in which the workers below k had their turns;
+--                         b w is suc j where worker w has job j, and 0 where it has none
+--   Paced e m m′ b     == some worker has a job by the hands b and m′ is m, or m′ is one more
+--   Works p j c c′     == c′ is c after a turn with job j that does not finish its next action
+--   Ends p r w j c c′  == c′ is c after worker w finished the next action of job j in round r
+--   Acts p r w j c c′  == what Ends says of the counts of done actions and of the rows
 --   Course e r m k b c == c is the core of a course in round r, which has the hands b, when the workers below k have had their turns;
---                       round 0 is the start, and in m of the rounds no worker had a job
+--                         round 0 is the start, and in m of the rounds no worker had a job
 use Prim.Native.Nat.{ℕ, suc, _≤_, _<_, max}
 use mathlib.Core.Path.{_≡_, ap}
 use mathlib.Core.Logic.{_⊎_, inl, inr, _≢_, by-cases}

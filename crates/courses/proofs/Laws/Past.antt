@@ -1,7 +1,11 @@
--- The past of a course: of every turn there are counts of actions done that are just those that were done by then.
---   Past e c r w l == l are those counts for the turn of worker w in round r, as the rows of the later core c tell it
+-- The past of a course: for every turn there are counts of what was done by then.
+--   not-after, by-then == the test notAfter: a row is of an earlier round, or of the same round and no later worker
+--   Past e c r w l == l counts for each job the actions that were done by the turn of worker w in round r, as the rows of the later core c
+--                     tell it
 --   Moment p c a   == row a stands for the start, or it is the row of an action that is done
 --   Peaked e c     == the peak of the core c is the weight of its past at such a moment
+--   history        == every core of a course has its past for every turn
+--   peaked         == the peak of every core of a course was reached
 use Prim.Native.Nat.{ℕ, suc, _≤_, _<_}
 use mathlib.Core.Path.{_≡_, refl, ap, sym, _∙_}
 use mathlib.Core.Logic.{_⊎_, inl, inr, ⊎-elim, by-cases}

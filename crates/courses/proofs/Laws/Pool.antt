@@ -1,15 +1,19 @@
 -- A central pool is a course, whatever the rule by which idle workers take jobs that are ready and that nobody has.
---   lineOf h w           == the job that worker w has, as a line; h w is suc j where it has job j, and 0 where it has none
---   Takes p n h h′ c     == before a round workers that have no job take living, ready jobs that nobody has
---   Passes p w j c c′ h h′ == worker w, which finished an action of job j, then has the job that this spawned, or j if it goes on, or j's
---                           parent if j ended, no child of the parent lives and nobody has the parent; or none
---   Pool p cost n r k b h c == c is the core of a pool's run of n workers in round r when the workers below k have had their turns, b are
---                           the hands as the round began and h those by now
+--   lineOf h w             == the job that worker w has, as a line; h w is suc j where it has job j, and 0 where it has none
+--   Takes p n h h′ c       == before a round workers that have no job take living, ready jobs that nobody has
+--   Has p j c c′ h x       == why a worker has job x after it finished an action of job j: the action spawned it, or it is j and goes
+--                             on, or it is j's parent, no child of which lives and which nobody had
+--   Passes p w j c c′ h h′ == worker w, which finished an action of job j, then has such a job, or none; it has the one that was spawned,
+--                             or j if it goes on; and somebody has j's parent if j ended and no child of the parent lives
+--   Pool p cost n r k b h c == c is the core of a pool's run of n workers in round r when the workers below k have had their turns; b are
+--                             the hands as the round began, and h those by now
+--   Manned p cost n k b h c == what holds of such a core and such hands
+--   pool-course            == the run of a pool is a course, steady and with the weight of n heaviest paths as its bound
 use Prim.Native.Nat.{ℕ, zero, suc, _*_, _≤_, _<_}
 use mathlib.Core.Path.{_≡_, refl, ap, sym, _∙_}
 use mathlib.Core.Logic.{inl, _≢_, ⊎-elim, by-cases}
 use mathlib.Core.Bool.{true}
-use mathlib.Core.List.{List, [], _∷_}
+use mathlib.Core.List.{List, [], _∷_, cons-ne-nil, head-eq-of-cons-eq}
 use native.Mathlib.Omega.{arith}
 use native.Mathlib.Nat.{le-refl, le-trans, mul-le-mul, eq-zero-or-pos}
 use native.Mathlib.Decide.{ℕ-discrete}
@@ -40,8 +44,8 @@ abbrev pub lineOf : (ℕ → ℕ) → ℕ → List ℕ
 lineOf h w = lineIn (h w)
 
 line-is : (x j : ℕ) (l : List ℕ) → lineIn x ≡ j ∷ l → x ≡ suc j
-line-is zero j l e = let z : _≡_ {A = ℕ} 0 1 = cc in absurd (omega arith)
-line-is (suc i) j l e = let q : i ≡ j = cc in ap suc q
+line-is zero j l e = absurd (cons-ne-nil j l (sym e))
+line-is (suc i) j l e = ap suc (head-eq-of-cons-eq e)
 
 line-by : (x j : ℕ) → x ≡ suc j → lineIn x ≡ j ∷ []
 line-by x j e = rw e refl

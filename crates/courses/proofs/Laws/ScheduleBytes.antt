@@ -1,5 +1,6 @@
 -- What was written of rows is read again.
---   Small rows == each row has a round from 1 to 4095 and a worker below 16
+--   Small rows    == each row has a round from 1 to 4095 and a worker below 16
+--   schedule-read == the bytes of a schedule are read as that schedule
 use Prim.Native.Nat.{ℕ, suc, _+_, _*_, _-_, _≤_, _<_}
 use mathlib.Core.Path.{_≡_, refl, _∙_}
 use mathlib.Core.Bool.{Bool, true, false}

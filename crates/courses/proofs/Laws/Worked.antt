@@ -1,7 +1,11 @@
 -- The turns of a course: those of the actions that are done and those of the ones that were begun, no more than all actions take; and
 -- each round in which some worker has a job has one.
---   upTo e j i == how many turns the actions of job j before position i take; price e == all actions
---   had e c j  == the turns that were had with job j
+--   upTo e j i    == how many turns the actions of job j before position i take
+--   price e       == how many turns all actions take
+--   had e c j     == how many turns were had with job j
+--   course-worked == the turns of a course are those that were had with its jobs
+--   turns-all     == in the end they are the price
+--   course-most   == there are at most as many rounds as the price, but for those in which no worker has a job
 use Prim.Native.Nat.{ℕ, zero, suc, _+_, _-_, _≤_, _<_}
 use mathlib.Core.Path.{_≡_, refl, ap, sym, _∙_}
 use mathlib.Core.Logic.{_⊎_, inl, inr, _≢_, ⊎-elim, Dec·and}

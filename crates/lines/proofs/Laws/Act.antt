@@ -81,7 +81,7 @@ module _ {P : Shape} {next next′ : ℕ → ℕ} {j : ℕ} (act : Act P next ne
   pub acted-closed : Closed P next′
   acted-closed = record { bound = bound′; started = started′; joined = joined′ }
 
-  -- a job that was ready after the turn was so before it, unless this action's join is for it
+  -- a job that is ready after the action was so before it, unless this action's join is for it
   pub was-ready : (x : ℕ) → x ≢ j → ¬ ((x ≡ parent j) × (join j (next j) ≡ suc (next x))) → Ready P next′ x → Ready P next x
   was-ready x f g r k b a h e i =
       let m = r k b a h e (rw (others x f) i) in
@@ -111,7 +111,7 @@ module _ {P : Shape} {next next′ : ℕ → ℕ} {j : ℕ} (act : Act P next ne
         let f : parent j ≢ j = λ e. omega (arith, ok .older j o (lives .below)) in
         (f, stays (parent j) f (parent-lives P ok next closed j o lives))
 
-    -- just a job that has a parent wakes it
+    -- only a job that has a parent wakes one
     pub sender : Wakes P next next′ j → 1 ≤ j
     sender k = ok .joins j (next j) (next (parent j)) (lives .below) (lives .left) (k .sends) .0
 

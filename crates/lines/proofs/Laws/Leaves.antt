@@ -1,6 +1,6 @@
 -- In a good state every living job that has no living child is the first of a line.
 --   ready-of    == a job that has no living child is ready
---   good-leaves == a good state has its leaves first in lines
+--   good-leaves == the lines of a good state are as Leaves says
 use mathlib.Core.Path.{_≡_, refl}
 use mathlib.Core.Logic.{_⊎_, inl, inr}
 use mathlib.Core.List.{List, [], _∷_}

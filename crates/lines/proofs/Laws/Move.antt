@@ -3,7 +3,7 @@
 --                            empty is lost
 use mathlib.Core.Path.{_≡_, refl, sym, ap, _∙_}
 use mathlib.Core.Logic.{_⊎_, inl, inr, _≢_, by-cases, Dec·and}
-use mathlib.Core.List.{List, [], _∷_}
+use mathlib.Core.List.{List, [], _∷_, cons-ne-nil}
 use Prim.Native.Nat.{ℕ, _≤_, _<_, zero-le}
 use native.Mathlib.Nat.{not-suc-le-zero, lt-of-not-le, le-trans, le-of-eq}
 use native.Mathlib.Omega.{arith}
@@ -46,8 +46,8 @@ module _ {P : Shape} {next : ℕ → ℕ} {line line′ : ℕ → List ℕ} {fro
 
 full-none : (l : List ℕ) → 1 ≤ full l → l ≢ []
 unfolding full
-full-none [] h e = not-suc-le-zero h
-full-none (x ∷ l) h e = let z : _≡_ {A = ℕ} 0 1 = cc in omega arith
+full-none [] h = absurd (not-suc-le-zero h)
+full-none (x ∷ l) h = cons-ne-nil x l
 
 -- and no more lines are filled than before
 module _ {line line′ : ℕ → List ℕ} {from : ℕ → ℕ} (moved : Moved line line′ from) (size size′ : ℕ)

@@ -26,7 +26,7 @@ module _ {P : Shape} (ok : Valid P) {next next′ : ℕ → ℕ} {j : ℕ} (act 
   open Shape P using (len, parent, child)
   open Passed passed using (worker, first, rest, known, spawns, goes, dies)
 
-  -- a job that is not the parent of one that died had no living child before
+  -- a job that has no living child after the action had none before it, unless it is the parent of job j and j has ended
   was-lone : (x : ℕ) → (x ≡ parent j → 1 ≤ j → next′ j < len j) → Lone P next′ x → Lone P next x
   was-lone x f none k b (o, (e, a)) = go (ℕ-discrete k j)
     where

@@ -1,7 +1,8 @@
 -- A worker's turn keeps a state good.
 --   turnLine P next next′ j l == a worker's line after the next action of job j, where its line before is j ∷ l: the job that the
---                                action spawned, or j if it goes on, before the parent if the action woke it, and l
+--                                action spawned and j, or j alone if it goes on; then j's parent, if the action woke it; then l
 --   Turned P next next′ j line line′ == the lines line′ are line after the turn of the worker whose line begins with job j
+--   Stands P next next′ j l x == why job x stands in the worker's line after the turn
 --   turn-good                 == a turn keeps a state good
 use mathlib.Core.Path.{_≡_, refl, ap}
 use mathlib.Core.Logic.{inl, inr, _≢_, by-cases, ⊎-elim, Dec·and}

@@ -5,12 +5,11 @@
 --   reach P l        == the path of the first job of the line l, and 0 if it has none
 --   held P next      == the weight of the living jobs' frames
 use mathlib.Core.Path.{_≡_, refl, sym, ap, _∙_}
-use mathlib.Core.List.{List, [], _∷_}
+use mathlib.Core.List.{List, [], _∷_, cons-ne-nil}
 use Prim.Native.Nat.{ℕ, zero, suc, _+_, _*_, _≤_, _<_, zero-le}
 use native.Mathlib.Nat.{le-trans, le-of-eq, le-refl, lt-of-not-le}
 use native.Mathlib.Omega.{arith}
 use native.Mathlib.Decide.{ℕ-discrete}
-use Rattle.lines.proofs.Laws.Member.{not-nil}
 use Rattle.lines.proofs.Laws.Shape.{Shape, Valid, Living, living?, Closed, Leaves}
 use Rattle.lines.proofs.Laws.Cover.{Above, self, up, cover}
 use Rattle.lines.proofs.Laws.Progress.{parent-lives}
@@ -128,7 +127,7 @@ module _ (P : Shape) where
       covered x a =
           let (w, h, l, e, s) = cover P ok next line leaves x a in
           let b : h < jobs = leaves .known w h l e in
-          let i : w < size = lt-of-not-le (λ (g : size ≤ w). not-nil [] h l (sym e ∙ past w g)) in
+          let i : w < size = lt-of-not-le (λ (g : size ≤ w). cons-ne-nil h l (sym e ∙ past w g)) in
           le-trans (above-share h x h b (le-refl h) s) (rw e at (sum-term size (λ v. part (line v) x) w i))
 
       pub held-reach : held next ≤ sum size (λ w. reach (line w))

@@ -4,7 +4,7 @@ use Prim.Native.Nat.{ℕ, zero, suc, _≤_, _<_}
 use mathlib.Core.Path.{_≡_, refl, ap, sym, _∙_}
 use mathlib.Core.Logic.{inl, inr, _≢_, by-cases}
 use mathlib.Core.Bool.{Bool, true, false, not}
-use mathlib.Core.List.{List, [], _∷_}
+use mathlib.Core.List.{List, [], _∷_, cons-ne-nil}
 use native.Mathlib.Omega.{arith}
 use native.Mathlib.Decide.{ℕ-discrete}
 use lib.Dec.{T, ltb, ltb→lt, lt→ltb, T-not, not-T}
@@ -47,12 +47,9 @@ bottom-line : (d : List ℕ) → lineAt (takeBottom d) ≡ d
 bottom-line [] = refl
 bottom-line (j ∷ d) = refl
 
-not-empty : {B : Type 0} (x : ℕ) (l : List ℕ) → x ∷ l ≡ [] → B
-not-empty x l e = let z : _≡_ {A = ℕ} 0 1 = cc in absurd (omega arith)
-
 bottom-empty : (d : List ℕ) → lineAt (takeBottom d) ≡ [] → takeBottom d .deque ≡ []
 bottom-empty [] e = refl
-bottom-empty (j ∷ d) e = not-empty j d e
+bottom-empty (j ∷ d) e = absurd (cons-ne-nil j d e)
 
 -- rule 3
 abbrev pub stay : Bool → ℕ → List ℕ → Seat
@@ -60,7 +57,7 @@ stay true j d = record { worker = Holding j; deque = d }
 stay false j d = takeBottom d
 
 stay-empty : (b : Bool) (j : ℕ) (d : List ℕ) → lineAt (stay b j d) ≡ [] → stay b j d .deque ≡ []
-stay-empty true j d e = not-empty j d e
+stay-empty true j d e = absurd (cons-ne-nil j d e)
 stay-empty false j d e = bottom-empty d e
 
 module _ (p : Plan) (after : List ℕ) (j i : ℕ) (d : List ℕ) where
@@ -80,7 +77,7 @@ module _ (p : Plan) (after : List ℕ) (j i : ℕ) (d : List ℕ) where
   seat-empty = go (action p j i .spawn) refl
     where
       go : (x : ℕ) → action p j i .spawn ≡ x → lineAt (seatAfter p after j i d) ≡ [] → seatAfter p after j i d .deque ≡ []
-      go (suc c) e = rw (seat-spawn c e) (not-empty c (j ∷ d))
+      go (suc c) e = rw (seat-spawn c e) (λ q. absurd (cons-ne-nil c (j ∷ d) q))
       go zero e = rw (seat-none e) (stay-empty (both (ltb (suc i) (size p j)) (ready p after j)) j d)
 
 abbrev pub seatOf : Plan → State → ℕ → ℕ → Seat
