@@ -2,7 +2,7 @@
 -- rounds after all that it must follow as it takes turns.
 --   Done n r k a   == row a is of one of n workers, and stands before the turn of worker k in round r
 --   Free e r c j   == all that the next action of job j must follow, and the turns that it has had, came before round r
---   Later e c j i  == all that action i of job j must follow was done as many rounds before it, or more, as it takes turns
+--   Later e c j i  == all that action i of job j must follow was done at least as many rounds before it as it takes turns
 --   Kept e r k b c == what holds of the core c of a course in round r, which has the hands b, when the workers below k have had their turns
 --   course-kept    == it holds of every core of a course
 --   course-done    == when job 0 has ended, all is done

@@ -19,7 +19,7 @@ use Rattle.plan_measure.specs.Measure.{pathOver, path, heaviest}
 use Rattle.plan_measure.proofs.Laws.Largest.{largest-above, member-below}
 use Rattle.courses.specs.Ready.{spawned, ready, living, frames, weight}
 use Rattle.lines.proofs.Laws.Shape.{Shape, Valid, Living, living?, Ready}
-use Rattle.lines.proofs.Laws.Sum.{sum, only, only-yes, only-no}
+use Rattle.lines.proofs.Laws.Sum.{sum, sum-front, only, only-yes, only-no}
 use Rattle.lines.proofs.Laws.Weight.{held, path-root, path-child}
 use Rattle.lines.proofs.Laws.Weight
 use Rattle.plan.proofs.Laws.Lists.{both-intro, both-left, both-right, true-of, false-of, all-at, all-by}
@@ -136,12 +136,6 @@ module _ (p : Plan) (next : List ℕ) where
             either-by (not (enters p j (done j) a)) _ (λ n.
             let (o, e, i) = enters-is p j (done j) a (not-not (enters p j (done j) a) n) in
             lt→ltb (a .position) (done (a .job)) (r (a .job) (st .known) (a .position) (st .within) e (sym (st .join) ∙ i)))
-
--- a sum from its first term
-sum-front : (n : ℕ) (f : ℕ → ℕ) → sum (suc n) f ≡ f 0 + sum n (λ i. f (suc i))
-unfolding sum
-sum-front zero f = omega arith
-sum-front (suc n) f = let r = sum-front n f in omega arith
 
 frames-hit : (f : ℕ → Bool) (o : ℕ) (b : Job) (l : List Job) → T (f o) → frames f o (b ∷ l) ≡ b .frame + frames f (suc o) l
 frames-hit f o b l t = rw (frames, true-of (f o) t)

@@ -57,6 +57,10 @@ module _ {P : Shape} (ok : Valid P) {next next′ : ℕ → ℕ} {j : ℕ} (act 
   open Shape P using (jobs, parent, child, join)
   open Turned turned using (worker, deque, first, mine, rest)
 
+  -- why x stands in the worker's new line
+  abbrev Why : ℕ → Type 0
+  Why x = Stands P next next′ j deque x
+
   chained : Chain P (j ∷ deque)
   chained = rw first at (good .chain worker)
 
@@ -91,7 +95,7 @@ module _ {P : Shape} (ok : Valid P) {next next′ : ℕ → ℕ} {j : ℕ} (act 
       go (yes k) = (sender act ok k, refl, rw (wakes-top k) tt)
       go (no f) = chained
 
-  above-from : (x : ℕ) → x ∈ above → Stands P next next′ j deque x
+  above-from : (x : ℕ) → x ∈ above → Why x
   unfolding above
   above-from x m = ⊎-elim (λ t. woken (t .0) (t .1)) old (put-from (wakes? P next next′ j) (parent j) deque m)
 
@@ -100,7 +104,7 @@ module _ {P : Shape} (ok : Valid P) {next next′ : ℕ → ℕ} {j : ℕ} (act 
   after-chain (suc c) e = let b = born-is act ok c e in (b .0, b .2, above-chain)
   after-chain zero e = chain-put P (goes? P next′ j) j above above-chain
 
-  after-from : (c : ℕ) → child j (next j) ≡ c → (x : ℕ) → x ∈ after P next next′ j c above → Stands P next next′ j deque x
+  after-from : (c : ℕ) → child j (next j) ≡ c → (x : ℕ) → x ∈ after P next next′ j c above → Why x
   unfolding after
   after-from (suc c) e x (inl q) = born (cc)
   after-from (suc c) e x (inr (inl q)) = goes q (spawner-goes act ok c e)
@@ -112,7 +116,7 @@ module _ {P : Shape} (ok : Valid P) {next next′ : ℕ → ℕ} {j : ℕ} (act 
   after-above (suc c) x m = inr (inr m)
   after-above zero x m = put-old (goes? P next′ j) x j above m
 
-  after-to : (c : ℕ) → child j (next j) ≡ c → (x : ℕ) → Stands P next next′ j deque x → x ∈ after P next next′ j c above
+  after-to : (c : ℕ) → child j (next j) ≡ c → (x : ℕ) → Why x → x ∈ after P next next′ j c above
   unfolding after above
   after-to c e x (old m) = after-above c x (put-old (wakes? P next next′ j) x (parent j) deque m)
   after-to c e x (woken q k) = after-above c x (put-new (wakes? P next next′ j) deque q k)
@@ -125,11 +129,11 @@ module _ {P : Shape} (ok : Valid P) {next next′ : ℕ → ℕ} {j : ℕ} (act 
   unfolding turnLine above
   new-chain = after-chain (child j (next j)) refl
 
-  new-from : (x : ℕ) → x ∈ turnLine P next next′ j deque → Stands P next next′ j deque x
+  new-from : (x : ℕ) → x ∈ turnLine P next next′ j deque → Why x
   unfolding turnLine above
   new-from = after-from (child j (next j)) refl
 
-  new-to : (x : ℕ) → Stands P next next′ j deque x → x ∈ turnLine P next next′ j deque
+  new-to : (x : ℕ) → Why x → x ∈ turnLine P next next′ j deque
   unfolding turnLine above
   new-to = after-to (child j (next j)) refl
 
@@ -144,14 +148,14 @@ module _ {P : Shape} (ok : Valid P) {next next′ : ℕ → ℕ} {j : ℕ} (act 
       by-cases (ℕ-discrete v worker) (λ e. stand (new-from x (rw (e, mine) at m)))
       (λ f. let i : x ∈ line v = rw (rest v f) at m in kept v x (elsewhere v x f i) i)
     where
-      stand : Stands P next next′ j deque x → Living P next′ x × Ready P next′ x
+      stand : Why x → Living P next′ x × Ready P next′ x
       stand (old i) = kept worker x (lower x i) (rw first (inr i))
       stand (goes e g) = rw e (goes-lives act (g .left), g .ready)
       stand (born e) = born-good act ok x e
       stand (woken e k) = rw e (parent-stays act ok (sender act ok k) .1, k .ready)
 
   -- what is in the new line is in no other
-  alone : (v x : ℕ) → v ≢ worker → x ∈ line v → Stands P next next′ j deque x → ⊥
+  alone : (v x : ℕ) → v ≢ worker → x ∈ line v → Why x → ⊥
   alone v x f m (old i) = f (good .apart v worker x m (rw first (inr i)))
   alone v x f m (goes e g) = elsewhere v x f m e
   alone v x f m (born e) = not-born act ok x e (good .here v x m .0)
@@ -178,7 +182,7 @@ module _ {P : Shape} (ok : Valid P) {next next′ : ℕ → ℕ} {j : ℕ} (act 
       go (ℕ-discrete x j) (ℕ-discrete (child j (next j)) (suc x))
       (Dec·and (ℕ-discrete x (parent j)) (ℕ-discrete (join j (next j)) (suc (next x))))
     where
-      there : Stands P next next′ j deque x → (v : ℕ) × (x ∈ line′ v)
+      there : Why x → (v : ℕ) × (x ∈ line′ v)
       there s = (worker, rw mine (new-to x s))
 
       go : Dec (x ≡ j) → Dec (child j (next j) ≡ suc x) → Dec ((x ≡ parent j) × (join j (next j) ≡ suc (next x))) → (v : ℕ) × (x ∈ line′ v)
