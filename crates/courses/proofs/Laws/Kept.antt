@@ -82,6 +82,7 @@ module _ (e : Terms) where
   }
 
   module _ (ok : Accepted plan) where
+    -- a free job is ready
     free-ready : {r : ℕ} {c : Core} {j : ℕ} → Free r c j → Ready (shape plan) (nextIn c) j
     free-ready {c = c} {j = j} f h b m l q i = f .after h m b l (joined (join-target plan ok h m (nextIn c j) b l i .0) q i) .0
 
@@ -267,6 +268,7 @@ module _ (e : Terms) where
         → (j : ℕ) → j < length plan → nextIn c j ≡ size plan j
     course-done {c = c} t = Progress.all-done (shape plan) (shape-valid plan ok) (nextIn c) (course-kept t .closed)
 
+    -- so every action is
     pub course-all : {r m k : ℕ} {b : ℕ → ℕ} {c : Core} → Course e r m k b c → size plan 0 ≤ nextIn c 0
         → (j i : ℕ) → j < length plan → i < size plan j → i < nextIn c j
     course-all t ended j i l m = omega (arith, course-done t ended j l)

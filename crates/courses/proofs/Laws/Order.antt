@@ -69,6 +69,7 @@ module _ (e : Terms) (ok : Accepted (e .plan)) {r idle k : ℕ} {b : ℕ → ℕ
     (ended : size (e .plan) 0 ≤ nextIn c 0) where
   open Terms e using (plan, cost, workers, steady)
 
+  -- every action is done
   done : (j i : ℕ) → j < length plan → i < size plan j → i < nextIn c j
   done = course-all e ok t ended
 

@@ -152,8 +152,7 @@ module _ (e : Terms) where
         where
           later : Moment plan c (m .row) → T (notAfter here (m .row .round) (m .row .worker)) → ⊥
           later (inl q) x = omega (arith, o .first k j mine, ap (λ z. z .round) q, by-then here (m .row .round) (m .row .worker) x .0)
-          later (inr q) x =
-              row-before (o .done (q .0) (q .1) (q .2) (q .3)) (rw (← (q .4)) at x)
+          later (inr q) x = row-before (o .done (q .0) (q .1) (q .2) (q .3)) (rw (← (q .4)) at x)
 
           old : Moment plan c (m .row) → Moment plan c′ (m .row)
           old (inl q) = inl q
@@ -192,8 +191,7 @@ module _ (e : Terms) where
     history (next-round t s h) r′ w′ = history t r′ w′
     history (rests t q) r′ w′ = history t r′ w′
     history (works t mine h s) r′ w′ = let (l, past) = history t r′ w′ in (l, works-past s past)
-    history (ends t mine h s l) r′ w′ =
-        ends-history t mine h s l r′ w′ (history t r′ w′)
+    history (ends t mine h s l) r′ w′ = ends-history t mine h s l r′ w′ (history t r′ w′)
 
     -- the peak of every core was reached
     pub peaked : {r m k : ℕ} {b : ℕ → ℕ} {c : Core} → Course e r m k b c → Peaked c

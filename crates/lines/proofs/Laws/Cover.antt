@@ -15,7 +15,6 @@ use Rattle.lines.proofs.Laws.Shape.{Shape, Valid, Living, living?, Heir
 module _ (P : Shape) where
   open Shape P using (jobs, parent)
 
-  -- h descends from x, or is x
   pub data Above (x : ℕ) : ℕ → Type 0 where
     self : {h : ℕ} → x ≡ h → Above x h
     up : {h : ℕ} → 1 ≤ h → Above x (parent h) → Above x h

@@ -14,7 +14,6 @@ use Rattle.lines.proofs.Laws.Member.{_∈_}
 use Rattle.lines.proofs.Laws.Sum.{sum, only, only-yes, sum-le, sum-zero, sum-swap, sum-term, sum-only}
 use Rattle.lines.proofs.Laws.Weight.{full, filled}
 
--- line v of the new ones, if it is not empty, is line `from v` of the old ones; no two are the same, and none that is not empty is lost
 pub record Moved (line line′ : ℕ → List ℕ) (from : ℕ → ℕ) : Type 0 where
   pub same : (v : ℕ) → line′ v ≢ [] → line′ v ≡ line (from v)
   pub apart : (u v : ℕ) → line′ u ≢ [] → line′ v ≢ [] → from u ≡ from v → u ≡ v

@@ -29,7 +29,6 @@ pub record Shape : Type 0 where
   pub child : ℕ → ℕ → ℕ
   pub join : ℕ → ℕ → ℕ
 
--- x is the first of a line
 abbrev pub Leads : (ℕ → List ℕ) → ℕ → Type 0
 Leads line x = (w : ℕ) × (l : List ℕ) × (line w ≡ x ∷ l)
 
@@ -54,7 +53,6 @@ module _ (P : Shape) where
     pub begun : 1 ≤ j → spawnAt j < next (parent j)
     pub left : next j < len j
 
-  -- every join into j's next action was sent
   abbrev pub Ready : (ℕ → ℕ) → ℕ → Type 0
   Ready next j = (k : ℕ) → k < jobs → (a : ℕ) → a < len k → parent k ≡ j → join k a ≡ suc (next j) → a < next k
 
@@ -71,27 +69,23 @@ module _ (P : Shape) where
       (λ k. all? (λ a. parent k ≡ j → join k a ≡ suc (next j) → a < next k)
       (λ a. imp? (ℕ-discrete (parent k) j) (imp? (ℕ-discrete (join k a) (suc (next j))) (decLt a (next k)))) (len k)) jobs
 
-  -- each job in the list, but for the last, has the one after it as its parent
   abbrev pub Chain : List ℕ → Type 0
   Chain [] = Unit {0}
   Chain (x ∷ []) = Unit {0}
   Chain (x ∷ (y ∷ l)) = (1 ≤ x) × (parent x ≡ y) × Chain (y ∷ l)
 
-  -- what is done is closed: nothing is done before what it must follow
   pub record Closed (next : ℕ → ℕ) : Type 0 where
     pub bound : (j : ℕ) → j < jobs → next j ≤ len j
     pub started : (j : ℕ) → 1 ≤ j → j < jobs → 0 < next j → spawnAt j < next (parent j)
     pub joined : (j a t : ℕ) → j < jobs → a < len j → join j a ≡ suc t → t < next (parent j) → a < next j
 
-  -- k is a living child of x
   abbrev pub Heir : (ℕ → ℕ) → ℕ → ℕ → Type 0
   Heir next x k = (1 ≤ k) × ((parent k ≡ x) × Living next k)
 
-  -- no child of x lives
   abbrev pub Lone : (ℕ → ℕ) → ℕ → Type 0
   Lone next x = (k : ℕ) → k < jobs → ¬ Heir next x k
 
-  -- every living job that has no living child is the first of a line; a line may be whatever has a first job
+  -- a line may be whatever has a first job
   pub record Leaves (next : ℕ → ℕ) (line : ℕ → List ℕ) : Type 0 where
     pub known : (w x : ℕ) (l : List ℕ) → line w ≡ x ∷ l → x < jobs
     pub leaf : (x : ℕ) → Living next x → Lone next x → Leads line x

@@ -16,12 +16,10 @@ use Rattle.lines.proofs.Laws.Progress.{parent-lives}
 use Rattle.lines.proofs.Laws.Sum.{sum, only, only-yes, sum-le, sum-add, sum-zero, sum-swap, sum-term, sum-mono, sum-bound}
 use Rattle.lines.proofs.Laws.Sum.{sum-times, sum-only}
 
--- whether a line is not empty, as a number
 unfoldable pub full : List ℕ → ℕ
 full [] = 0
 full (x ∷ l) = 1
 
--- how many of the first lines are not empty
 unfoldable pub filled : ℕ → (ℕ → List ℕ) → ℕ
 unfolding full
 filled size line = sum size (λ w. full (line w))
@@ -61,7 +59,6 @@ module _ (P : Shape) where
       let r = shares d (parent (suc h)) in
       omega (arith, sum-add jobs (λ x. only (ℕ-discrete x (suc h)) (frame x)) (share d (parent (suc h))), sum-only jobs frame (suc h))
 
-  -- the weight of the living jobs
   unfoldable pub held : (ℕ → ℕ) → ℕ
   held next = sum jobs (λ j. only (living? P next j) (frame j))
 
@@ -71,7 +68,6 @@ module _ (P : Shape) where
   own (suc d) x zero e = le-of-eq (sym (only-yes (ℕ-discrete x 0) (frame x) e))
   own (suc d) x (suc h) e = omega (arith, only-yes (ℕ-discrete x (suc h)) (frame x) e)
 
-  -- what is on the path to a line's first job: its weight, and x's part of that
   unfoldable pub reach : List ℕ → ℕ
   unfolding path
   reach [] = 0
