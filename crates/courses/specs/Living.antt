@@ -4,7 +4,6 @@
 --   weightAfter p rows r w  == the weight of the frames of the jobs that live after it; round 0 stands for the start
 --   peakOf p rows      == "the largest weight of living frames at the start or after any turn"
 --   lastRound rows     == "the last round in the rows"
--- Assumes nothing.
 use Prim.Native.Nat.{ℕ, _-_, max}
 use mathlib.Core.Bool.{Bool, not}
 use mathlib.Core.List.{List}

@@ -6,7 +6,6 @@
 --                       workers below m
 --   readSchedule     == the worker count and the rows of well-formed bytes for n actions
 --   checked          == what the checker answers for a plan: 11, then 12
--- Assumes nothing.
 use Prim.Native.Nat.{ℕ, zero, suc, _+_, _*_}
 use mathlib.Core.Bool.{Bool, true, false, not}
 use mathlib.Core.List.{List, [], _∷_, _++_}

@@ -4,6 +4,7 @@ pub mod Member
 pub mod Shape
 pub mod Chain
 pub mod Progress
+pub mod Act
 pub mod Turn
 pub mod Steal
 pub mod Start

@@ -1,17 +1,20 @@
 -- What every kind of run is as far as its rows, weights and order go: rounds of turns, in which each worker works on the job that it
 -- has in that round.
---   Core             == how many actions of each job are done, how many turns its next action has had, the rows, the number of
---                       turns, and the peak
---   Terms            == the plan, how many turns each action takes, a number above every worker's, a bound on the weight in each
---                       round, and whether a job that was begun stays with its worker
---   Begins p c       == c is how a course begins
---   Hands e k b b′ c == a round begins with the hands b′ after one with the hands b in which the workers below k had their turns;
---                       b w is suc j where worker w has job j, and 0 where it has none
---   Works p j c c′   == c′ is c after a turn with job j that does not finish its next action
---   Acts, Ends p r w j c c′ == c′ is c after worker w finished the next action of job j in round r
+--   Core               == how many actions of each job are done, how many turns its next action has had, the rows, the number of turns,
+--                         and the peak
+--   New j c h i        == action i of job h is the one that job j does next
+--   Old p c c′ h i     == action i of job h was done in the core c, and has the same row in c′
+--   Terms              == the plan, how many turns each action takes, a number above every worker's, a bound on the weight in each
+--                         round, and whether a job that was begun stays with its worker
+--   Begins p c         == c is how a course begins
+--   Hands e k b b′ c   == a round begins with the hands b′ after one with the hands b in which the workers below k had their turns;
+--                         b w is suc j where worker w has job j, and 0 where it has none
+--   Paced e m m′ b     == some worker has a job by the hands b and m′ is m, or m′ is one more
+--   Works p j c c′     == c′ is c after a turn with job j that does not finish its next action
+--   Ends p r w j c c′  == c′ is c after worker w finished the next action of job j in round r
+--   Acts p r w j c c′  == what Ends says of the counts of done actions and of the rows
 --   Course e r m k b c == c is the core of a course in round r, which has the hands b, when the workers below k have had their turns;
---                       round 0 is the start, and in m of the rounds no worker had a job
--- Assumes nothing.
+--                         round 0 is the start, and in m of the rounds no worker had a job
 use Prim.Native.Nat.{ℕ, suc, _≤_, _<_, max}
 use mathlib.Core.Path.{_≡_, ap}
 use mathlib.Core.Logic.{_⊎_, inl, inr, _≢_, by-cases}
@@ -62,6 +65,10 @@ pub record Terms : Type 0 where
   pub bound : ℕ → ℕ
   pub steady : Bool
 
+-- it is the action that job j does next
+abbrev pub New : ℕ → Core → ℕ → ℕ → Type 0
+New j c h i = (h ≡ j) × (i ≡ nextIn c j)
+
 module _ (p : Plan) where
   pub record Begins (c : Core) : Type 0 where
     pub none : (j : ℕ) → nextIn c j ≡ 0
@@ -84,7 +91,7 @@ module _ (p : Plan) where
     pub acts : nextIn c′ j ≡ suc (nextIn c j)
     pub rests : (h : ℕ) → h ≢ j → nextIn c′ h ≡ nextIn c h
     pub writes : rowIn p c′ j (nextIn c j) ≡ record { round = r; worker = w }
-    pub keeps : (h i : ℕ) → h < length p → i < size p h → ((h ≡ j) × (i ≡ nextIn c j) → ⊥) → rowIn p c′ h i ≡ rowIn p c h i
+    pub keeps : (h i : ℕ) → h < length p → i < size p h → ¬ New j c h i → rowIn p c′ h i ≡ rowIn p c h i
 
   pub record Ends (r w j : ℕ) (c c′ : Core) : Type 0 where
     pub acts : Acts r w j c c′
@@ -94,35 +101,32 @@ module _ (p : Plan) where
     pub fresh : spentIn c′ j ≡ 0
     pub others : (h : ℕ) → h ≢ j → spentIn c′ h ≡ spentIn c h
 
-  -- what is done after the turn: the action itself, or what was done before
-  module _ (r w j : ℕ) (c c′ : Core) (a : Acts r w j c c′) (bound : (h : ℕ) → h < length p → nextIn c h ≤ size p h) where
-    abbrev pub New : ℕ → ℕ → Type 0
-    New h i = (h ≡ j) × (i ≡ nextIn c j)
+  -- it was done before, with the row that it has
+  abbrev pub Old : Core → Core → ℕ → ℕ → Type 0
+  Old c c′ h i = (i < nextIn c h) × (rowIn p c′ h i ≡ rowIn p c h i)
 
-    abbrev pub Old : ℕ → ℕ → Type 0
-    Old h i = (i < nextIn c h) × (rowIn p c′ h i ≡ rowIn p c h i)
+module _ {p : Plan} {r w j : ℕ} {c c′ : Core} (a : Acts p r w j c c′) (bound : (h : ℕ) → h < length p → nextIn c h ≤ size p h) where
+  pub acted : (h i : ℕ) → h < length p → i < nextIn c′ h → New j c h i ⊎ Old p c c′ h i
+  acted h i b l = go (ℕ-discrete h j) (ℕ-discrete i (nextIn c j))
+    where
+      go : Dec (h ≡ j) → Dec (i ≡ nextIn c j) → New j c h i ⊎ Old p c c′ h i
+      go (yes e) (yes f) = inl (e, f)
+      go (yes e) (no f) =
+          let m : i < nextIn c h = omega (arith, ap (nextIn c) e, ap (nextIn c′) e, a .acts) in
+          inr (m, a .keeps h i b (omega (arith, bound h b)) (λ q. f (q .1)))
+      go (no e) f =
+          let m : i < nextIn c h = omega (arith, a .rests h e) in
+          inr (m, a .keeps h i b (omega (arith, bound h b)) (λ q. e (q .0)))
 
-    pub acted : (h i : ℕ) → h < length p → i < nextIn c′ h → New h i ⊎ Old h i
-    acted h i b l = go (ℕ-discrete h j) (ℕ-discrete i (nextIn c j))
-      where
-        go : Dec (h ≡ j) → Dec (i ≡ nextIn c j) → New h i ⊎ Old h i
-        go (yes e) (yes f) = inl (e, f)
-        go (yes e) (no f) =
-            let m : i < nextIn c h = omega (arith, ap (nextIn c) e, ap (nextIn c′) e, a .acts) in
-            inr (m, a .keeps h i b (omega (arith, bound h b)) (λ q. f (q .1)))
-        go (no e) f =
-            let m : i < nextIn c h = omega (arith, a .rests h e) in
-            inr (m, a .keeps h i b (omega (arith, bound h b)) (λ q. e (q .0)))
+  pub acts-kept : (h i : ℕ) → h < length p → i < nextIn c h → (i < nextIn c′ h) × (rowIn p c′ h i ≡ rowIn p c h i)
+  acts-kept h i l d = (
+    by-cases (ℕ-discrete h j) (λ e. omega (arith, ap (nextIn c) e, ap (nextIn c′) e, a .acts)) (λ e. omega (arith, a .rests h e)),
+    a .keeps h i l (omega (arith, bound h l)) (λ q. omega (arith, ap (nextIn c) (q .0), q .1)),
+  )
 
-    pub acts-new : (h i : ℕ) → New h i → rowIn p c′ h i ≡ record { round = r; worker = w }
-    acts-new h i e = rw (e .0, e .1) (a .writes)
-
-    -- what was done is done, with the row that it had
-    pub acts-kept : (h i : ℕ) → h < length p → i < nextIn c h → (i < nextIn c′ h) × (rowIn p c′ h i ≡ rowIn p c h i)
-    acts-kept h i l d = (
-      by-cases (ℕ-discrete h j) (λ e. omega (arith, ap (nextIn c) e, ap (nextIn c′) e, a .acts)) (λ e. omega (arith, a .rests h e)),
-      a .keeps h i l (omega (arith, bound h l)) (λ q. omega (arith, ap (nextIn c) (q .0), q .1)),
-    )
+pub acts-new : {p : Plan} {r w j : ℕ} {c c′ : Core} → Acts p r w j c c′ → (h i : ℕ) → New j c h i
+    → rowIn p c′ h i ≡ record { round = r; worker = w }
+acts-new a h i e = rw (e .0, e .1) (a .writes)
 
 module _ (e : Terms) where
   open Terms e using (plan, cost, workers, bound, steady)

@@ -1,16 +1,18 @@
 -- What holds of every core of a course: what is done is closed, each done action has a row of a past turn, and each came so many
 -- rounds after all that it must follow as it takes turns.
---   Done n r k a     == row a is of one of n workers, and stands before the turn of worker k in round r
---   Free e r c j     == all that the next action of job j must follow, and the turns that it has had, came before round r
---   Kept e r k b c   == what holds of the core c
--- Assumes nothing.
+--   Done n r k a   == row a is of one of n workers, and stands before the turn of worker k in round r
+--   Free e r c j   == all that the next action of job j must follow, and the turns that it has had, came before round r
+--   Later e c j i  == all that action i of job j must follow was done at least as many rounds before it as it takes turns
+--   Kept e r k b c == what holds of the core c of a course in round r, which has the hands b, when the workers below k have had their turns
+--   course-kept    == it holds of every core of a course
+--   course-done    == when job 0 has ended, all is done
 use Prim.Native.Nat.{ℕ, suc, _+_, _-_, _≤_, _<_}
 use mathlib.Core.Path.{_≡_, refl, ap, _∙_}
 use mathlib.Core.Logic.{_⊎_, inl, inr, _≢_, ⊎-elim, by-cases}
 use native.Mathlib.Omega.{arith}
-use native.Mathlib.Nat.{not-suc-le-zero, eq-zero-or-pos}
+use native.Mathlib.Nat.{eq-zero-or-pos}
 use native.Mathlib.Decide.{ℕ-discrete, decLe}
-use lib.ListN.{length}
+use lib.ListN.{length, getD}
 use Rattle.plan.specs.Plan.{size, total}
 use Rattle.plan.specs.Rules.{Accepted}
 use Rattle.plan.proofs.Laws.Valid.{jobs-range, size-range, spawned-once, join-target}
@@ -19,9 +21,10 @@ use Rattle.courses.specs.Row.{Row}
 use Rattle.lines.proofs.Laws.Shape.{Living, Ready, Closed}
 use Rattle.lines.proofs.Laws.Start.{none-closed}
 use Rattle.lines.proofs.Laws.Progress
-use Rattle.lines.proofs.Laws.Turn.{acted-closed, stays}
+use Rattle.lines.proofs.Laws.Act.{Act, acted-closed, stays}
 use Rattle.courses.proofs.Laws.PlanShape.{shape, shape-valid}
-use Rattle.courses.proofs.Laws.Course.{Core, nextIn, spentIn, rowIn, Terms, Begins, Hands, Works, Ends, New, Old, acted, acts-new, acts-kept, Course, begins, next-round, rests, works, ends}
+use Rattle.courses.proofs.Laws.Course.{Core, nextIn, spentIn, rowIn, New, Old, acted, acts-new, acts-kept}
+use Rattle.courses.proofs.Laws.Course.{Terms, Begins, Hands, Works, Ends, Course, begins, next-round, rests, works, ends}
 
 pub record Done (n r k : ℕ) (a : Row) : Type 0 where
   pub first : 1 ≤ a .round
@@ -32,10 +35,6 @@ pub record Done (n r k : ℕ) (a : Row) : Type 0 where
 pub done-on : {n r k k′ : ℕ} {a : Row} → k ≤ k′ → Done n r k a → Done n r k′ a
 done-on l d = record { first = d .first; known = d .known; latest = d .latest; turn = λ z. omega (arith, d .turn z) }
 
--- what was done before a round has begun is of an earlier round
-pub done-past : {n r : ℕ} {a : Row} → Done n r 0 a → a .round < r
-done-past {r = r} {a = a} d = by-cases (ℕ-discrete (a .round) r) (λ e. absurd (not-suc-le-zero (d .turn e))) (λ f. omega (arith, d .latest))
-
 module _ (e : Terms) where
   open Terms e using (plan, cost, workers)
 
@@ -43,6 +42,10 @@ module _ (e : Terms) where
     pub early : spentIn c j < r
     pub after : (h m : ℕ) → h < length plan → m < size plan h → Follows plan (act plan j (nextIn c j)) (act plan h m)
         → (m < nextIn c h) × (rowIn plan c h m .round + spentIn c j < r)
+
+  abbrev pub Later : Core → ℕ → ℕ → Type 0
+  Later c j i = (h m : ℕ) → h < length plan → m < size plan h → Follows plan (act plan j i) (act plan h m)
+      → (m < nextIn c h) × (rowIn plan c h m .round + cost (act plan j i) ≤ rowIn plan c j i .round)
 
   pub record Kept (r k : ℕ) (b : ℕ → ℕ) (c : Core) : Type 0 where
     pub first : (w j : ℕ) → b w ≡ suc j → 1 ≤ r
@@ -54,9 +57,7 @@ module _ (e : Terms) where
     -- an action takes its turns, after all that it must follow
     pub worth : (j i : ℕ) → j < length plan → i < nextIn c j
         → (1 ≤ cost (act plan j i)) × (cost (act plan j i) ≤ rowIn plan c j i .round)
-    pub later : (j i h m : ℕ) → j < length plan → i < nextIn c j → h < length plan → m < size plan h
-        → Follows plan (act plan j i) (act plan h m)
-        → (m < nextIn c h) × (rowIn plan c h m .round + cost (act plan j i) ≤ rowIn plan c j i .round)
+    pub later : (j i : ℕ) → j < length plan → i < nextIn c j → Later c j i
     -- the job of a worker that has not had its turn
     pub lives : (w j : ℕ) → k ≤ w → b w ≡ suc j → Living (shape plan) (nextIn c) j
     pub free : (w j : ℕ) → k ≤ w → b w ≡ suc j → Free r c j
@@ -64,21 +65,38 @@ module _ (e : Terms) where
     pub begun : (j : ℕ) → 1 ≤ spentIn c j → Free (suc r) c j
     pub unpaid : (j : ℕ) → 1 ≤ spentIn c j → (nextIn c j < size plan j) × (spentIn c j < cost (act plan j (nextIn c j)))
 
+  -- another worker has another job
+  pub other : {r k j : ℕ} {b : ℕ → ℕ} {c : Core} → Kept r k b c → b k ≡ suc j → (w x : ℕ) → w ≢ k → b w ≡ suc x → x ≢ j
+  other {k = k} {j = j} o mine w x f q z = f (o .once w k j (q ∙ ap suc z) mine)
+
+  -- a job stays free if it has had no turn, and what was done is done, with the row that it had
+  free-on : {r x : ℕ} {c c′ : Core} → spentIn c′ x ≡ spentIn c x → nextIn c′ x ≡ nextIn c x
+      → ((h m : ℕ) → h < length plan → m < nextIn c h → (m < nextIn c′ h) × (rowIn plan c′ h m ≡ rowIn plan c h m))
+      → Free r c x → Free r c′ x
+  free-on spent same old f = record {
+    early = omega (arith, spent, f .early);
+    after = λ h m l i g.
+        let d = f .after h m l i (rw same at g) in
+        let q = old h m l (d .0) in
+        (q .0, rw (q .1, spent) (d .1));
+  }
+
   module _ (ok : Accepted plan) where
-    free-ready : (r : ℕ) (c : Core) (j : ℕ) → Free r c j → Ready (shape plan) (nextIn c) j
-    free-ready r c j f h b m l q i = f .after h m b l (joined (join-target plan ok h m (nextIn c j) b l i .0) q i) .0
+    -- a free job is ready
+    free-ready : {r : ℕ} {c : Core} {j : ℕ} → Free r c j → Ready (shape plan) (nextIn c) j
+    free-ready {c = c} {j = j} f h b m l q i = f .after h m b l (joined (join-target plan ok h m (nextIn c j) b l i .0) q i) .0
 
     -- all that a ready job must follow is done
-    ready-done : (c : Core) (j : ℕ) → Living (shape plan) (nextIn c) j → Ready (shape plan) (nextIn c) j
+    ready-done : (c : Core) {j : ℕ} → Living (shape plan) (nextIn c) j → Ready (shape plan) (nextIn c) j
         → (h m : ℕ) → h < length plan → m < size plan h → Follows plan (act plan j (nextIn c j)) (act plan h m) → m < nextIn c h
-    ready-done c j a r h m b l (next q i) = omega (arith, ap (nextIn c) q)
-    ready-done c j a r h m b l (born o i q) =
+    ready-done c a r h m b l (next q i) = omega (arith, ap (nextIn c) q)
+    ready-done c {j} a r h m b l (born o i q) =
         let s = spawned-once plan ok h m j b l q in
         omega (arith, a .begun o, ap (nextIn c) (s .2), s .3)
-    ready-done c j a r h m b l (joined o q i) = r h b m l q i
+    ready-done c a r h m b l (joined o q i) = r h b m l q i
 
-    start-kept : (b : ℕ → ℕ) (c : Core) → ((w : ℕ) → b w ≡ 0) → Begins plan c → Kept 0 0 b c
-    start-kept b c idle s = record {
+    start-kept : {b : ℕ → ℕ} {c : Core} → ((w : ℕ) → b w ≡ 0) → Begins plan c → Kept 0 0 b c
+    start-kept {c = c} idle s = record {
       first = λ w j q. absurd (omega (arith, idle w));
       known = λ w j q. absurd (omega (arith, idle w));
       once = λ v w j q i. absurd (omega (arith, idle w));
@@ -86,15 +104,15 @@ module _ (e : Terms) where
       closed = none-closed (shape plan) (nextIn c) (s .none);
       done = λ j i l d. absurd (omega (arith, s .none j));
       worth = λ j i l d. absurd (omega (arith, s .none j));
-      later = λ j i h m l d. absurd (omega (arith, s .none j));
+      later = λ j i l d. absurd (omega (arith, s .none j));
       lives = λ w j l q. absurd (omega (arith, idle w));
       free = λ w j l q. absurd (omega (arith, idle w));
       begun = λ j l. absurd (omega (arith, s .fresh j));
       unpaid = λ j l. absurd (omega (arith, s .fresh j));
     }
 
-    next-kept : (r k : ℕ) (b b′ : ℕ → ℕ) (c : Core) → Kept r k b c → Hands e k b b′ c → Kept (suc r) 0 b′ c
-    next-kept r k b b′ c o s = record {
+    next-kept : {r k : ℕ} {b b′ : ℕ → ℕ} {c : Core} → Kept r k b c → Hands e k b b′ c → Kept (suc r) 0 b′ c
+    next-kept {r} {k} {b} {b′} {c} o s = record {
       first = λ w j q. omega arith;
       known = s .known;
       once = s .once;
@@ -117,12 +135,12 @@ module _ (e : Terms) where
         fresh w j q z = record {
           early = omega arith;
           after = λ h m l i g.
-              let d = ready-done c j (s .lives w j q) (s .ready w j q) h m l i g in
+              let d = ready-done c (s .lives w j q) (s .ready w j q) h m l i g in
               (d, omega (arith, o .done h m l d .latest));
         }
 
-    rests-kept : (r k : ℕ) (b : ℕ → ℕ) (c : Core) → Kept r k b c → Kept r (suc k) b c
-    rests-kept r k b c o = record {
+    rests-kept : {r k : ℕ} {b : ℕ → ℕ} {c : Core} → Kept r k b c → Kept r (suc k) b c
+    rests-kept o = record {
       first = o .first;
       known = o .known;
       once = o .once;
@@ -137,17 +155,10 @@ module _ (e : Terms) where
       unpaid = o .unpaid;
     }
 
-    -- another worker has another job
-    other : (r k j : ℕ) (b : ℕ → ℕ) (c : Core) → Kept r k b c → b k ≡ suc j → (w x : ℕ) → k < w → b w ≡ suc x → x ≢ j
-    other r k j b c o q w x l i z = omega (arith, o .once k w j q (i ∙ ap suc z))
-
-    module _ (r k j : ℕ) (b : ℕ → ℕ) (c c′ : Core) (o : Kept r k b c) (mine : b k ≡ suc j)
+    module _ {r k j : ℕ} {b : ℕ → ℕ} {c c′ : Core} (o : Kept r k b c) (mine : b k ≡ suc j)
         (left : suc (spentIn c j) < cost (act plan j (nextIn c j))) (s : Works plan j c c′) where
-      free-on : (x y : ℕ) → x ≢ j → Free y c x → Free y c′ x
-      free-on x y z f = record {
-        early = omega (arith, s .others x z, f .early);
-        after = rw (s .next, s .rows, s .others x z) (f .after);
-      }
+      free-works : {x y : ℕ} → x ≢ j → Free y c x → Free y c′ x
+      free-works {x} z = free-on (s .others x z) (ap (λ l. getD l x 0) (s .next)) (rw (s .next, s .rows) (λ h i l d. (d, refl)))
 
       works-kept : Kept r (suc k) b c′
       works-kept = record {
@@ -160,9 +171,10 @@ module _ (e : Terms) where
         worth = rw (s .next, s .rows) (o .worth);
         later = rw (s .next, s .rows) (o .later);
         lives = λ w x l q. rw (s .next) (o .lives w x (omega arith) q);
-        free = λ w x l q. free-on x r (other r k j b c o mine w x l q) (o .free w x (omega arith) q);
-        begun = λ x l. by-cases (ℕ-discrete x j) (λ z. rw z spent) (λ z. free-on x (suc r) z (o .begun x (omega (arith, s .others x z))));
-        unpaid = λ x l. rw (s .next) (by-cases (ℕ-discrete x j) (λ z. rw z (o .lives k j (omega arith) mine .left, omega (arith, s .spends)))
+        free = λ w x l q. free-works (other o mine w x (λ z. omega arith) q) (o .free w x (omega arith) q);
+        begun = λ x l. by-cases (ℕ-discrete x j) (λ z. rw z spent) (λ z. free-works z (o .begun x (omega (arith, s .others x z))));
+        unpaid = λ x l. rw (s .next) (by-cases (ℕ-discrete x j)
+            (λ z. rw z (o .lives k j (omega arith) mine .left, omega (arith, s .spends)))
             (λ z. rw (s .others x z) (o .unpaid x (omega (arith, s .others x z)))));
       }
         where
@@ -176,7 +188,7 @@ module _ (e : Terms) where
                     rw (s .next, s .rows, s .spends) (x .0, omega (arith, x .1));
               }
 
-    module _ (r k j : ℕ) (b : ℕ → ℕ) (c c′ : Core) (o : Kept r k b c) (mine : b k ≡ suc j)
+    module _ {r k j : ℕ} {b : ℕ → ℕ} {c c′ : Core} (o : Kept r k b c) (mine : b k ≡ suc j)
         (paid : suc (spentIn c j) ≡ cost (act plan j (nextIn c j))) (s : Ends plan r k j c c′) where
       me : Free r c j
       me = o .free k j (omega arith) mine
@@ -184,49 +196,44 @@ module _ (e : Terms) where
       bounded : (h : ℕ) → h < length plan → nextIn c h ≤ size plan h
       bounded = o .closed .bound
 
-      after-turn : (h i : ℕ) → h < length plan → i < nextIn c′ h
-          → New plan r k j c c′ (s .acts) bounded h i ⊎ Old plan r k j c c′ (s .acts) bounded h i
-      after-turn = acted plan r k j c c′ (s .acts) bounded
-
-      new-row : (h i : ℕ) → New plan r k j c c′ (s .acts) bounded h i → rowIn plan c′ h i ≡ record { round = r; worker = k }
-      new-row = acts-new plan r k j c c′ (s .acts) bounded
-
-      old-row : (h i : ℕ) → h < length plan → i < nextIn c h → (i < nextIn c′ h) × (rowIn plan c′ h i ≡ rowIn plan c h i)
-      old-row = acts-kept plan r k j c c′ (s .acts) bounded
-
-      free-after : (x y : ℕ) → x ≢ j → Free y c x → Free y c′ x
-      free-after x y z f = record {
-        early = omega (arith, s .others x z, f .early);
-        after = λ h m l i g.
-            let d = f .after h m l i (rw (s .acts .rests x z) at g) in
-            let q = old-row h m l (d .0) in
-            (q .0, rw (q .1, s .others x z) (d .1));
+      action : Act (shape plan) (nextIn c) (nextIn c′) j
+      action = record {
+        closed = o .closed;
+        lives = o .lives k j (omega arith) mine;
+        ready = free-ready me;
+        acts = s .acts .acts;
+        others = s .acts .rests;
       }
+
+      free-ends : {x y : ℕ} → x ≢ j → Free y c x → Free y c′ x
+      free-ends {x} z = free-on (s .others x z) (s .acts .rests x z) (acts-kept (s .acts) bounded)
 
       ends-done : (h i : ℕ) → h < length plan → i < nextIn c′ h → Done workers r (suc k) (rowIn plan c′ h i)
       ends-done h i l d =
-          ⊎-elim
-          (λ q. rw (new-row h i q) (record { first = o .first k j mine; known = o .known k j mine; latest = omega arith; turn = λ z. omega arith }))
-          (λ q. rw (q .1) (done-on (omega arith) (o .done h i l (q .0)))) (after-turn h i l d)
+          ⊎-elim (λ q. rw (acts-new (s .acts) h i q) now) (λ q. rw (q .1) (done-on (omega arith) (o .done h i l (q .0))))
+          (acted (s .acts) bounded h i l d)
+        where
+          now : Done workers r (suc k) (record { round = r; worker = k })
+          now = record { first = o .first k j mine; known = o .known k j mine; latest = omega arith; turn = λ z. omega arith }
 
       ends-worth : (h i : ℕ) → h < length plan → i < nextIn c′ h
           → (1 ≤ cost (act plan h i)) × (cost (act plan h i) ≤ rowIn plan c′ h i .round)
       ends-worth h i l d =
-          ⊎-elim (λ q. rw (new-row h i q, q .0, q .1) (omega (arith, me .early), omega (arith, me .early))) (λ q. rw (q .1) (o .worth h i l (q .0))) (after-turn h i l d)
+          ⊎-elim (λ q. rw (acts-new (s .acts) h i q, q .0, q .1) (omega (arith, me .early), omega (arith, me .early)))
+          (λ q. rw (q .1) (o .worth h i l (q .0))) (acted (s .acts) bounded h i l d)
 
-      ends-later : (x i h m : ℕ) → x < length plan → i < nextIn c′ x → h < length plan → m < size plan h → Follows plan (act plan x i) (act plan h m)
-          → (m < nextIn c′ h) × (rowIn plan c′ h m .round + cost (act plan x i) ≤ rowIn plan c′ x i .round)
-      ends-later x i h m l d z y f = go (after-turn x i l d)
+      ends-later : (x i : ℕ) → x < length plan → i < nextIn c′ x → Later c′ x i
+      ends-later x i l d h m z y f = go (acted (s .acts) bounded x i l d)
         where
-          go : New plan r k j c c′ (s .acts) bounded x i ⊎ Old plan r k j c c′ (s .acts) bounded x i
+          go : New j c x i ⊎ Old plan c c′ x i
               → (m < nextIn c′ h) × (rowIn plan c′ h m .round + cost (act plan x i) ≤ rowIn plan c′ x i .round)
           go (inl u) =
               let t = me .after h m z y (rw (u .0, u .1) at f) in
-              let q = old-row h m z (t .0) in
-              (q .0, rw (new-row x i u, q .1, u .0, u .1) (omega (arith, t .1)))
+              let q = acts-kept (s .acts) bounded h m z (t .0) in
+              (q .0, rw (acts-new (s .acts) x i u, q .1, u .0, u .1) (omega (arith, t .1)))
           go (inr u) =
-              let t = o .later x i h m l (u .0) z y f in
-              let q = old-row h m z (t .0) in
+              let t = o .later x i l (u .0) h m z y f in
+              let q = acts-kept (s .acts) bounded h m z (t .0) in
               (q .0, rw (q .1, u .1) (t .1))
 
       ends-kept : Kept r (suc k) b c′
@@ -235,39 +242,40 @@ module _ (e : Terms) where
         known = o .known;
         once = o .once;
         long = s .long ∙ o .long;
-        closed = acted-closed (shape plan) (shape-valid plan ok) (nextIn c) (o .closed) j (o .lives k j (omega arith) mine) (free-ready r c j me)
-            (nextIn c′) (s .acts .acts) (s .acts .rests);
+        closed = acted-closed action;
         done = ends-done;
         worth = ends-worth;
         later = ends-later;
-        lives = λ w x l q.
-            stays (shape plan) (shape-valid plan ok) (nextIn c) (o .closed) j (o .lives k j (omega arith) mine) (free-ready r c j me)
-            (nextIn c′) (s .acts .acts) (s .acts .rests) x (other r k j b c o mine w x l q) (o .lives w x (omega arith) q);
-        free = λ w x l q. free-after x r (other r k j b c o mine w x l q) (o .free w x (omega arith) q);
+        lives = λ w x l q. stays action x (other o mine w x (λ z. omega arith) q) (o .lives w x (omega arith) q);
+        free = λ w x l q. free-ends (other o mine w x (λ z. omega arith) q) (o .free w x (omega arith) q);
         begun = λ x l.
             let z : x ≢ j = λ q. omega (arith, ap (spentIn c′) q, s .fresh) in
-            free-after x (suc r) z (o .begun x (omega (arith, s .others x z)));
+            free-ends z (o .begun x (omega (arith, s .others x z)));
         unpaid = λ x l.
             let z : x ≢ j = λ q. omega (arith, ap (spentIn c′) q, s .fresh) in
             rw (s .acts .rests x z, s .others x z) (o .unpaid x (omega (arith, s .others x z)));
       }
 
     pub course-kept : {r m k : ℕ} {b : ℕ → ℕ} {c : Core} → Course e r m k b c → Kept r k b c
-    course-kept (begins {b} {c} idle s h) = start-kept b c idle s
-    course-kept (next-round {r} {m} {m′} {k} {b} {b′} {c} t s h) = next-kept r k b b′ c (course-kept t) s
-    course-kept (rests {r} {m} {k} {b} {c} t q) = rests-kept r k b c (course-kept t)
-    course-kept (works {r} {m} {k} {j} {b} {c} {c′} t mine h s) = works-kept r k j b c c′ (course-kept t) mine h s
-    course-kept (ends {r} {m} {k} {j} {b} {c} {c′} t mine h s l) = ends-kept r k j b c c′ (course-kept t) mine h s
-
-    pub course-bound : {r m k : ℕ} {b : ℕ → ℕ} {c : Core} → Course e r m k b c → (j : ℕ) → j < length plan → nextIn c j ≤ size plan j
-    course-bound t = course-kept t .closed .bound
+    course-kept (begins idle s h) = start-kept idle s
+    course-kept (next-round t s h) = next-kept (course-kept t) s
+    course-kept (rests t q) = rests-kept (course-kept t)
+    course-kept (works t mine h s) = works-kept (course-kept t) mine h s
+    course-kept (ends t mine h s l) = ends-kept (course-kept t) mine h s
 
     -- when job 0 has ended, all is done
-    pub course-done : {r m k : ℕ} {b : ℕ → ℕ} {c : Core} → Course e r m k b c → size plan 0 ≤ nextIn c 0 → (j : ℕ) → j < length plan → nextIn c j ≡ size plan j
+    pub course-done : {r m k : ℕ} {b : ℕ → ℕ} {c : Core} → Course e r m k b c → size plan 0 ≤ nextIn c 0
+        → (j : ℕ) → j < length plan → nextIn c j ≡ size plan j
     course-done {c = c} t = Progress.all-done (shape plan) (shape-valid plan ok) (nextIn c) (course-kept t .closed)
 
-    -- and its last action was done in this round
-    pub course-ended : {r m k : ℕ} {b : ℕ → ℕ} {c : Core} → Course e r m k b c → size plan 0 ≤ nextIn c 0 → rowIn plan c 0 (size plan 0 - 1) .round ≡ r
+    -- so every action is
+    pub course-all : {r m k : ℕ} {b : ℕ → ℕ} {c : Core} → Course e r m k b c → size plan 0 ≤ nextIn c 0
+        → (j i : ℕ) → j < length plan → i < size plan j → i < nextIn c j
+    course-all t ended j i l m = omega (arith, course-done t ended j l)
+
+    -- and the last action of job 0 was done in this round
+    pub course-ended : {r m k : ℕ} {b : ℕ → ℕ} {c : Core} → Course e r m k b c → size plan 0 ≤ nextIn c 0
+        → rowIn plan c 0 (size plan 0 - 1) .round ≡ r
     course-ended (begins idle s h) g =
         let z = jobs-range plan ok .0 in
         absurd (omega (arith, s .none 0, size-range plan ok 0 z))
@@ -284,7 +292,8 @@ module _ (e : Terms) where
 
         go : Dec (size plan 0 ≤ nextIn c 0) → (size plan 0 ≤ nextIn c 0 → rowIn plan c 0 (size plan 0 - 1) .round ≡ r)
             → rowIn plan c′ 0 (size plan 0 - 1) .round ≡ r
-        go (yes x) rec = rw (acts-kept plan r k j c c′ (s .acts) (course-bound t) 0 (size plan 0 - 1) z (omega (arith, size-range plan ok 0 z)) .1) (rec x)
+        go (yes x) rec =
+            rw (acts-kept (s .acts) (course-kept t .closed .bound) 0 (size plan 0 - 1) z (omega (arith, size-range plan ok 0 z)) .1) (rec x)
         go (no x) rec =
-            ⊎-elim (λ q. rw (acts-new plan r k j c c′ (s .acts) (course-bound t) 0 (size plan 0 - 1) q) refl) (λ q. absurd (omega (arith, q .0, size-range plan ok 0 z)))
-            (acted plan r k j c c′ (s .acts) (course-bound t) 0 (size plan 0 - 1) z last)
+            ⊎-elim (λ q. rw (acts-new (s .acts) 0 (size plan 0 - 1) q) refl) (λ q. absurd (omega (arith, q .0, size-range plan ok 0 z)))
+            (acted (s .acts) (course-kept t .closed .bound) 0 (size plan 0 - 1) z last)

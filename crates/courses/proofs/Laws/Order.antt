@@ -1,7 +1,10 @@
 -- The order of the rows of a course that has ended: each action comes so many rounds after all that it must follow as it takes turns, so
 -- that no chain of actions takes more turns than there are rounds; and, where the course is steady, the rows keep the rules of a schedule.
---   costs f l == how many turns the actions of a list take
--- Assumes nothing.
+--   costs f l    == how many turns the actions of a list take
+--   course-later == an action's turns come after the rounds of all that it must follow
+--   course-chain == there are no fewer rounds than a chain takes turns
+--   course-apart == where the course is steady, no worker works on two actions at a time
+--   course-keeps == where besides every action takes one turn, the rows keep the rules of a schedule
 use Prim.Native.Nat.{ℕ, suc, _+_, _-_, _≤_, _<_}
 use mathlib.Core.Path.{_≡_, refl, ap, sym, _∙_}
 use mathlib.Core.Logic.{_⊎_, inl, inr, ⊎-elim}
@@ -26,7 +29,7 @@ use Rattle.courses.specs.Row.{Row, noRow, place}
 use Rattle.courses.specs.Schedule.{rowOf, clash, alone, inOrder, keeps}
 use Rattle.courses.specs.Living.{lastRound}
 use Rattle.courses.proofs.Laws.Course.{Core, nextIn, rowIn, Terms, Course}
-use Rattle.courses.proofs.Laws.Kept.{Done, course-kept, course-done, course-ended}
+use Rattle.courses.proofs.Laws.Kept.{Done, course-kept, course-all, course-ended}
 use Rattle.courses.proofs.Laws.Apart.{course-calm}
 
 -- no two rows of a list clash
@@ -62,12 +65,13 @@ by-place p x y s (next a b) = next a b
 by-place p x y s (born o z q) = born o z (sym (ap (λ z. z .spawn) (s .is)) ∙ q)
 by-place p x y s (joined o a q) = joined o a (sym (ap (λ z. z .join) (s .is)) ∙ q)
 
-module _ (e : Terms) (ok : Accepted (e .plan)) {r idle k : ℕ} {b : ℕ → ℕ} {c : Core} (t : Course e r idle k b c) (ended : size (e .plan) 0 ≤ nextIn c 0) where
+module _ (e : Terms) (ok : Accepted (e .plan)) {r idle k : ℕ} {b : ℕ → ℕ} {c : Core} (t : Course e r idle k b c)
+    (ended : size (e .plan) 0 ≤ nextIn c 0) where
   open Terms e using (plan, cost, workers, steady)
 
   -- every action is done
   done : (j i : ℕ) → j < length plan → i < size plan j → i < nextIn c j
-  done j i l m = omega (arith, course-done e ok t ended j l)
+  done = course-all e ok t ended
 
   -- every row is of a round from 1 to r, and of one of the workers
   pub course-row : (h : ℕ) → h < total plan → Done workers r k (getD (c .rows) h noRow)
@@ -84,8 +88,8 @@ module _ (e : Terms) (ok : Accepted (e .plan)) {r idle k : ℕ} {b : ℕ → ℕ
       omega (
         arith,
         ap cost (u .is),
-        course-kept e ok t .later (x .job) (x .position) (y .job) (y .position) (u .known) (done (x .job) (x .position) (u .known) (u .within))
-            (v .known) (v .within) (by-place plan x y v (follows-of plan x y f)) .1,
+        course-kept e ok t .later (x .job) (x .position) (u .known) (done (x .job) (x .position) (u .known) (u .within))
+            (y .job) (y .position) (v .known) (v .within) (by-place plan x y v (follows-of plan x y f)) .1,
       )
 
   -- the turns of a chain come one after the other
@@ -113,11 +117,12 @@ module _ (e : Terms) (ok : Accepted (e .plan)) {r idle k : ℕ} {b : ℕ → ℕ
   course-last =
       let z = jobs-range plan ok .0 in
       let within : size plan 0 - 1 < size plan 0 = omega (arith, size-range plan ok 0 z) in
-      let here : place plan 0 (size plan 0 - 1) < length (c .rows) = omega (arith, course-kept e ok t .long, place-below plan 0 (size plan 0 - 1) z within) in
+      let last = size plan 0 - 1 in
+      let here : place plan 0 last < length (c .rows) = omega (arith, course-kept e ok t .long, place-below plan 0 last z within) in
       omega (
         arith,
         rounds-most (c .rows) (λ h l. course-row h (omega (arith, course-kept e ok t .long)) .latest),
-        largest-above (λ a. a .round) (c .rows) (rowIn plan c 0 (size plan 0 - 1)) (member-at (c .rows) noRow (place plan 0 (size plan 0 - 1)) here),
+        largest-above (λ a. a .round) (c .rows) (rowIn plan c 0 last) (member-at (c .rows) noRow (place plan 0 last) here),
         course-ended e ok t ended,
       )
     where
@@ -134,7 +139,8 @@ module _ (e : Terms) (ok : Accepted (e .plan)) {r idle k : ℕ} {b : ℕ → ℕ
         let u = member-acts plan x m in
         let v = member-acts plan y n in
         ⊎-elim inl (λ h. inr (omega (arith, ap cost (v .is))))
-        (course-calm e ok calm t .apart (x .job) (x .position) (y .job) (y .position) (u .known) (done (x .job) (x .position) (u .known) (u .within))
+        (course-calm e ok calm t .apart (x .job) (x .position) (y .job) (y .position)
+        (u .known) (done (x .job) (x .position) (u .known) (u .within))
         (v .known) (done (y .job) (y .position) (v .known) (v .within)) f g)
 
   -- where every action takes one turn
@@ -156,7 +162,8 @@ module _ (e : Terms) (ok : Accepted (e .plan)) {r idle k : ℕ} {b : ℕ → ℕ
           let g′ = rw (x .place, y .place) at g in
           ⊎-elim (λ q. x .place ∙ ap (place plan (x .job)) (q .1) ∙ ap (λ j. place plan j (y .position)) (q .0) ∙ sym (y .place))
           (λ q. absurd (omega (arith, one (act plan (y .job) (y .position)))))
-          (course-calm e ok calm t .apart (x .job) (x .position) (y .job) (y .position) (x .known) (done (x .job) (x .position) (x .known) (x .within))
+          (course-calm e ok calm t .apart (x .job) (x .position) (y .job) (y .position)
+          (x .known) (done (x .job) (x .position) (x .known) (x .within))
           (y .known) (done (y .job) (y .position) (y .known) (y .within)) g′ (le-of-eq f′))
 
       -- the rows keep the rules of a schedule
@@ -181,11 +188,13 @@ module _ (e : Terms) (ok : Accepted (e .plan)) {r idle k : ℕ} {b : ℕ → ℕ
           none k h l m z =
               let x = getD (c .rows) k noRow in
               let y = getD (c .rows) h noRow in
-              let q : k ≡ h = course-alone k h (omega (arith, long)) (omega (arith, long)) (eqb→eq (x .round) (y .round) (both-left (eqb (x .round) (y .round)) _ z))
+              let q : k ≡ h = course-alone k h (omega (arith, long)) (omega (arith, long))
+              (eqb→eq (x .round) (y .round) (both-left (eqb (x .round) (y .round)) _ z))
               (eqb→eq (x .worker) (y .worker) (both-right (eqb (x .round) (y .round)) _ z)) in
               omega arith
 
-          order : (k h : ℕ) → k < length (placed plan) → h < length (placed plan) → T (rule (getD (placed plan) k noPlaced) (getD (placed plan) h noPlaced))
+          order : (k h : ℕ) → k < length (placed plan) → h < length (placed plan)
+              → T (rule (getD (placed plan) k noPlaced) (getD (placed plan) h noPlaced))
           order k h l m =
               let x = getD (placed plan) k noPlaced in
               let y = getD (placed plan) h noPlaced in

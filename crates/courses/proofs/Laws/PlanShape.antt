@@ -1,25 +1,29 @@
 -- An accepted plan in the theory of lines: its shape is valid, the tests of a turn say what that theory says, and so do its weights.
---   shape p == the plan as the theory of lines has it
--- Assumes nothing.
+--   shape p     == the plan as the theory of lines has it
+--   done p l k  == how many actions of job k are done, by the list l of these counts
+--   X-is, X-by  == where the test X of the plan passes its meaning in the theory of lines holds, and the other way round
+--   weight-held == the weight by the plan is the weight held in the theory of lines
+--   path-same   == so is the weight of a path
 use Prim.Native.Nat.{ℕ, zero, suc, _+_, _≤_, _<_}
 use mathlib.Core.Path.{_≡_, refl, ap, sym, _∙_}
 use mathlib.Core.Logic.{_≢_}
 use mathlib.Core.Bool.{Bool, true, false, not}
 use mathlib.Core.List.{List, [], _∷_}
 use native.Mathlib.Omega.{arith}
-use native.Mathlib.Nat.{le-of-suc-le-suc, not-suc-le-zero}
+use native.Mathlib.Nat.{not-suc-le-zero}
 use lib.Dec.{T, eqb, leb, ltb, leb→le, le→leb, ltb→lt, lt→ltb, eqb→eq, eqb-refl, T-not}
 use lib.ListN.{length, getD}
-use Rattle.plan.specs.Test.{both, either, largest, below}
+use Rattle.plan.specs.Test.{both, either, below}
 use Rattle.plan.specs.Plan.{Plan, Job, Placed, job, size, action, placed, noJob, noPlaced, parent, spawnAt, enters}
 use Rattle.plan_measure.specs.Measure.{pathOver, path, heaviest}
+use Rattle.plan_measure.proofs.Laws.Largest.{largest-above, member-below}
 use Rattle.courses.specs.Ready.{spawned, ready, living, frames, weight}
 use Rattle.lines.proofs.Laws.Shape.{Shape, Valid, Living, living?, Ready}
-use Rattle.lines.proofs.Laws.Sum.{sum, only, only-yes, only-no}
+use Rattle.lines.proofs.Laws.Sum.{sum, sum-front, only, only-yes, only-no}
 use Rattle.lines.proofs.Laws.Weight.{held, path-root, path-child}
 use Rattle.lines.proofs.Laws.Weight
 use Rattle.plan.proofs.Laws.Lists.{both-intro, both-left, both-right, true-of, false-of, all-at, all-by}
-use Rattle.plan.proofs.Laws.Counts.{decT, below-length, below-at}
+use Rattle.plan.proofs.Laws.Counts.{decT}
 use Rattle.plan.proofs.Laws.Placed.{start, placed-length, placed-at, place-below, placed-of}
 use Rattle.plan.specs.Rules.{Accepted}
 use Rattle.plan.proofs.Laws.Valid.{jobs-range, size-range, older, spawned-there, spawned-once, join-target, last-sends}
@@ -84,7 +88,9 @@ module _ (p : Plan) (next : List ℕ) where
 
   pub spawned-by : (j : ℕ) → (1 ≤ j → spawnAt p j < done (parent p j)) → T (spawned p next j)
   unfolding spawned
-  spawned-by j b = either-by (eqb j 0) _ (λ n. let f : j ≢ 0 = λ e. n (rw e (eqb-refl 0)) in lt→ltb (spawnAt p j) (done (parent p j)) (b (omega arith)))
+  spawned-by j b =
+      either-by (eqb j 0) _
+      (λ n. let f : j ≢ 0 = λ e. n (rw e (eqb-refl 0)) in lt→ltb (spawnAt p j) (done (parent p j)) (b (omega arith)))
 
   pub living-is : (j : ℕ) → j < length p → T (living p next j) → Living (shape p) done j
   unfolding living
@@ -131,12 +137,6 @@ module _ (p : Plan) (next : List ℕ) where
             let (o, e, i) = enters-is p j (done j) a (not-not (enters p j (done j) a) n) in
             lt→ltb (a .position) (done (a .job)) (r (a .job) (st .known) (a .position) (st .within) e (sym (st .join) ∙ i)))
 
--- a sum from its first term
-sum-front : (n : ℕ) (f : ℕ → ℕ) → sum (suc n) f ≡ f 0 + sum n (λ i. f (suc i))
-unfolding sum
-sum-front zero f = omega arith
-sum-front (suc n) f = let r = sum-front n f in omega arith
-
 frames-hit : (f : ℕ → Bool) (o : ℕ) (b : Job) (l : List Job) → T (f o) → frames f o (b ∷ l) ≡ b .frame + frames f (suc o) l
 frames-hit f o b l t = rw (frames, true-of (f o) t)
 
@@ -144,13 +144,15 @@ frames-miss : (f : ℕ → Bool) (o : ℕ) (b : Job) (l : List Job) → (T (f o)
 frames-miss f o b l n = rw (frames, false-of (f o) n)
 
 -- the frames that a test picks, as a sum
-frames-sum : (f : ℕ → Bool) (o : ℕ) (l : List Job) (g : ℕ → ℕ) → ((i n : ℕ) → i < length l → o + i ≡ n → T (f n) → g i ≡ getD l i noJob .frame)
+frames-sum : (f : ℕ → Bool) (o : ℕ) (l : List Job) (g : ℕ → ℕ)
+    → ((i n : ℕ) → i < length l → o + i ≡ n → T (f n) → g i ≡ getD l i noJob .frame)
     → ((i n : ℕ) → i < length l → o + i ≡ n → (T (f n) → ⊥) → g i ≡ 0) → frames f o l ≡ sum (length l) g
 unfolding sum
 frames-sum f o [] g hit miss = refl
 frames-sum f o (b ∷ l) g hit miss =
     go (decT (f o))
-    (frames-sum f (suc o) l (λ i. g (suc i)) (λ i n h e. hit (suc i) n (omega arith) (omega arith)) (λ i n h e. miss (suc i) n (omega arith) (omega arith)))
+    (frames-sum f (suc o) l (λ i. g (suc i)) (λ i n h e. hit (suc i) n (omega arith) (omega arith))
+    (λ i n h e. miss (suc i) n (omega arith) (omega arith)))
   where
     go : Dec (T (f o)) → frames f (suc o) l ≡ sum (length l) (λ i. g (suc i)) → frames f o (b ∷ l) ≡ sum (suc (length l)) g
     go (yes t) r = omega (arith, frames-hit f o b l t, sum-front (length l) g, hit 0 o (omega arith) (omega arith) t)
@@ -191,17 +193,13 @@ module _ (p : Plan) (ok : Accepted p) where
       go (no m) r =
           let f : j ≢ 0 = λ e. m (rw e (eqb-refl 0)) in
           let o = older p ok j (omega arith) b in
-          over-child n j f ∙ ap (λ x. job p j .frame + x) (r (omega arith) (omega arith)) ∙ sym (path-child (shape p) (shape-valid p ok) j (omega arith) b)
+          over-child n j f ∙ ap (λ x. job p j .frame + x) (r (omega arith) (omega arith))
+          ∙ sym (path-child (shape p) (shape-valid p ok) j (omega arith) b)
 
   pub path-same : (j : ℕ) → j < length p → path p j ≡ Weight.path (shape p) j
   unfolding path
   path-same j h = over-path (length p) j h h
 
-pub largest-at : {A : Type 0} (f : A → ℕ) (l : List A) (d : A) (i : ℕ) → i < length l → f (getD l i d) ≤ largest f l
-largest-at f [] d i h = absurd (not-suc-le-zero h)
-largest-at f (x ∷ l) d zero h = omega arith
-largest-at f (x ∷ l) d (suc i) h = omega (arith, largest-at f l d i (le-of-suc-le-suc h))
-
 pub path-most : (p : Plan) (j : ℕ) → j < length p → path p j ≤ heaviest p
 unfolding heaviest
-path-most p j h = rw (below-at (length p) j h) at (largest-at (path p) (below (length p)) 0 j (omega (arith, below-length (length p))))
+path-most p j h = largest-above (path p) (below (length p)) j (member-below (length p) j h)

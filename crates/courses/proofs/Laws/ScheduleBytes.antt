@@ -1,5 +1,6 @@
 -- What was written of rows is read again.
---   Small rows == each row has a round from 1 to 4095 and a worker below 16
+--   Small rows    == each row has a round from 1 to 4095 and a worker below 16
+--   schedule-read == the bytes of a schedule are read as that schedule
 use Prim.Native.Nat.{ℕ, suc, _+_, _*_, _-_, _≤_, _<_}
 use mathlib.Core.Path.{_≡_, refl, _∙_}
 use mathlib.Core.Bool.{Bool, true, false}
@@ -24,7 +25,8 @@ when-goes-on : {B : Type 0} {r : Step B} (c : Bool) (k : ℕ) (m : Step B) → c
 when-goes-on c k m e g = rw e g
 
 abbrev pub Small : List Row → Type 0
-Small rows = (k : ℕ) → k < length rows → (1 ≤ getD rows k noRow .round) × (getD rows k noRow .round ≤ 4095) × (getD rows k noRow .worker < 16)
+Small rows = (k : ℕ) → k < length rows
+    → (1 ≤ getD rows k noRow .round) × (getD rows k noRow .round ≤ 4095) × (getD rows k noRow .worker < 16)
 
 rows-found : {P : Type 0} (s : List ℕ) (rows : List Row) (n : ℕ) (c : List ℕ) → Small rows → Rest s n (rowsBits rows ++ c)
     → ((m : ℕ) → rowsAt s (length rows) n ≡ step rows m → P) → P
@@ -74,7 +76,8 @@ module _ (n : ℕ) (rows : List Row) where
       ≡ scheduleBits n rows ++ replicate (8 * (4 + 2 * length rows) - length (scheduleBits n rows)) 0
   unfolding scheduleBytes
   schedule-bits =
-      bits-pack (4 + 2 * length rows) (scheduleBits n rows) bits-binary-all (omega (arith, bits-length-all)) (omega (arith, bits-length-all))
+      bits-pack (4 + 2 * length rows) (scheduleBits n rows) bits-binary-all
+      (omega (arith, bits-length-all)) (omega (arith, bits-length-all))
 
 header : (n l : ℕ) → 1 ≤ n → n ≤ 16 → both (both (eqb 1 1) (both (leb 1 n) (leb n 16))) (both (eqb l l) (eqb 0 0)) ≡ true
 header n l h k =

@@ -1,7 +1,7 @@
 -- The two kinds of turn on cores that are lists: what a run stores.
 --   worked j c         == c after a turn with job j that does not finish its next action
 --   finished p r w j c == c after worker w finished the next action of job j in round r
--- Assumes nothing.
+--   worked-works, finished-ends == these are the turns of a course
 use Prim.Native.Nat.{ℕ, zero, suc, _<_, max}
 use mathlib.Core.Path.{_≡_, refl}
 use mathlib.Core.List.{List, [], _∷_}

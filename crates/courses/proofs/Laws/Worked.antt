@@ -1,8 +1,11 @@
 -- The turns of a course: those of the actions that are done and those of the ones that were begun, no more than all actions take; and
 -- each round in which some worker has a job has one.
---   upTo e j i == how many turns the actions of job j before position i take; price e == all actions
---   had e c j  == the turns that were had with job j
--- Assumes nothing.
+--   upTo e j i    == how many turns the actions of job j before position i take
+--   price e       == how many turns all actions take
+--   had e c j     == how many turns were had with job j
+--   course-worked == the turns of a course are those that were had with its jobs
+--   turns-all     == in the end they are the price
+--   course-most   == there are at most as many rounds as the price, but for those in which no worker has a job
 use Prim.Native.Nat.{ℕ, zero, suc, _+_, _-_, _≤_, _<_}
 use mathlib.Core.Path.{_≡_, refl, ap, sym, _∙_}
 use mathlib.Core.Logic.{_⊎_, inl, inr, _≢_, ⊎-elim, Dec·and}
@@ -34,7 +37,13 @@ module _ (e : Terms) where
   unfolding sum
   step j i = refl
 
+  -- a job whose next action has a turn left has had fewer turns than its actions take
+  had-less : (c : Core) (j : ℕ) → nextIn c j < size plan j → spentIn c j < cost (act plan j (nextIn c j)) → had c j < upTo j (size plan j)
+  had-less c j left more =
+      omega (arith, step j (nextIn c j), sum-mono (suc (nextIn c j)) (size plan j) (λ a. cost (act plan j a)) left)
+
   module _ (ok : Accepted plan) where
+    -- the turns are those of all jobs
     pub course-worked : {r m k : ℕ} {b : ℕ → ℕ} {c : Core} → Course e r m k b c → c .turns ≡ sum (length plan) (had c)
     unfolding sum
     course-worked (begins {b} {c} idle s h) = s .turns ∙ sym (none (length plan))
@@ -45,8 +54,11 @@ module _ (e : Terms) where
     course-worked (next-round t s h) = course-worked t
     course-worked (rests t q) = course-worked t
     course-worked (works {r} {m} {k} {j} {b} {c} {c′} t mine h s) =
-        s .turns ∙ (ap suc (course-worked t) ∙ sym (sum-suc (length plan) (had c) (had c′) j (course-kept e ok t .lives k j (omega arith) mine .below) here there))
+        s .turns ∙ (ap suc (course-worked t) ∙ sym (sum-suc (length plan) (had c) (had c′) j known here there))
       where
+        known : j < length plan
+        known = course-kept e ok t .lives k j (omega arith) mine .below
+
         here : had c′ j ≡ suc (had c j)
         here = rw (s .next) (omega (arith, s .spends))
 
@@ -65,7 +77,7 @@ module _ (e : Terms) where
     had-most {c = c} t j l =
         let bound = course-kept e ok t .closed .bound j l in
         ⊎-elim (λ z. omega (arith, sum-mono (nextIn c j) (size plan j) (λ a. cost (act plan j a)) bound))
-        (λ z. let u = course-kept e ok t .unpaid j z in omega (arith, step j (nextIn c j), sum-mono (suc (nextIn c j)) (size plan j) (λ a. cost (act plan j a)) (u .0)))
+        (λ z. let u = course-kept e ok t .unpaid j z in omega (arith, had-less c j (u .0) (u .1)))
         (eq-zero-or-pos (spentIn c j))
 
     pub turns-most : {r m k : ℕ} {b : ℕ → ℕ} {c : Core} → Course e r m k b c → c .turns ≤ price
@@ -78,14 +90,17 @@ module _ (e : Terms) where
         each : (j : ℕ) → j < length plan → had c j ≡ upTo j (size plan j)
         each j l =
             let d = course-done e ok t ended j l in
-            ⊎-elim (λ z. omega (arith, ap (upTo j) d)) (λ z. absurd (omega (arith, course-kept e ok t .unpaid j z))) (eq-zero-or-pos (spentIn c j))
+            ⊎-elim (λ z. omega (arith, ap (upTo j) d)) (λ z. absurd (omega (arith, course-kept e ok t .unpaid j z)))
+            (eq-zero-or-pos (spentIn c j))
 
     -- a round in which a worker has a job has a turn, once all that have one have had theirs
     course-turned : {r m k : ℕ} {b : ℕ → ℕ} {c : Core} → Course e r m k b c
         → (r ≤ suc (c .turns + m)) × (((w j : ℕ) → b w ≡ suc j → w < k) → r ≤ c .turns + m)
     course-turned (begins idle s h) = (omega arith, λ f. omega arith)
     course-turned (next-round t s (inr h)) = let i = course-turned t .1 (s .over) in (omega arith, λ f. omega arith)
-    course-turned (next-round t s (inl (h, (w, j, q)))) = let i = course-turned t .1 (s .over) in (omega arith, λ f. absurd (not-suc-le-zero (f w j q)))
+    course-turned (next-round t s (inl (h, (w, j, q)))) =
+        let i = course-turned t .1 (s .over) in
+        (omega arith, λ f. absurd (not-suc-le-zero (f w j q)))
     course-turned (rests {r} {m} {k} {b} {c} t q) = (
       course-turned t .0,
       λ f. course-turned t .1 (λ w j i. let g : w ≢ k = λ z. omega (arith, ap b z) in omega (arith, f w j i)),
@@ -104,13 +119,13 @@ module _ (e : Terms) where
         more w j l q =
             let a = course-kept e ok t .lives w j l q in
             let h : had c j < upTo j (size plan j) = ⊎-elim
-            (λ z. omega (arith, step j (nextIn c j), positive j (nextIn c j) (a .below) (a .left), sum-mono (suc (nextIn c j)) (size plan j) (λ i. cost (act plan j i)) (a .left)))
-            (λ z. let u = course-kept e ok t .unpaid j z in omega (arith, step j (nextIn c j), sum-mono (suc (nextIn c j)) (size plan j) (λ i. cost (act plan j i)) (u .0)))
-            (eq-zero-or-pos (spentIn c j)) in
+            (λ z. had-less c j (a .left) (omega (arith, positive j (nextIn c j) (a .below) (a .left))))
+            (λ z. let u = course-kept e ok t .unpaid j z in had-less c j (u .0) (u .1)) (eq-zero-or-pos (spentIn c j)) in
             omega (arith, course-worked t, sum-less (length plan) (had c) (λ j. upTo j (size plan j)) (had-most t) j (a .below) h)
 
         go : ((w : ℕ) × (w < workers) × ((k ≤ w) × (1 ≤ b w))) ⊎ ((w : ℕ) → w < workers → ¬ ((k ≤ w) × (1 ≤ b w))) → r ≤ price + m
         go (inl (w, l, (h, i))) = omega (arith, course-turned t .0, more w (b w - 1) h (omega arith))
         go (inr f) =
-            let all : (w j : ℕ) → b w ≡ suc j → w < k = λ w j q. lt-of-not-le (λ h. f w (course-kept e ok t .known w j q) (h, omega arith)) in
+            let all : (w j : ℕ) → b w ≡ suc j → w < k =
+            λ w j q. lt-of-not-le (λ h. f w (course-kept e ok t .known w j q) (h, omega arith)) in
             omega (arith, course-turned t .1 all, turns-most t)

@@ -1,5 +1,6 @@
--- Chains of jobs.
--- Assumes nothing.
+-- Chains of jobs: their parts are chains, and their numbers fall, since a parent is older than its child.
+--   falls    == every job of a chain is below the first
+--   last-low == the last job of a chain is below the others
 use mathlib.Core.Path.{refl}
 use mathlib.Core.Logic.{inl, inr}
 use mathlib.Core.List.{List, [], _∷_, _++_}
@@ -9,7 +10,7 @@ use Rattle.lines.proofs.Laws.Member.{_∈_, in-back, put}
 use Rattle.lines.proofs.Laws.Shape.{Shape, Valid, Chain}
 
 module _ (P : Shape) where
-  open Shape P using (jobs, parent)
+  open Shape P using (jobs)
 
   chain-tail : (h : ℕ) (l : List ℕ) → Chain P (h ∷ l) → Chain P l
   chain-tail h [] c = tt
@@ -38,7 +39,8 @@ module _ (P : Shape) where
   chain-front (x ∷ (y ∷ l)) r c = (c .0, c .1, chain-front (y ∷ l) r (c .2))
 
   -- so the last number is below those before it
-  pub last-low : Valid P → (l : List ℕ) (x : ℕ) → ((y : ℕ) → y ∈ l ++ (x ∷ []) → y < jobs) → Chain P (l ++ (x ∷ [])) → (y : ℕ) → y ∈ l → x < y
+  pub last-low : Valid P → (l : List ℕ) (x : ℕ) → ((y : ℕ) → y ∈ l ++ (x ∷ []) → y < jobs) → Chain P (l ++ (x ∷ []))
+      → (y : ℕ) → y ∈ l → x < y
   last-low ok [] x b c y m = absurd m
   last-low ok (z ∷ l) x b c y (inl e) = rw e (falls ok z (l ++ (x ∷ [])) b c x (in-back l (x ∷ []) x (inl refl)))
   last-low ok (z ∷ l) x b c y (inr m) = last-low ok l x (λ u i. b u (inr i)) (chain-tail z (l ++ (x ∷ [])) c) y m

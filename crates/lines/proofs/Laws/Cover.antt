@@ -1,5 +1,8 @@
--- Every living job is an ancestor of the first job of some line, or that job itself.
--- Assumes nothing.
+-- Every living job is the first job of some line or an ancestor of one.
+--   Above P x h == h is x or descends from x
+--   Covered x   == the first job of some line is x or descends from x
+--   cover       == every living job is covered
+--   busy        == some line is not empty as long as the root lives
 use mathlib.Core.Path.{_≡_, refl, sym, ap, _∙_}
 use mathlib.Core.Logic.{_⊎_, inl, inr, Dec·and}
 use mathlib.Core.List.{List, _∷_}
@@ -7,12 +10,11 @@ use Prim.Native.Nat.{ℕ, zero, suc, _+_, _≤_, _<_}
 use native.Mathlib.Omega.{arith}
 use native.Mathlib.Decide.{ℕ-discrete, decLe}
 use Rattle.lines.proofs.Laws.Bounded.{find}
-use Rattle.lines.proofs.Laws.Shape.{Shape, Valid, Living, living?, Heir, Leaves}
+use Rattle.lines.proofs.Laws.Shape.{Shape, Valid, Living, living?, Heir, Lone, Leaves}
 
 module _ (P : Shape) where
   open Shape P using (jobs, parent)
 
-  -- h descends from x, or is x
   pub data Above (x : ℕ) : ℕ → Type 0 where
     self : {h : ℕ} → x ≡ h → Above x h
     up : {h : ℕ} → 1 ≤ h → Above x (parent h) → Above x h
@@ -32,7 +34,7 @@ module _ (P : Shape) where
     cover-below zero x e l = absurd (omega (arith, l .below))
     cover-below (suc d) x e l = go (cover-below d) (find (Heir P next x) (heir? x) jobs)
       where
-        go : ((k : ℕ) → jobs ≤ k + d → Living P next k → Covered k) → ((k : ℕ) × (k < jobs) × Heir P next x k) ⊎ ((k : ℕ) → k < jobs → ¬ Heir P next x k) → Covered x
+        go : ((k : ℕ) → jobs ≤ k + d → Living P next k → Covered k) → ((k : ℕ) × (k < jobs) × Heir P next x k) ⊎ Lone P next x → Covered x
         go rec (inl (k, b, (o, (p, v)))) =
             let (w, h, r, e, a) = rec k (omega (arith, ok .older k o b)) v in
             (w, h, r, e, above-parent o p a)

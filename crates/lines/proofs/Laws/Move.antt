@@ -1,8 +1,9 @@
--- Lines that are handed on whole, to whoever had none: the state stays good.
--- Assumes nothing.
+-- Lines that are handed on whole, to whoever had none: the state stays good, and no more lines are filled.
+--   Moved line line′ from == line v of line′, if it is not empty, is line from v of line; no two are the same, and none that is not
+--                            empty is lost
 use mathlib.Core.Path.{_≡_, refl, sym, ap, _∙_}
 use mathlib.Core.Logic.{_⊎_, inl, inr, _≢_, by-cases, Dec·and}
-use mathlib.Core.List.{List, [], _∷_}
+use mathlib.Core.List.{List, [], _∷_, cons-ne-nil}
 use Prim.Native.Nat.{ℕ, _≤_, _<_, zero-le}
 use native.Mathlib.Nat.{not-suc-le-zero, lt-of-not-le, le-trans, le-of-eq}
 use native.Mathlib.Omega.{arith}
@@ -13,7 +14,6 @@ use Rattle.lines.proofs.Laws.Member.{_∈_}
 use Rattle.lines.proofs.Laws.Sum.{sum, only, only-yes, sum-le, sum-zero, sum-swap, sum-term, sum-only}
 use Rattle.lines.proofs.Laws.Weight.{full, filled}
 
--- line v of the new ones, if it is not empty, is line `from v` of the old ones; no two are the same, and none that is not empty is lost
 pub record Moved (line line′ : ℕ → List ℕ) (from : ℕ → ℕ) : Type 0 where
   pub same : (v : ℕ) → line′ v ≢ [] → line′ v ≡ line (from v)
   pub apart : (u v : ℕ) → line′ u ≢ [] → line′ v ≢ [] → from u ≡ from v → u ≡ v
@@ -22,7 +22,7 @@ pub record Moved (line line′ : ℕ → List ℕ) (from : ℕ → ℕ) : Type 0
 filled-by : (l : List ℕ) (x : ℕ) → x ∈ l → l ≢ []
 filled-by l x m e = absurd (rw e at m)
 
-module _ (P : Shape) (next : ℕ → ℕ) (line line′ : ℕ → List ℕ) (from : ℕ → ℕ) (good : Good P next line) (moved : Moved line line′ from) where
+module _ {P : Shape} {next : ℕ → ℕ} {line line′ : ℕ → List ℕ} {from : ℕ → ℕ} (good : Good P next line) (moved : Moved line line′ from) where
   old : (v x : ℕ) → x ∈ line′ v → x ∈ line (from v)
   old v x m = rw (moved .same v (filled-by (line′ v) x m)) at m
 
@@ -35,7 +35,8 @@ module _ (P : Shape) (next : ℕ → ℕ) (line line′ : ℕ → List ℕ) (fro
     closed = good .closed;
     chain = λ v. chain′ v (line′ v) refl;
     here = λ v x m. good .here (from v) x (old v x m);
-    apart = λ u v x m i. moved .apart u v (filled-by (line′ u) x m) (filled-by (line′ v) x i) (good .apart (from u) (from v) x (old u x m) (old v x i));
+    apart = λ u v x m i.
+        moved .apart u v (filled-by (line′ u) x m) (filled-by (line′ v) x i) (good .apart (from u) (from v) x (old u x m) (old v x i));
     found = λ x a r.
         let (u, m) = good .found x a r in
         let (v, e) = moved .all u (filled-by (line u) x m) in
@@ -44,11 +45,16 @@ module _ (P : Shape) (next : ℕ → ℕ) (line line′ : ℕ → List ℕ) (fro
 
 full-none : (l : List ℕ) → 1 ≤ full l → l ≢ []
 unfolding full
-full-none [] h e = not-suc-le-zero h
-full-none (x ∷ l) h e = let z : _≡_ {A = ℕ} 0 1 = cc in omega arith
+full-none [] h = absurd (not-suc-le-zero h)
+full-none (x ∷ l) h = cons-ne-nil x l
 
 -- and no more lines are filled than before
-module _ (line line′ : ℕ → List ℕ) (from : ℕ → ℕ) (moved : Moved line line′ from) (size size′ : ℕ) (past : (u : ℕ) → size ≤ u → line u ≡ []) where
+module _ {line line′ : ℕ → List ℕ} {from : ℕ → ℕ} (moved : Moved line line′ from) (size size′ : ℕ)
+    (past : (u : ℕ) → size ≤ u → line u ≡ []) where
+  -- line v of the new ones is not empty and came from line u
+  abbrev From : ℕ → ℕ → Type 0
+  From u v = (u ≡ from v) × (1 ≤ full (line′ v))
+
   -- line v, counted at the line that it came from
   came : ℕ → ℕ → ℕ
   came v u = only (ℕ-discrete u (from v)) (full (line′ v))
@@ -65,22 +71,24 @@ module _ (line line′ : ℕ → List ℕ) (from : ℕ → ℕ) (moved : Moved l
 
   each-old : (u : ℕ) → sum size′ (λ v. came v u) ≤ full (line u)
   unfolding came only
-  each-old u = go (find (λ v. (u ≡ from v) × (1 ≤ full (line′ v))) (λ v. Dec·and (ℕ-discrete u (from v)) (decLe 1 (full (line′ v)))) size′)
+  each-old u = go (find (From u) (λ v. Dec·and (ℕ-discrete u (from v)) (decLe 1 (full (line′ v)))) size′)
     where
-      zero-case : ((v : ℕ) → v < size′ → ¬ ((u ≡ from v) × (1 ≤ full (line′ v)))) → (v : ℕ) → v < size′ → (d : Dec (u ≡ from v)) → only d (full (line′ v)) ≤ 0
+      zero-case : ((v : ℕ) → v < size′ → ¬ From u v) → (v : ℕ) → v < size′ → (d : Dec (u ≡ from v)) → only d (full (line′ v)) ≤ 0
       zero-case f v b (yes e) = by-cases (decLe 1 (full (line′ v))) (λ h. absurd (f v b (e, h))) (λ h. omega arith)
       zero-case f v b (no g) = zero-le
 
-      one-case : (x : ℕ) → u ≡ from x → 1 ≤ full (line′ x) → (v : ℕ) (d : Dec (u ≡ from v)) (i : Dec (v ≡ x)) → only d (full (line′ v)) ≤ only i (full (line u))
+      one-case : (x : ℕ) → u ≡ from x → 1 ≤ full (line′ x) → (v : ℕ) (d : Dec (u ≡ from v)) (i : Dec (v ≡ x))
+          → only d (full (line′ v)) ≤ only i (full (line u))
       one-case x e h v (no g) i = zero-le
       one-case x e h v (yes q) (yes z) = le-of-eq (ap full (ap line′ z ∙ (moved .same x (full-none (line′ x) h) ∙ ap line (sym e))))
       one-case x e h v (yes q) (no z) =
-          by-cases (decLe 1 (full (line′ v))) (λ g. absurd (z (moved .apart v x (full-none (line′ v) g) (full-none (line′ x) h) (sym q ∙ e)))) (λ g. omega arith)
+          by-cases (decLe 1 (full (line′ v)))
+          (λ g. absurd (z (moved .apart v x (full-none (line′ v) g) (full-none (line′ x) h) (sym q ∙ e)))) (λ g. omega arith)
 
-      go : ((v : ℕ) × (v < size′) × ((u ≡ from v) × (1 ≤ full (line′ v)))) ⊎ ((v : ℕ) → v < size′ → ¬ ((u ≡ from v) × (1 ≤ full (line′ v))))
-          → sum size′ (λ v. came v u) ≤ full (line u)
+      go : ((v : ℕ) × (v < size′) × From u v) ⊎ ((v : ℕ) → v < size′ → ¬ From u v) → sum size′ (λ v. came v u) ≤ full (line u)
       go (inl (x, b, (e, h))) =
-          le-trans (sum-le size′ (λ v. came v u) (λ v. only (ℕ-discrete v x) (full (line u))) (λ v c. one-case x e h v (ℕ-discrete u (from v)) (ℕ-discrete v x)))
+          le-trans (sum-le size′ (λ v. came v u) (λ v. only (ℕ-discrete v x) (full (line u)))
+          (λ v c. one-case x e h v (ℕ-discrete u (from v)) (ℕ-discrete v x)))
           (sum-only size′ (λ v. full (line u)) x)
       go (inr f) =
           let z = sum-le size′ (λ v. came v u) (λ v. 0) (λ v b. zero-case f v b (ℕ-discrete u (from v))) in
@@ -90,4 +98,5 @@ module _ (line line′ : ℕ → List ℕ) (from : ℕ → ℕ) (moved : Moved l
   unfolding filled
   relabel-filled =
       le-trans (sum-le size′ (λ v. full (line′ v)) (λ v. sum size (came v)) (λ v b. each-new v))
-      (le-trans (le-of-eq (sum-swap size′ size came)) (sum-le size (λ u. sum size′ (λ v. came v u)) (λ u. full (line u)) (λ u b. each-old u)))
+      (le-trans (le-of-eq (sum-swap size′ size came))
+      (sum-le size (λ u. sum size′ (λ v. came v u)) (λ u. full (line u)) (λ u b. each-old u)))

@@ -1,5 +1,8 @@
 -- A run goes on until its root has ended, and then every job has.
--- Assumes nothing.
+--   ends         == the last action of a job that has a parent sends a join, to a later action of the parent than the spawn
+--   parent-lives == the parent of a living job lives
+--   root-lives   == the root lives as long as any job
+--   all-done     == when the root has ended, every action is done
 use mathlib.Core.Path.{_≡_, sym}
 use mathlib.Core.Logic.{⊎-elim}
 use Prim.Native.Nat.{ℕ, suc, pred, _-_, _≤_, _<_}
@@ -12,7 +15,8 @@ module _ (P : Shape) (ok : Valid P) where
   open Shape P using (jobs, len, parent, spawnAt, join)
 
   -- the last action of a job joins with its parent
-  pub ends : (j : ℕ) → 1 ≤ j → j < jobs → (t : ℕ) × (join j (len j - 1) ≡ suc t) × (len j - 1 < len j) × (t < len (parent j)) × (spawnAt j < t)
+  pub ends : (j : ℕ) → 1 ≤ j → j < jobs
+      → (t : ℕ) × (join j (len j - 1) ≡ suc t) × (len j - 1 < len j) × (t < len (parent j)) × (spawnAt j < t)
   ends j o b =
       let e = sym (suc-pred-eq-of-ne-zero (ok .last j o b)) in
       let l : len j - 1 < len j = omega (arith, ok .long j b) in
@@ -29,7 +33,8 @@ module _ (P : Shape) (ok : Valid P) where
         record {
           below = omega (arith, a .below);
           begun = λ i. closed .started (parent x) i (omega (arith, a .below)) (omega arith);
-          left = lt-of-not-le (λ (g : len (parent x) ≤ next (parent x)). let z = closed .joined x (len x - 1) t (a .below) l e (omega arith) in omega arith);
+          left = lt-of-not-le (λ (g : len (parent x) ≤ next (parent x)).
+              let z = closed .joined x (len x - 1) t (a .below) l e (omega arith) in omega arith);
         }
 
     -- the root lives as long as any job

@@ -1,5 +1,15 @@
--- A plan of a fully strict computation, the states of its run by lines of jobs, and what holds of each state.
--- Assumes nothing.
+-- A plan of a fully strict computation and the states of its run: how many actions of each job are done, and lines of jobs.
+--   Shape              == a plan: its jobs, and of each its length, parent, spawn, frame, children and joins
+--   Valid P            == the rules that a plan keeps
+--   Living P next j    == job j was spawned and has not ended, where next j is how many actions of job j are done
+--   Ready P next j     == every join into the next action of job j was sent
+--   Closed P next      == nothing is done before what it must follow
+--   Chain P l          == each job of l, but for the last, has the one after it as its parent
+--   Heir P next x k    == k is a living child of x
+--   Lone P next x      == no child of x lives
+--   Leads line x       == x is the first of a line
+--   Leaves P next line == every living job that has no living child is the first of a line
+--   Good P next line   == what is done is closed, each line is a chain, and the living jobs that are ready stand in one line each
 use mathlib.Core.Path.{_≡_}
 use mathlib.Core.Logic.{_≢_, Dec·and}
 use mathlib.Core.List.{List, [], _∷_}
@@ -18,6 +28,9 @@ pub record Shape : Type 0 where
   pub frame : ℕ → ℕ
   pub child : ℕ → ℕ → ℕ
   pub join : ℕ → ℕ → ℕ
+
+abbrev pub Leads : (ℕ → List ℕ) → ℕ → Type 0
+Leads line x = (w : ℕ) × (l : List ℕ) × (line w ≡ x ∷ l)
 
 module _ (P : Shape) where
   open Shape P using (jobs, len, parent, spawnAt, child, join)
@@ -40,7 +53,6 @@ module _ (P : Shape) where
     pub begun : 1 ≤ j → spawnAt j < next (parent j)
     pub left : next j < len j
 
-  -- every join into j's next action was sent
   abbrev pub Ready : (ℕ → ℕ) → ℕ → Type 0
   Ready next j = (k : ℕ) → k < jobs → (a : ℕ) → a < len k → parent k ≡ j → join k a ≡ suc (next j) → a < next k
 
@@ -57,26 +69,26 @@ module _ (P : Shape) where
       (λ k. all? (λ a. parent k ≡ j → join k a ≡ suc (next j) → a < next k)
       (λ a. imp? (ℕ-discrete (parent k) j) (imp? (ℕ-discrete (join k a) (suc (next j))) (decLt a (next k)))) (len k)) jobs
 
-  -- each job in the list, but for the last, has the one after it as its parent
   abbrev pub Chain : List ℕ → Type 0
   Chain [] = Unit {0}
   Chain (x ∷ []) = Unit {0}
   Chain (x ∷ (y ∷ l)) = (1 ≤ x) × (parent x ≡ y) × Chain (y ∷ l)
 
-  -- what is done is closed: nothing is done before what it must follow
   pub record Closed (next : ℕ → ℕ) : Type 0 where
     pub bound : (j : ℕ) → j < jobs → next j ≤ len j
     pub started : (j : ℕ) → 1 ≤ j → j < jobs → 0 < next j → spawnAt j < next (parent j)
     pub joined : (j a t : ℕ) → j < jobs → a < len j → join j a ≡ suc t → t < next (parent j) → a < next j
 
-  -- k is a living child of x
   abbrev pub Heir : (ℕ → ℕ) → ℕ → ℕ → Type 0
   Heir next x k = (1 ≤ k) × ((parent k ≡ x) × Living next k)
 
-  -- every living job that has no living child is the first of a line; a line may be whatever has a first job
+  abbrev pub Lone : (ℕ → ℕ) → ℕ → Type 0
+  Lone next x = (k : ℕ) → k < jobs → ¬ Heir next x k
+
+  -- a line may be whatever has a first job
   pub record Leaves (next : ℕ → ℕ) (line : ℕ → List ℕ) : Type 0 where
     pub known : (w x : ℕ) (l : List ℕ) → line w ≡ x ∷ l → x < jobs
-    pub leaf : (x : ℕ) → Living next x → ((k : ℕ) → k < jobs → ¬ Heir next x k) → (w : ℕ) × (l : List ℕ) × (line w ≡ x ∷ l)
+    pub leaf : (x : ℕ) → Living next x → Lone next x → Leads line x
 
   -- `line w` is the job that worker w holds, and then its deque from the bottom up
   pub record Good (next : ℕ → ℕ) (line : ℕ → List ℕ) : Type 0 where

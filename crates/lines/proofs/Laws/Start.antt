@@ -1,5 +1,6 @@
--- The first state is good: nothing is done, and one worker holds the root.
--- Assumes nothing.
+-- The first state is good: nothing is done, and worker 0 holds the root.
+--   none-closed == what is done is closed where nothing is done
+--   start-good  == the first state is good
 use mathlib.Core.Path.{_≡_}
 use mathlib.Core.Logic.{_⊎_, inl, inr, _≢_, by-cases}
 use mathlib.Core.List.{List, [], _∷_}
@@ -19,8 +20,6 @@ none-closed P next none = record {
 
 module _ (P : Shape) (ok : Valid P) (next : ℕ → ℕ) (line : ℕ → List ℕ) (none : (j : ℕ) → next j ≡ 0)
     (root : line 0 ≡ 0 ∷ []) (idle : (w : ℕ) → w ≢ 0 → line w ≡ []) where
-  open Shape P using (jobs)
-
   first : (w x : ℕ) → x ∈ line w → (w ≡ 0) × (x ≡ 0)
   first w x m = by-cases (ℕ-discrete w 0) (λ e. (e, in-single (rw (e, root) at m))) (λ f. absurd (rw (idle w f) at m))
 

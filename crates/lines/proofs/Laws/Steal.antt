@@ -1,5 +1,6 @@
--- A theft keeps a state good: the last job of a line becomes the line of a worker that had none.
--- Assumes nothing.
+-- A theft keeps a state good: the last job x of worker v's line becomes the line of worker w, which had none.
+--   Was u y    == why job y stands in the line of worker u after the theft
+--   steal-good == the state after the theft is good
 use mathlib.Core.Path.{_≡_, refl, sym, _∙_}
 use mathlib.Core.Logic.{inl, _≢_, by-cases, ⊎-elim}
 use mathlib.Core.List.{List, [], _∷_, _++_}

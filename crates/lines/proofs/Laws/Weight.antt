@@ -1,23 +1,25 @@
--- The frames of the living jobs weigh at most as much as one path of the tree for each line.
--- Assumes nothing.
+-- The frames of the living jobs weigh at most as much as one path of the tree for each line that is not empty.
+--   full l           == 1 if the list l has an element, 0 if not
+--   filled size line == how many of the lines below size are not empty
+--   path P h         == the weight of the frames on the path from the root to job h
+--   reach P l        == the path of the first job of the line l, and 0 if it has none
+--   held P next      == the weight of the living jobs' frames
 use mathlib.Core.Path.{_≡_, refl, sym, ap, _∙_}
-use mathlib.Core.List.{List, [], _∷_}
+use mathlib.Core.List.{List, [], _∷_, cons-ne-nil}
 use Prim.Native.Nat.{ℕ, zero, suc, _+_, _*_, _≤_, _<_, zero-le}
 use native.Mathlib.Nat.{le-trans, le-of-eq, le-refl, lt-of-not-le}
 use native.Mathlib.Omega.{arith}
 use native.Mathlib.Decide.{ℕ-discrete}
-use Rattle.lines.proofs.Laws.Member.{not-nil}
 use Rattle.lines.proofs.Laws.Shape.{Shape, Valid, Living, living?, Closed, Leaves}
 use Rattle.lines.proofs.Laws.Cover.{Above, self, up, cover}
 use Rattle.lines.proofs.Laws.Progress.{parent-lives}
-use Rattle.lines.proofs.Laws.Sum.{sum, only, only-yes, sum-le, sum-add, sum-zero, sum-swap, sum-term, sum-mono, sum-bound, sum-times, sum-only}
+use Rattle.lines.proofs.Laws.Sum.{sum, only, only-yes, sum-le, sum-add, sum-zero, sum-swap, sum-term, sum-mono, sum-bound}
+use Rattle.lines.proofs.Laws.Sum.{sum-times, sum-only}
 
--- whether a line is not empty, as a number
 unfoldable pub full : List ℕ → ℕ
 full [] = 0
 full (x ∷ l) = 1
 
--- how many of the first lines are not empty
 unfoldable pub filled : ℕ → (ℕ → List ℕ) → ℕ
 unfolding full
 filled size line = sum size (λ w. full (line w))
@@ -57,7 +59,6 @@ module _ (P : Shape) where
       let r = shares d (parent (suc h)) in
       omega (arith, sum-add jobs (λ x. only (ℕ-discrete x (suc h)) (frame x)) (share d (parent (suc h))), sum-only jobs frame (suc h))
 
-  -- the weight of the living jobs
   unfoldable pub held : (ℕ → ℕ) → ℕ
   held next = sum jobs (λ j. only (living? P next j) (frame j))
 
@@ -67,7 +68,6 @@ module _ (P : Shape) where
   own (suc d) x zero e = le-of-eq (sym (only-yes (ℕ-discrete x 0) (frame x) e))
   own (suc d) x (suc h) e = omega (arith, only-yes (ℕ-discrete x (suc h)) (frame x) e)
 
-  -- what is on the path to a line's first job: its weight, and x's part of that
   unfoldable pub reach : List ℕ → ℕ
   unfolding path
   reach [] = 0
@@ -117,20 +117,22 @@ module _ (P : Shape) where
         let r = above-share d x (parent (suc h)) (omega arith) (omega arith) a in
         omega arith
 
-    module _ (next : ℕ → ℕ) (line : ℕ → List ℕ) (leaves : Leaves P next line) (size : ℕ) (past : (w : ℕ) → size ≤ w → line w ≡ []) where
+    module _ {next : ℕ → ℕ} {line : ℕ → List ℕ} (leaves : Leaves P next line) (size : ℕ) (past : (w : ℕ) → size ≤ w → line w ≡ []) where
       covered : (x : ℕ) → Living P next x → frame x ≤ sum size (λ w. part (line w) x)
       unfolding part
       covered x a =
           let (w, h, l, e, s) = cover P ok next line leaves x a in
           let b : h < jobs = leaves .known w h l e in
-          let i : w < size = lt-of-not-le (λ (g : size ≤ w). not-nil [] h l (sym e ∙ past w g)) in
+          let i : w < size = lt-of-not-le (λ (g : size ≤ w). cons-ne-nil h l (sym e ∙ past w g)) in
           le-trans (above-share h x h b (le-refl h) s) (rw e at (sum-term size (λ v. part (line v) x) w i))
 
       pub held-reach : held next ≤ sum size (λ w. reach (line w))
       unfolding held only
       held-reach =
-          le-trans (sum-le jobs (λ x. only (living? P next x) (frame x)) (λ x. sum size (λ w. part (line w) x)) (λ x b. each x (living? P next x)))
-          (le-trans (le-of-eq (sum-swap jobs size (λ x w. part (line w) x))) (sum-le size (λ w. sum jobs (part (line w))) (λ w. reach (line w)) (λ w b. parts (line w))))
+          le-trans (sum-le jobs (λ x. only (living? P next x) (frame x)) (λ x. sum size (λ w. part (line w) x))
+          (λ x b. each x (living? P next x)))
+          (le-trans (le-of-eq (sum-swap jobs size (λ x w. part (line w) x)))
+          (sum-le size (λ w. sum jobs (part (line w))) (λ w. reach (line w)) (λ w b. parts (line w))))
         where
           each : (x : ℕ) (d : Dec (Living P next x)) → only d (frame x) ≤ sum size (λ w. part (line w) x)
           each x (yes a) = covered x a

@@ -4,7 +4,7 @@ use Prim.Native.Nat.{ℕ, zero, suc, _≤_, _<_}
 use mathlib.Core.Path.{_≡_, refl, ap, sym, _∙_}
 use mathlib.Core.Logic.{inl, inr, _≢_, by-cases}
 use mathlib.Core.Bool.{Bool, true, false, not}
-use mathlib.Core.List.{List, [], _∷_}
+use mathlib.Core.List.{List, [], _∷_, cons-ne-nil}
 use native.Mathlib.Omega.{arith}
 use native.Mathlib.Decide.{ℕ-discrete}
 use lib.Dec.{T, ltb, ltb→lt, lt→ltb, T-not, not-T}
@@ -20,7 +20,8 @@ use Rattle.runs.specs.Turn.{wakes, woken, Seat, takeBottom, seatAfter, t
 pub use Rattle.runs.specs.Parts.{afterOf, aboveOf}
 use Rattle.lines.proofs.Laws.Shape.{Living, Ready, Chain}
 use Rattle.lines.proofs.Laws.Member.{put}
-use Rattle.lines.proofs.Laws.Turn.{Goes, goes?, Wakes, wakes?, wakes-iff, turnLine, turn-spawn, turn-none, turn-good}
+use Rattle.lines.proofs.Laws.Act.{Goes, goes?, Wakes, wakes?, Act, wakes-iff, stalled, sender}
+use Rattle.lines.proofs.Laws.Turn.{turnLine, turn-spawn, turn-none, turn-good}
 use Rattle.plan.proofs.Laws.Lists.{both-intro, both-left, both-right}
 use Rattle.plan.specs.Rules.{Accepted}
 use Rattle.plan.proofs.Laws.Valid.{older, join-target}
@@ -46,12 +47,9 @@ bottom-line : (d : List ℕ) → lineAt (takeBottom d) ≡ d
 bottom-line [] = refl
 bottom-line (j ∷ d) = refl
 
-not-empty : {B : Type 0} (x : ℕ) (l : List ℕ) → x ∷ l ≡ [] → B
-not-empty x l e = let z : _≡_ {A = ℕ} 0 1 = cc in absurd (omega arith)
-
 bottom-empty : (d : List ℕ) → lineAt (takeBottom d) ≡ [] → takeBottom d .deque ≡ []
 bottom-empty [] e = refl
-bottom-empty (j ∷ d) e = not-empty j d e
+bottom-empty (j ∷ d) e = absurd (cons-ne-nil j d e)
 
 -- rule 3
 abbrev pub stay : Bool → ℕ → List ℕ → Seat
@@ -59,7 +57,7 @@ stay true j d = record { worker = Holding j; deque = d }
 stay false j d = takeBottom d
 
 stay-empty : (b : Bool) (j : ℕ) (d : List ℕ) → lineAt (stay b j d) ≡ [] → stay b j d .deque ≡ []
-stay-empty true j d e = not-empty j d e
+stay-empty true j d e = absurd (cons-ne-nil j d e)
 stay-empty false j d e = bottom-empty d e
 
 module _ (p : Plan) (after : List ℕ) (j i : ℕ) (d : List ℕ) where
@@ -79,13 +77,14 @@ module _ (p : Plan) (after : List ℕ) (j i : ℕ) (d : List ℕ) where
   seat-empty = go (action p j i .spawn) refl
     where
       go : (x : ℕ) → action p j i .spawn ≡ x → lineAt (seatAfter p after j i d) ≡ [] → seatAfter p after j i d .deque ≡ []
-      go (suc c) e = rw (seat-spawn c e) (not-empty c (j ∷ d))
+      go (suc c) e = rw (seat-spawn c e) (λ q. absurd (cons-ne-nil c (j ∷ d) q))
       go zero e = rw (seat-none e) (stay-empty (both (ltb (suc i) (size p j)) (ready p after j)) j d)
 
 abbrev pub seatOf : Plan → State → ℕ → ℕ → Seat
 seatOf p s w j = seatAfter p (afterOf s j) j (nextOf s j) (aboveOf p s w j)
 
-module _ (p : Plan) (ok : Accepted p) (n : ℕ) (most : n ≤ 16) (s : State) (sound : Sound p n s) (w j : ℕ) (holds : workerOf s w ≡ Holding j) where
+module _ (p : Plan) (ok : Accepted p) (n : ℕ) (most : n ≤ 16) (s : State) (sound : Sound p n s) (w j : ℕ)
+    (holds : workerOf s w ≡ Holding j) where
   abbrev pub next′ : ℕ → ℕ
   next′ k = getD (afterOf s j) k 0
 
@@ -97,6 +96,9 @@ module _ (p : Plan) (ok : Accepted p) (n : ℕ) (most : n ≤ 16) (s : State) (s
 
   pub others : (k : ℕ) → k ≢ j → next′ k ≡ nextOf s k
   others k f = getD-set-other (s .next) j k (suc (nextOf s j)) 0 f
+
+  action-of : Act (shape p) (nextOf s) next′ j
+  action-of = record { closed = sound .good .closed; lives = me .0; ready = me .1; acts = acted; others = others }
 
   is : lineOf s w ≡ j ∷ dequeOf s w
   is = line-of s w (Holding j) holds
@@ -121,7 +123,7 @@ module _ (p : Plan) (ok : Accepted p) (n : ℕ) (most : n ≤ 16) (s : State) (s
       go (suc x) e t =
           let o = join-target p ok j (nextOf s j) x (me .0 .below) (me .0 .left) e .0 in
           let b = parent-begun o in
-          wakes-iff (shape p) (shape-valid p ok) (nextOf s) (sound .good .closed) j (me .0) (me .1) next′ acted others o .1 (
+          wakes-iff action-of (shape-valid p ok) o .1 (
             λ r. T-not before (both-left (not before) _ t) (ready-by p (s .next) ok (parent p j) r (λ z. absurd (omega arith))),
             ready-is p (afterOf s j) ok (parent p j) (both-right (not before) _ t),
           )
@@ -129,9 +131,9 @@ module _ (p : Plan) (ok : Accepted p) (n : ℕ) (most : n ≤ 16) (s : State) (s
   pub wakes-by : Wakes (shape p) (nextOf s) next′ j → T (wakes p (s .next) (afterOf s j) j (nextOf s j))
   unfolding wakes
   wakes-by k =
-      let o = join-target p ok j (nextOf s j) (nextOf s (parent p j)) (me .0 .below) (me .0 .left) (k .sends) .0 in
+      let o = sender action-of (shape-valid p ok) k in
       let b = parent-begun o in
-      let t = wakes-iff (shape p) (shape-valid p ok) (nextOf s) (sound .good .closed) j (me .0) (me .1) next′ acted others o .0 k in
+      let t = wakes-iff action-of (shape-valid p ok) o .0 k in
       let before = ready p (s .next) (parent p j) in
       rw (wakes, k .sends) (both-intro (not before) _ (not-T before (λ x. t .0 (ready-is p (s .next) ok (parent p j) x)))
       (ready-by p (afterOf s j) ok (parent p j) (t .1) (λ z. absurd (omega arith))))
@@ -143,11 +145,8 @@ module _ (p : Plan) (ok : Accepted p) (n : ℕ) (most : n ≤ 16) (s : State) (s
       go : (d : List ℕ) → dequeOf s w ≡ d → dequeOf s w ≡ []
       go [] e = e
       go (y ∷ d) e =
-          let k = wakes-is t in
-          let o = join-target p ok j (nextOf s j) (nextOf s (parent p j)) (me .0 .below) (me .0 .left) (k .sends) .0 in
-          let stalled = wakes-iff (shape p) (shape-valid p ok) (nextOf s) (sound .good .closed) j (me .0) (me .1) next′ acted others o .0 k .0 in
           let c : Chain (shape p) (j ∷ (y ∷ d)) = rw (is, e) at (sound .good .chain w) in
-          absurd (stalled (sound .good .here w (parent p j) (rw (is, e) (inr (inl (c .1)))) .1))
+          absurd (stalled action-of (wakes-is t) (sound .good .here w (parent p j) (rw (is, e) (inr (inl (c .1)))) .1))
 
   goes-is : T (both (ltb (suc (nextOf s j)) (size p j)) (ready p (afterOf s j) j)) → Goes (shape p) next′ j
   goes-is t =
@@ -170,8 +169,8 @@ module _ (p : Plan) (ok : Accepted p) (n : ℕ) (most : n ≤ 16) (s : State) (s
 
       above : aboveOf p s w j ≡ up
       above =
-          to-put (wakes p (s .next) (afterOf s j) j (nextOf s j)) (wakes? (shape p) (nextOf s) next′ j) wakes-is wakes-by (parent p j) (dequeOf s w)
-          (λ b. woken b (parent p j) (dequeOf s w)) refl refl
+          to-put (wakes p (s .next) (afterOf s j) j (nextOf s j)) (wakes? (shape p) (nextOf s) next′ j) wakes-is wakes-by
+          (parent p j) (dequeOf s w) (λ b. woken b (parent p j) (dequeOf s w)) refl refl
 
       go : (x : ℕ) → action p j (nextOf s j) .spawn ≡ x → lineAt (seatOf p s w j) ≡ turnLine (shape p) (nextOf s) next′ j (dequeOf s w)
       go (suc c) e =
@@ -179,8 +178,8 @@ module _ (p : Plan) (ok : Accepted p) (n : ℕ) (most : n ≤ 16) (s : State) (s
           ∙ sym (turn-spawn (shape p) (nextOf s) next′ j (dequeOf s w) c e)
       go zero e =
           ap lineAt (seat-none p (afterOf s j) j (nextOf s j) (aboveOf p s w j) e)
-          ∙ to-put (both (ltb (suc (nextOf s j)) (size p j)) (ready p (afterOf s j) j)) (goes? (shape p) next′ j) goes-is goes-by j (aboveOf p s w j)
-          (λ b. lineAt (stay b j (aboveOf p s w j))) refl (bottom-line (aboveOf p s w j))
+          ∙ to-put (both (ltb (suc (nextOf s j)) (size p j)) (ready p (afterOf s j) j)) (goes? (shape p) next′ j) goes-is goes-by
+          j (aboveOf p s w j) (λ b. lineAt (stay b j (aboveOf p s w j))) refl (bottom-line (aboveOf p s w j))
           ∙ ap (put (goes? (shape p) next′ j) j) above ∙ sym (turn-none (shape p) (nextOf s) next′ j (dequeOf s w) e)
 
   pub turn-sound : (r : ℕ) → Sound p n (turn p r w j s)
@@ -197,8 +196,8 @@ module _ (p : Plan) (ok : Accepted p) (n : ℕ) (most : n ≤ 16) (s : State) (s
         workers = length-set (s .workers) w (seat .worker) ∙ sound .workers;
         deques = length-set (s .deques) w (seat .deque) ∙ sound .deques;
         rows = length-set (s .rows) _ _ ∙ sound .rows;
-        good = turn-good (shape p) (shape-valid p ok) (nextOf s) (sound .good .closed) j (me .0) (me .1) next′ acted others
-            (lineOf s) (sound .good) w (dequeOf s w) is (lineOf (turn p r w j s)) (mine ∙ seat-line) rest;
+        good = turn-good (shape-valid p ok) action-of (sound .good)
+            (record { worker = w; deque = dequeOf s w; first = is; mine = mine ∙ seat-line; rest = rest });
         empty = λ v e. by-cases (ℕ-discrete v w)
             (λ q. rw q (getD-set-same (s .deques) w (seat .deque) [] hd
             ∙ seat-empty p (afterOf s j) j (nextOf s j) (aboveOf p s w j) (sym mine ∙ rw q at e)))

@@ -21,7 +21,7 @@ use Rattle.courses.specs.Row.{place}
 use Rattle.runs.specs.Turn.{wakes}
 use Rattle.scheduler.specs.Machine.{missingTo, Progressed, Dequed, Acting}
 use Rattle.scheduler.specs.TurnParts.{afterOf, aboveOf, Sending, Sent}
-use Rattle.lines.proofs.Laws.Turn.{Wakes}
+use Rattle.lines.proofs.Laws.Act.{Wakes}
 use Rattle.courses.proofs.Laws.PlanShape.{shape}
 use Rattle.scheduler.proofs.Laws.Running.{run-sound}
 use Rattle.scheduler.proofs.Laws.Missing.{missing-none, missing-no, missing-sent, missing-kept}

@@ -70,13 +70,13 @@ acts-printed p r w j s s′ rows a bound within printed = record {
       (λ e. rw (e .0, e .1, a .writes) (written-high rows k r w fits))
       (λ e. rw (e .1)
       (written-other rows k r w (2 * place p h i) (λ q. apart h i l (e .0) (omega arith)) (λ q. omega arith) ∙ printed .high h i l (e .0)))
-      (acted p r w j (core s) (core s′) a bound h i l m);
+      (acted a bound h i l m);
   down = λ h i l m.
       ⊎-elim
       (λ e. rw (e .0, e .1, a .writes) (written-down rows k r w fits))
       (λ e. rw (e .1)
       (written-other rows k r w (2 * place p h i + 1) (λ q. omega arith) (λ q. apart h i l (e .0) (omega arith)) ∙ printed .down h i l (e .0)))
-      (acted p r w j (core s) (core s′) a bound h i l m);
+      (acted a bound h i l m);
 }
   where
     k : ℕ
