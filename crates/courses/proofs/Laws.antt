@@ -6,6 +6,7 @@ pub mod Steps
 pub mod Start
 pub mod Kept
 pub mod Worked
+pub mod Price
 pub mod Apart
 pub mod Past
 pub mod Peak

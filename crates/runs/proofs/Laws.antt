@@ -9,7 +9,6 @@ pub mod ServeSound
 pub mod Sound
 pub mod Deques
 pub mod Rests
-pub mod Done
 pub mod Rounds
 pub mod Coursed
 pub mod Tallies

@@ -1,6 +1,7 @@
--- A theft keeps a state good: the last job x of worker v's line becomes the line of worker w, which had none.
---   Was u y    == why job y stands in the line of worker u after the theft
---   steal-good == the state after the theft is good
+-- A theft keeps a state good: the last job of the victim's line becomes the line of the thief, which had none.
+--   Stolen line line′ == the lines line′ are line after a theft
+--   Was u y           == why job y stands in line u after it
+--   steal-good        == the state after it is good
 use mathlib.Core.Path.{_≡_, refl, sym, _∙_}
 use mathlib.Core.Logic.{inl, _≢_, by-cases, ⊎-elim}
 use mathlib.Core.List.{List, [], _∷_, _++_}
@@ -11,58 +12,68 @@ use Rattle.lines.proofs.Laws.Shape.{Shape, Valid, Living, Ready, Chain,
 use Rattle.lines.proofs.Laws.Member.{_∈_, in-single, in-front, in-back, in-append}
 use Rattle.lines.proofs.Laws.Chain.{chain-front, last-low}
 
-module _ (P : Shape) (ok : Valid P) (next : ℕ → ℕ) (line : ℕ → List ℕ) (good : Good P next line) (v w : ℕ) (l : List ℕ) (x : ℕ)
-    (idle : line w ≡ []) (is : line v ≡ l ++ (x ∷ [])) (line′ : ℕ → List ℕ) (left : line′ v ≡ l) (got : line′ w ≡ x ∷ [])
-    (rest : (u : ℕ) → u ≢ v → u ≢ w → line′ u ≡ line u) where
+pub record Stolen (line line′ : ℕ → List ℕ) : Type 0 where
+  pub victim : ℕ
+  pub thief : ℕ
+  pub rest : List ℕ
+  pub job : ℕ
+  pub idle : line thief ≡ []
+  pub whole : line victim ≡ rest ++ (job ∷ [])
+  pub left : line′ victim ≡ rest
+  pub got : line′ thief ≡ job ∷ []
+  pub others : (u : ℕ) → u ≢ victim → u ≢ thief → line′ u ≡ line u
+
+module _ {P : Shape} (ok : Valid P) {next : ℕ → ℕ} {line line′ : ℕ → List ℕ} (good : Good P next line) (stolen : Stolen line line′) where
   open Shape P using (jobs)
+  open Stolen stolen using (victim, thief, rest, job, idle, whole, left, got, others)
 
-  taken : x ∈ line v
-  taken = rw is (in-back l (x ∷ []) x (inl refl))
+  taken : job ∈ line victim
+  taken = rw whole (in-back rest (job ∷ []) job (inl refl))
 
-  kept : x ∈ l → ⊥
+  kept : job ∈ rest → ⊥
   kept m =
-      let b : (y : ℕ) → y ∈ l ++ (x ∷ []) → y < jobs = λ y i. good .here v y (rw is i) .0 .below in
-      let h : x < x = last-low P ok l x b (rw is at (good .chain v)) x m in
+      let b : (y : ℕ) → y ∈ rest ++ (job ∷ []) → y < jobs = λ y i. good .here victim y (rw whole i) .0 .below in
+      let h : job < job = last-low P ok rest job b (rw whole at (good .chain victim)) job m in
       omega arith
 
   -- where each job was, and is
   data Was (u y : ℕ) : Type 0 where
-    moved : u ≡ w → y ≡ x → Was u y
-    stayed : u ≢ w → (y ≡ x → u ≢ v) → y ∈ line u → Was u y
+    moved : u ≡ thief → y ≡ job → Was u y
+    stayed : u ≢ thief → (y ≡ job → u ≢ victim) → y ∈ line u → Was u y
 
   was : (u y : ℕ) → y ∈ line′ u → Was u y
-  was u y m = go (ℕ-discrete u w) (ℕ-discrete u v)
+  was u y m = go (ℕ-discrete u thief) (ℕ-discrete u victim)
     where
-      go : Dec (u ≡ w) → Dec (u ≡ v) → Was u y
+      go : Dec (u ≡ thief) → Dec (u ≡ victim) → Was u y
       go (yes e) d = moved e (in-single (rw (e, got) at m))
-      go (no f) (yes e) = let i : y ∈ l = rw (e, left) at m in stayed f (λ q c. kept (rw q at i)) (rw (e, is) (in-front l (x ∷ []) y i))
-      go (no f) (no g) = stayed f (λ e. g) (rw (rest u g f) at m)
+      go (no f) (yes e) = let i : y ∈ rest = rw (e, left) at m in stayed f (λ q c. kept (rw q at i)) (rw (e, whole) (in-front rest (job ∷ []) y i))
+      go (no f) (no g) = stayed f (λ e. g) (rw (others u g f) at m)
 
   here′ : (u y : ℕ) → Was u y → Living P next y × Ready P next y
-  here′ u y (moved e q) = rw q (good .here v x taken)
+  here′ u y (moved e q) = rw q (good .here victim job taken)
   here′ u y (stayed f g m) = good .here u y m
 
   apart′ : (u t y : ℕ) → Was u y → Was t y → u ≡ t
   apart′ u t y (moved e q) (moved e′ q′) = e ∙ sym e′
-  apart′ u t y (moved e q) (stayed f g m) = absurd (g q (sym (good .apart v t y (rw q taken) m)))
-  apart′ u t y (stayed f g m) (moved e q) = absurd (g q (good .apart u v y m (rw q taken)))
+  apart′ u t y (moved e q) (stayed f g m) = absurd (g q (sym (good .apart victim t y (rw q taken) m)))
+  apart′ u t y (stayed f g m) (moved e q) = absurd (g q (good .apart u victim y m (rw q taken)))
   apart′ u t y (stayed f g m) (stayed f′ g′ m′) = good .apart u t y m m′
 
   chain′ : (u : ℕ) → Chain P (line′ u)
-  chain′ u = go (ℕ-discrete u w) (ℕ-discrete u v)
+  chain′ u = go (ℕ-discrete u thief) (ℕ-discrete u victim)
     where
-      go : Dec (u ≡ w) → Dec (u ≡ v) → Chain P (line′ u)
+      go : Dec (u ≡ thief) → Dec (u ≡ victim) → Chain P (line′ u)
       go (yes e) d = rw (e, got) tt
-      go (no f) (yes e) = rw (e, left) (chain-front P l (x ∷ []) (rw is at (good .chain v)))
-      go (no f) (no g) = rw (rest u g f) (good .chain u)
+      go (no f) (yes e) = rw (e, left) (chain-front P rest (job ∷ []) (rw whole at (good .chain victim)))
+      go (no f) (no g) = rw (others u g f) (good .chain u)
 
   found′ : (y : ℕ) → Living P next y → Ready P next y → (u : ℕ) × (y ∈ line′ u)
   found′ y a r =
       let (u, m) = good .found y a r in
-      by-cases (ℕ-discrete u w) (λ e. absurd (rw (e, idle) at m))
-      (λ f. by-cases (ℕ-discrete u v)
-      (λ e. ⊎-elim (λ i. (v, rw left i)) (λ i. (w, rw got i)) (in-append l (x ∷ []) y (rw (e, is) at m)))
-      (λ g. (u, rw (rest u g f) m)))
+      by-cases (ℕ-discrete u thief) (λ e. absurd (rw (e, idle) at m))
+      (λ f. by-cases (ℕ-discrete u victim)
+      (λ e. ⊎-elim (λ i. (victim, rw left i)) (λ i. (thief, rw got i)) (in-append rest (job ∷ []) y (rw (e, whole) at m)))
+      (λ g. (u, rw (others u g f) m)))
 
   pub steal-good : Good P next line′
   steal-good = record {

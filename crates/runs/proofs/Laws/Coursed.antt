@@ -36,6 +36,7 @@ use Rattle.courses.proofs.Laws.Steps.{finished-ends}
 use Rattle.courses.proofs.Laws.Start.{none-weight}
 use Rattle.courses.proofs.Laws.Kept.{Done, course-kept}
 use Rattle.courses.proofs.Laws.Worked.{price, turns-most, turns-all, course-most}
+use Rattle.courses.proofs.Laws.Price.{price-work}
 use Rattle.courses.proofs.Laws.Peak.{course-space, course-peak, peak-least, peak-most}
 use Rattle.courses.proofs.Laws.Order.{course-row, course-keeps, course-least, course-last}
 use Rattle.runs.proofs.Laws.Fit.{Fit, count-some, count-within, count-is}
@@ -43,7 +44,6 @@ use Rattle.runs.proofs.Laws.Lined.{held-in, held-below}
 use Rattle.runs.proofs.Laws.Sound.{Sound, start-sound, trace-sound, trace-began, space, busy, held-job, held-once}
 use Rattle.runs.proofs.Laws.Rests.{Rests, lay-rests, serve-rests}
 use Rattle.runs.proofs.Laws.Start.{none-done, start-turns, start-peak}
-use Rattle.runs.proofs.Laws.Done.{sizes-sum}
 use Rattle.runs.proofs.Laws.Rounds.{not-ended, began-below}
 
 abbrev pub core : State → Core
@@ -110,13 +110,9 @@ module _ (S : Setting) (fit : Fit S) where
   held-some : (r : ℕ) (s : State) → Sound plan (countIn S r) s → ended plan s ≡ false → Paced (terms S) 0 0 (handsOf (s .workers))
   held-some r s sound e = let (w, j, l, q) = busy plan (fit .plan) (countIn S r) s sound e in inl (refl, (w, j, ap handsIn q))
 
-  ones : (i : ℕ) → sum i (λ a. 1) ≡ i
-  unfolding sum
-  ones zero = refl
-  ones (suc i) = omega (arith, ones i)
-
-  price-work : price (terms S) ≡ work plan
-  price-work = sum-same (length plan) (λ j. sum (size plan j) (λ a. 1)) (size plan) (λ j b. ones (size plan j)) ∙ (sizes-sum plan ∙ sym (work-total plan))
+  -- all actions take T1 turns
+  all-turns : price (terms S) ≡ work plan
+  all-turns = price-work (terms S) (λ x. refl)
 
   turned-course : {r k : ℕ} {b : List Worker} {s : State} → Trace S r b (turning k) s → (v : Worker) → getD b k Idle ≡ v
       → Sound plan (countIn S r) (turnOf plan r k v s) → Course (terms S) r 0 k (handsOf b) (core s) → Course (terms S) r 0 (suc k) (handsOf b) (core (turnOf plan r k v s))
@@ -152,11 +148,11 @@ module _ (S : Setting) (fit : Fit S) where
 
   -- no round comes after round T1, for each that begins does an action
   pub round-most : {r : ℕ} {b : List Worker} {g : Stage} {s : State} → Trace S r b g s → r ≤ work plan
-  round-most t = omega (arith, price-work, course-most (terms S) (fit .plan) (λ j i h l. omega arith) (trace-course t))
+  round-most t = omega (arith, all-turns, course-most (terms S) (fit .plan) (λ j i h l. omega arith) (trace-course t))
 
   -- each turn of a worker that holds a job does one action
   pub actions-most : {r : ℕ} {b : List Worker} {g : Stage} {s : State} → Trace S r b g s → s .tally .actions ≤ work plan
-  actions-most t = omega (arith, price-work, turns-most (terms S) (fit .plan) (trace-course t))
+  actions-most t = omega (arith, all-turns, turns-most (terms S) (fit .plan) (trace-course t))
 
   -- the end of a run
   module _ {r : ℕ} {b : List Worker} {s : State} (t : Trace S r b (turning (countIn S r)) s) (e : ended plan s ≡ true) where
@@ -170,7 +166,7 @@ module _ (S : Setting) (fit : Fit S) where
     within r = mul-le-mul (count-within S r) (le-refl (heaviest plan))
 
     pub actions-all : s .tally .actions ≡ work plan
-    actions-all = turns-all (terms S) (fit .plan) (trace-course t) over ∙ price-work
+    actions-all = turns-all (terms S) (fit .plan) (trace-course t) over ∙ all-turns
 
     -- every row is of a round from 1 to r, and of one of the workers
     pub run-row : (k : ℕ) → k < total plan → Done (S .workers) r (countIn S r) (getD (s .rows) k noRow)

@@ -93,8 +93,17 @@ module _ (p : Plan) (ok : Accepted p) (n : ℕ) (most : n ≤ 16) (s : State) (s
             workers = length-set (s .workers) w (Holding (topOf x d)) ∙ sound .workers;
             deques = length-set (s .deques) v (dropTop (x ∷ d)) ∙ sound .deques;
             rows = sound .rows;
-            good = steal-good (shape p) (shape-valid p ok) (nextOf s) (lineOf s) (sound .good) v w (j ∷ dropTop (x ∷ d)) (topOf x d) idle is
-                (lineOf (given v w (x ∷ d) s)) left got rest;
+            good = steal-good (shape-valid p ok) (sound .good) (record {
+              victim = v;
+              thief = w;
+              rest = j ∷ dropTop (x ∷ d);
+              job = topOf x d;
+              idle = idle;
+              whole = is;
+              left = left;
+              got = got;
+              others = rest;
+            });
             empty = none;
             absent = λ u h. getD-set-other (s .workers) w u (Holding (topOf x d)) Idle (λ e. omega arith) ∙ sound .absent u h;
           }
