@@ -1,4 +1,4 @@
--- Runs as lines of jobs: a line is the job that a worker holds and then its deque from the bottom up.
+-- The theory of lines of jobs: a line is a list of jobs, as the one that a worker holds and then its deque from the bottom up.
 pub mod Bounded
 pub mod Member
 pub mod Shape

@@ -1,1 +1,3 @@
-// The theory of lines of jobs, in proofs/: a fully strict computation and the jobs that are held, with no plan bytes, no workers and no choices.
+// The theory of lines of jobs (document 000, the section on space), all of it in proofs/: the frames of living jobs weigh no more than
+// one heaviest path for each line that is not empty. A line is a list of jobs, as the one that a worker holds and then its deque.
+// It knows no plan bytes, no requests and no choices: a plan is a `Shape`, and what is done a number for each job.
