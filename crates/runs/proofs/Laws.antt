@@ -4,6 +4,8 @@ pub mod Admitted
 pub mod Start
 pub mod Least
 pub mod Lined
+pub mod Stores
+pub mod Began
 pub mod TurnSound
 pub mod ServeSound
 pub mod Sound

@@ -3,7 +3,7 @@
 --   handsOf b   == which job each worker has in a round that begins with the workers b
 --   terms S     == what the course of a run is of
 --   passed S r g == how many workers have had their turns at stage g of round r
-use Prim.Native.Nat.{ℕ, zero, suc, _*_, _≤_, _<_}
+use Prim.Native.Nat.{ℕ, suc, _*_, _≤_, _<_}
 use mathlib.Core.Path.{_≡_, refl, ap, sym, _∙_}
 use mathlib.Core.Logic.{inl}
 use mathlib.Core.Bool.{true, false}
@@ -17,7 +17,6 @@ use Rattle.runs.specs.declared.worker.Worker.the-variants.{Idle, Holding
 use Rattle.plan.specs.Plan.{Plan, job, size, total}
 use Rattle.plan.specs.Rules.{Accepted}
 use Rattle.plan_measure.specs.Measure.{work, longest, heaviest}
-use Rattle.plan_measure.proofs.Laws.Work.{work-total}
 use Rattle.courses.specs.Row.{noRow}
 use Rattle.runs.specs.Setting.{Setting, countIn}
 use Rattle.runs.specs.State.{State, nextOf, workerOf, start}
@@ -29,19 +28,19 @@ use Rattle.courses.specs.Schedule.{keeps}
 use Rattle.courses.specs.Living.{weightAfter, peakOf, lastRound}
 use Rattle.runs.specs.Trace as Trace
 use Rattle.runs.specs.Trace.{Stage, turning, laying, serving, Trace}
-use Rattle.lines.proofs.Laws.Sum.{sum, sum-same}
 use Rattle.courses.proofs.Laws.Course as Course
 use Rattle.courses.proofs.Laws.Course.{Core, Terms, Begins, Hands, Paced, Ends, Course}
 use Rattle.courses.proofs.Laws.Steps.{finished-ends}
 use Rattle.courses.proofs.Laws.Start.{none-weight}
-use Rattle.courses.proofs.Laws.Kept.{Done, course-kept}
+use Rattle.courses.proofs.Laws.Kept.{Done}
 use Rattle.courses.proofs.Laws.Worked.{price, turns-most, turns-all, course-most}
 use Rattle.courses.proofs.Laws.Price.{price-work}
 use Rattle.courses.proofs.Laws.Peak.{course-space, course-peak, peak-least, peak-most}
 use Rattle.courses.proofs.Laws.Order.{course-row, course-keeps, course-least, course-last}
 use Rattle.runs.proofs.Laws.Fit.{Fit, count-some, count-within, count-is}
 use Rattle.runs.proofs.Laws.Lined.{held-in, held-below}
-use Rattle.runs.proofs.Laws.Sound.{Sound, start-sound, trace-sound, trace-began, space, busy, held-job, held-once}
+use Rattle.runs.proofs.Laws.Began.{trace-began}
+use Rattle.runs.proofs.Laws.Sound.{Sound, start-sound, trace-sound, space, busy, held-job, held-once}
 use Rattle.runs.proofs.Laws.Rests.{Rests, lay-rests, serve-rests}
 use Rattle.runs.proofs.Laws.Start.{none-done, start-turns, start-peak}
 use Rattle.runs.proofs.Laws.Rounds.{not-ended, began-below}
@@ -120,7 +119,7 @@ module _ (S : Setting) (fit : Fit S) where
   turned-course t Idle e sound c = Course.rests c (ap handsIn e)
   turned-course t (Waiting v l) e sound c = Course.rests c (ap handsIn e)
   turned-course {r} {k} {b} {s} t (Holding j) e sound c =
-      let held : workerOf s k ≡ Holding j = trace-began S t k (le-refl k) ∙ e in
+      let held : workerOf s k ≡ Holding j = trace-began t k (le-refl k) ∙ e in
       Course.ends c (ap handsIn e) refl (turn-ends plan (fit .plan) (countIn S r) s (trace-sound S fit t) r k j held)
       (space plan (fit .plan) (countIn S r) (turn plan r k j s) sound)
 

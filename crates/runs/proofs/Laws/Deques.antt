@@ -40,18 +40,6 @@ module _ (p : Plan) (ok : Accepted p) (n : ℕ) (s : State) (sound : Sound p n s
       go (Holding j) e = absurd (none j e)
       go (Waiting v l) e = sound .empty w (line-of s w (Waiting v l) e)
 
-  -- the jobs on a deque are jobs of the plan
-  pub sound-known : (w x : ℕ) → x ∈ dequeOf s w → x < length p
-  sound-known w x m = go (workerOf s w) refl
-    where
-      none : dequeOf s w ≡ [] → x < length p
-      none e = absurd (rw e at m)
-
-      go : (k : Worker) → workerOf s w ≡ k → x < length p
-      go Idle e = none (sound .empty w (line-of s w Idle e))
-      go (Holding j) e = sound .good .here w x (rw (line-of s w (Holding j) e) (inr m)) .0 .below
-      go (Waiting v l) e = none (sound .empty w (line-of s w (Waiting v l) e))
-
   pub sound-height : (w : ℕ) → length (dequeOf s w) ≤ 255
   sound-height w = go (workerOf s w) refl
     where
@@ -75,9 +63,6 @@ module _ (S : Setting) (fit : Fit S) {r : ℕ} {b : List Worker} {g : Stage} {s 
 
   pub deque-empty : (w : ℕ) → ((j : ℕ) → workerOf s w ≡ Holding j → ⊥) → dequeOf s w ≡ []
   deque-empty = sound-empty (S .plan) (fit .plan) (countIn S r) s (trace-sound S fit t)
-
-  pub deque-known : (w x : ℕ) → x ∈ dequeOf s w → x < length (S .plan)
-  deque-known = sound-known (S .plan) (fit .plan) (countIn S r) s (trace-sound S fit t)
 
   pub deque-height : (w : ℕ) → length (dequeOf s w) ≤ 255
   deque-height = sound-height (S .plan) (fit .plan) (countIn S r) s (trace-sound S fit t)

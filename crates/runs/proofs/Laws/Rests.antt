@@ -5,8 +5,10 @@ use mathlib.Core.Path.{_≡_, refl}
 use mathlib.Core.List.{List, [], _∷_}
 use Rattle.runs.specs.declared.worker.Worker.{Worker}
 use Rattle.runs.specs.declared.worker.Worker.the-variants.{Idle, Holding, Waiting}
+use Rattle.plan.specs.Plan.{Plan}
 use Rattle.runs.specs.Setting.{Setting}
 use Rattle.runs.specs.State.{State, dequeOf}
+use Rattle.runs.specs.Turn.{turn, idled, turnOf}
 use Rattle.runs.specs.Steal.{laid, lay, given, serve}
 
 pub record Rests (s t : State) : Type 0 where
@@ -35,3 +37,11 @@ pub serve-rests : (v who : ℕ) (s : State) → Rests s (serve v who s)
 unfolding serve
 serve-rests v zero s = same-rests s
 serve-rests v (suc w) s = given-rests v w (dequeOf s v) s
+
+-- a turn leaves the counts of requests and services
+pub turn-counts : (p : Plan) (r w : ℕ) (x : Worker) (s : State) → let t = turnOf p r w x s .tally in
+    (t .requests ≡ s .tally .requests) × (t .steals ≡ s .tally .steals) × (t .misses ≡ s .tally .misses)
+unfolding turnOf turn idled
+turn-counts p r w Idle s = (refl, refl, refl)
+turn-counts p r w (Holding j) s = (refl, refl, refl)
+turn-counts p r w (Waiting v l) s = (refl, refl, refl)

@@ -19,6 +19,7 @@ use Rattle.runs.specs.Run.{ended}
 use Rattle.plan.proofs.Laws.Valid.{jobs-range, size-range}
 use Rattle.runs.specs.Trace.{Stage, turning, laying, serving, Trace, begins, turned, goes-on, laid, all-laid, served, next-round}
 use Rattle.runs.proofs.Laws.Fit.{Fit, count-some}
+use Rattle.runs.proofs.Laws.Began.{round-began}
 use Rattle.runs.proofs.Laws.Lined.{held-below}
 use Rattle.runs.proofs.Laws.Sound.{trace-sound, busy}
 use Rattle.runs.proofs.Laws.Rests.{Rests, lay-rests, serve-rests}
@@ -85,21 +86,13 @@ module _ (S : Setting) (fit : Fit S) where
   -- as each round begins some worker holds a job
   pub began-busy : {r : ℕ} {b : List Worker} {g : Stage} {s : State} → Trace S r b g s
       → (w : ℕ) × (j : ℕ) × (w < countIn S r) × (getD b w Idle ≡ Holding j)
-  began-busy begins = busy plan (fit .plan) (countIn S 1) (start plan) (trace-sound S fit begins) (not-ended begins)
-  began-busy (turned t h) = began-busy t
-  began-busy (goes-on t e) = began-busy t
-  began-busy (laid t h) = began-busy t
-  began-busy (all-laid t) = began-busy t
-  began-busy (served t h) = began-busy t
-  began-busy (next-round {r} {b} {s} t) = busy plan (fit .plan) (countIn S (suc r)) s (trace-sound S fit (next-round t)) (not-ended t)
+  began-busy {r} t = let (u, v, e) = round-began t in rw e (busy plan (fit .plan) (countIn S r) u (trace-sound S fit v) (not-ended v))
 
-  -- and it is one of those that there are
+  -- and each that does is one of those that there are
   pub began-below : {r : ℕ} {b : List Worker} {g : Stage} {s : State} → Trace S r b g s
       → (w j : ℕ) → getD b w Idle ≡ Holding j → w < countIn S r
-  began-below begins = held-below plan (countIn S 1) (start plan) (trace-sound S fit begins)
-  began-below (turned t h) = began-below t
-  began-below (goes-on t e) = began-below t
-  began-below (laid t h) = began-below t
-  began-below (all-laid t) = began-below t
-  began-below (served t h) = began-below t
-  began-below (next-round {r} {b} {s} t) = held-below plan (countIn S (suc r)) s (trace-sound S fit (next-round t))
+  began-below {r} t = let (u, v, e) = round-began t in rw e (held-below plan (countIn S r) u (trace-sound S fit v))
+
+  -- rounds count from 1
+  pub round-first : {r : ℕ} {b : List Worker} {g : Stage} {s : State} → Trace S r b g s → 1 ≤ r
+  round-first t = let (u, v, e) = round-began t in omega (arith, rounds-known v)

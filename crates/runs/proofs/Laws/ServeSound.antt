@@ -53,13 +53,6 @@ lay-sound p n most S r w Idle s b i sound =
 lay-sound p n most S r w (Holding j) s b i sound = sound
 lay-sound p n most S r w (Waiting v l) s b i sound = sound
 
--- a request changes no other worker
-pub lay-others : (S : Setting) (r w : ℕ) (k : Worker) (s : State) (v : ℕ) → v ≢ w → workerOf (lay S r w k s) v ≡ workerOf s v
-unfolding lay
-lay-others S r w Idle s v f = getD-set-other (s .workers) w v _ Idle f
-lay-others S r w (Holding j) s v f = refl
-lay-others S r w (Waiting u l) s v f = refl
-
 pub top-split : (x : ℕ) (d : List ℕ) → x ∷ d ≡ dropTop (x ∷ d) ++ (topOf x d ∷ [])
 top-split x [] = refl
 top-split x (y ∷ d) = ap (λ l. x ∷ l) (top-split y d)

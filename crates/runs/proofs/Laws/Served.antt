@@ -3,10 +3,10 @@
 -- one request fewer comes before one that waits, and when it was laid at most n - 1 did.
 --   ahead v a u x    == 1 where the worker u, which is x, waits on v with a request of a rank below a, 0 where it does not
 --   before n v a ws  == how many of the workers below n do
-use Prim.Native.Nat.{ℕ, zero, suc, _+_, _≤_, _<_, _%_, zero-le}
+use Prim.Native.Nat.{ℕ, suc, _+_, _≤_, _<_, zero-le}
 use mathlib.Core.Path.{_≡_, refl, sym, ap, _∙_}
 use mathlib.Core.Logic.{_≢_, by-cases}
-use mathlib.Core.List.{List, [], _∷_}
+use mathlib.Core.List.{List}
 use native.Mathlib.Nat.{not-suc-le-zero}
 use native.Mathlib.Omega.{arith}
 use native.Mathlib.Decide.{ℕ-discrete, decLt}
@@ -16,16 +16,15 @@ use lib.Seq.{getD-set-same, getD-set-other}
 use Rattle.runs.specs.declared.worker.Worker.{Worker}
 use Rattle.runs.specs.declared.worker.Worker.the-variants.{Idle, Holding, Waiting}
 use Rattle.runs.specs.Setting.{Setting, countIn}
-use Rattle.runs.specs.State.{State, workerOf, dequeOf, start}
-use Rattle.runs.specs.Turn.{turn, idled, turnOf}
-use Rattle.runs.specs.Steal.{laid as laidBy, lay, oldest, topOf, given, serve, waits}
+use Rattle.runs.specs.State.{State, workerOf}
+use Rattle.runs.specs.Steal.{oldest, waits}
 use Rattle.runs.specs.Run.{choicesFit}
 use Rattle.lines.proofs.Laws.Sum.{sum, sum-le, sum-less, sum-bound, only, only-yes}
 use Rattle.runs.specs.Trace.{Stage, turning, laying, serving, Trace, begins, turned, goes-on, laid, all-laid, served, next-round}
 use Rattle.runs.proofs.Laws.Fit.{Fit, count-most, count-next}
-use Rattle.runs.proofs.Laws.Sound.{trace-sound}
+use Rattle.runs.proofs.Laws.Sound.{trace-sound, workers-length}
 use Rattle.runs.proofs.Laws.Start.{start-calm}
-use Rattle.runs.proofs.Laws.Waits.{seated, seated-waits}
+use Rattle.runs.proofs.Laws.Stores.{victimOf, turn-workers, lay-workers, serve-workers}
 use Rattle.runs.proofs.Laws.Victims.{victim-below}
 use Rattle.runs.proofs.Laws.Least.{rank, Best, oldest-best}
 
@@ -163,44 +162,25 @@ module _ (S : Setting) (fit : Fit S) (chosen : T (choicesFit (S .workers) (S .ch
       by-cases (decLt w (countIn S r)) (λ h. h)
       (λ f. let z : _≡_ {A = ℕ} 0 1 = cc (trace-sound S fit t .absent w (omega arith)) in absurd (omega arith))
 
-  workers-length : {r : ℕ} {b : List Worker} {g : Stage} {s : State} → Trace S r b g s → (k : ℕ) → k < countIn S r → k < length (s .workers)
-  workers-length {r} t k h = omega (arith, trace-sound S fit t .workers, count-most S fit r)
-
   all-due : {r : ℕ} {b : List Worker} {g : Stage} {s : State} → Trace S r b g s → AllDue (countIn S r) r g (s .workers)
-  unfolding turnOf turn idled lay laidBy serve given start
   all-due begins = λ w v l e. absurd (omega (arith, start-calm plan w, ap waits e))
-  all-due (turned {r} {k} {b} {s} t h) = go (getD b k Idle) (all-due t)
-    where
-      go : (x : Worker) → AllDue (countIn S r) r (turning k) (s .workers) → AllDue (countIn S r) r (turning (suc k)) (turnOf plan r k x s .workers)
-      go Idle i = i
-      go (Waiting v l) i = i
-      go (Holding j) i = calm (seated plan k j s) (seated-waits plan k j s)
-        where
-          calm : (x : Worker) → waits x ≡ 0 → AllDue (countIn S r) r (turning (suc k)) (set (s .workers) k x)
-          calm x c w v l e =
-              let len = workers-length t k h in
-              omega (arith, calm-before (s .workers) k x len c (countIn S r) v (rank l w), i w v l (calm-set (s .workers) k x len c w v l e .1))
+  all-due (turned {r} {k} {b} {s} t h) =
+      let len = workers-length S fit t k h in
+      turn-workers (AllDue (countIn S r) r (turning (suc k))) plan r k (getD b k Idle) s (all-due t) (λ j y q c w v l e.
+      omega (arith, calm-before (s .workers) k y len c (countIn S r) v (rank l w), all-due t w v l (calm-set (s .workers) k y len c w v l e .1)))
   all-due (goes-on t e) = all-due t
-  all-due (laid {r} {k} {b} {s} t h) = go (getD b k Idle) (all-due t)
-    where
-      go : (x : Worker) → AllDue (countIn S r) r (laying k) (s .workers) → AllDue (countIn S r) r (laying (suc k)) (lay S r k x s .workers)
-      go Idle i = laid-due (countIn S r) r k (getD choices (s .tally .requests % length choices) 0) (s .workers) (count-most S fit r) h (workers-length t k h) (worker-below t) i
-      go (Holding j) i = i
-      go (Waiting v l) i = i
+  all-due (laid {r} {k} {b} {s} t h) =
+      lay-workers (AllDue (countIn S r) r (laying (suc k))) S r k (getD b k Idle) s (all-due t)
+      (λ e. laid-due (countIn S r) r k (victimOf S s) (s .workers) (count-most S fit r) h (workers-length S fit t k h) (worker-below t) (all-due t))
   all-due (all-laid t) = λ w v l e. (all-due t w v l e, λ b. absurd (not-suc-le-zero b))
   all-due (served {r} {k} {b} {s} t h) =
-      go (oldest k (countIn S r) (s .workers) .who) (oldest k (countIn S r) (s .workers) .laid) (oldest-best k (countIn S r) (s .workers) (count-most S fit r)) (all-due t)
-    where
-      go : (q m : ℕ) → Best k (countIn S r) (s .workers) q m → AllDue (countIn S r) r (serving k) (s .workers) → AllDue (countIn S r) r (serving (suc k)) (serve k q s .workers)
-      go zero m best i = none-due (countIn S r) r k (s .workers) (worker-below t) i best
-      go (suc x) m best i = gives (dequeOf s k)
-        where
-          due : (y : Worker) → waits y ≡ 0 → AllDue (countIn S r) r (serving (suc k)) (set (s .workers) x y)
-          due y = served-due (countIn S r) r k (s .workers) (worker-below t) i x m best y (workers-length t x (best .0))
-
-          gives : (d : List ℕ) → AllDue (countIn S r) r (serving (suc k)) (given k x d s .workers)
-          gives [] = due Idle refl
-          gives (y ∷ d) = due (Holding (topOf y d)) refl
+      let pick = oldest k (countIn S r) (s .workers) in
+      let best = oldest-best k (countIn S r) (s .workers) (count-most S fit r) in
+      serve-workers (AllDue (countIn S r) r (serving (suc k))) k (pick .who) s
+      (λ e. none-due (countIn S r) r k (s .workers) (worker-below t) (all-due t) (rw e at best))
+      (λ x y e.
+      let first : Best k (countIn S r) (s .workers) (suc x) (pick .laid) = rw e at best in
+      served-due (countIn S r) r k (s .workers) (worker-below t) (all-due t) x (pick .laid) first y (workers-length S fit t x (first .0)))
   all-due (next-round {r} t) = rw (count-next S r) λ w v l e. omega (arith, all-due t w v l e .1 (victim-below S fit chosen t w v l e .0))
 
   -- a request that still waits when round r is over was laid in a round l with r < l + (n - 1): it is served in round l + countIn S r - 1 at the latest
@@ -209,14 +189,3 @@ module _ (S : Setting) (fit : Fit S) (chosen : T (choicesFit (S .workers) (S .ch
   waits-served t w v l e =
       let (below, first, round) = victim-below S fit chosen t w v l e in
       (round, omega (arith, all-due t w v l e .1 below))
-
-  -- so no state of a round past that one has it
-  pub waits-late : {r : ℕ} {b : List Worker} {g : Stage} {s : State} → Trace S r b g s → (w v l : ℕ) → workerOf s w ≡ Waiting v l
-      → (l ≤ r) × (r + 1 ≤ l + countIn S r)
-  waits-late {r} {g = g} {s} t w v l e =
-      (victim-below S fit chosen t w v l e .2, go g (before (countIn S r) v (rank l w) (s .workers)) (all-due t w v l e))
-    where
-      go : (g : Stage) (c : ℕ) → Due (countIn S r) r g v l c → r + 1 ≤ l + countIn S r
-      go (turning k) c i = omega arith
-      go (laying k) c i = omega arith
-      go (serving k) c i = omega arith

@@ -1,12 +1,10 @@
 -- What holds of every state of a run: its lines are good, and a worker that holds nothing has an empty deque.
 use Prim.Native.Nat.{ℕ, _*_, _≤_, _<_}
-use mathlib.Core.Path.{_≡_, refl, _∙_}
-use mathlib.Core.Logic.{by-cases}
+use mathlib.Core.Path.{_≡_, refl}
 use mathlib.Core.Bool.{true, false}
 use mathlib.Core.List.{List}
 use native.Mathlib.Omega.{arith}
 use native.Mathlib.Nat.{le-refl, le-trans, mul-le-mul}
-use native.Mathlib.Decide.{ℕ-discrete}
 use lib.ListN.{length, getD, length-replicate}
 use lib.Dec.{leb→le, nleb→lt}
 use Rattle.runs.specs.declared.worker.Worker.{Worker}
@@ -28,14 +26,15 @@ use Rattle.lines.proofs.Laws.Weight.{filled-most}
 use Rattle.courses.proofs.Laws.Space.{leaves-space}
 use Rattle.plan.specs.Rules.{Accepted}
 use Rattle.plan.proofs.Laws.Valid.{jobs-range}
-use Rattle.runs.specs.Trace.{Stage, turning, laying, Trace, begins, turned, goes-on, laid, all-laid, served, next-round}
+use Rattle.runs.specs.Trace.{Stage, Trace, begins, turned, goes-on, laid, all-laid, served, next-round}
 use Rattle.courses.proofs.Laws.PlanShape.{shape-valid}
 use Rattle.runs.proofs.Laws.Fit.{Fit, count-some, count-most, count-next}
 use Rattle.runs.proofs.Laws.Start.{none-done, start-idle, start-deque}
 use Rattle.runs.proofs.Laws.Least.{oldest-waits}
 use Rattle.runs.proofs.Laws.Lined.{line-of, held-in, line-held, held-below}
-use Rattle.runs.proofs.Laws.TurnSound.{turn-others, turn-still, turnOf-sound}
-use Rattle.runs.proofs.Laws.ServeSound.{lay-others, lay-sound, serve-sound}
+use Rattle.runs.proofs.Laws.Began.{trace-began, laying-idle}
+use Rattle.runs.proofs.Laws.TurnSound.{turnOf-sound}
+use Rattle.runs.proofs.Laws.ServeSound.{lay-sound, serve-sound}
 pub use Rattle.courses.proofs.Laws.PlanShape.{shape}
 pub use Rattle.runs.proofs.Laws.Lined.{lineIn, lineOf, Sound}
 
@@ -91,42 +90,21 @@ module _ (p : Plan) (ok : Accepted p) (n : ℕ) (s : State) (sound : Sound p n s
   pub held-once : (v w j : ℕ) → workerOf s v ≡ Holding j → workerOf s w ≡ Holding j → v ≡ w
   held-once v w j e f = sound .good .apart v w j (held-in s v j e) (held-in s w j f)
 
-module _ (S : Setting) where
-  -- while the turns of a round are taken, a worker that has not had its turn is as the round began
-  pub trace-began : {r k : ℕ} {b : List Worker} {s : State} → Trace S r b (turning k) s
-      → (w : ℕ) → k ≤ w → workerOf s w ≡ getD b w Idle
-  trace-began begins w h = refl
-  trace-began (next-round t) w h = refl
-  trace-began (turned {r} {k} {b} {s} t l) w h =
-      turn-others (S .plan) r k (getD b k Idle) s w (λ e. omega arith) ∙ trace-began t w (omega arith)
+module _ (S : Setting) (fit : Fit S) where
+  -- the state of every stage of a run is sound
+  pub trace-sound : {r : ℕ} {b : List Worker} {g : Stage} {s : State} → Trace S r b g s → Sound (S .plan) (countIn S r) s
+  trace-sound begins = start-sound (S .plan) (fit .plan) (countIn S 1) (count-some S fit 1)
+  trace-sound (turned {r} {k} {b} {s} t l) =
+      turnOf-sound (S .plan) (fit .plan) (countIn S r) (count-most S fit r) r k (getD b k Idle) s (trace-began t k (le-refl k)) (trace-sound t)
+  trace-sound (goes-on t f) = trace-sound t
+  trace-sound (laid {r} {k} {b} {s} t l) =
+      lay-sound (S .plan) (countIn S r) (count-most S fit r) S r k (getD b k Idle) s l (laying-idle t k (le-refl k)) (trace-sound t)
+  trace-sound (all-laid t) = trace-sound t
+  trace-sound (served {r} {k} {b} {s} t l) =
+      serve-sound (S .plan) (fit .plan) (countIn S r) (count-most S fit r) s (trace-sound t) k l (oldest k (countIn S r) (s .workers) .who)
+      (oldest-waits k (countIn S r) (s .workers) (count-most S fit r))
+  trace-sound (next-round {r} t) = rw (count-next S r) (trace-sound t)
 
-  -- a worker that was idle as the round began is so after the turns
-  pub trace-idle : {r k : ℕ} {b : List Worker} {s : State} → Trace S r b (turning k) s
-      → (w : ℕ) → getD b w Idle ≡ Idle → workerOf s w ≡ Idle
-  trace-idle begins w e = e
-  trace-idle (next-round t) w e = e
-  trace-idle (turned {r} {k} {b} {s} t l) w e =
-      by-cases (ℕ-discrete w k) (λ q. turn-still (S .plan) r k (getD b k Idle) s w (rw q at e)) (turn-others (S .plan) r k (getD b k Idle) s w)
-      ∙ trace-idle t w e
-
-  -- and until it lays a request
-  pub laying-idle : {r k : ℕ} {b : List Worker} {s : State} → Trace S r b (laying k) s
-      → (w : ℕ) → k ≤ w → getD b w Idle ≡ Idle → workerOf s w ≡ Idle
-  laying-idle (goes-on t f) w h e = trace-idle t w e
-  laying-idle (laid {r} {k} {b} {s} t l) w h e =
-      lay-others S r k (getD b k Idle) s w (λ q. omega arith) ∙ laying-idle t w (omega arith) e
-
-  module _ (fit : Fit S) where
-    -- the state of every stage of a run is sound
-    pub trace-sound : {r : ℕ} {b : List Worker} {g : Stage} {s : State} → Trace S r b g s → Sound (S .plan) (countIn S r) s
-    trace-sound begins = start-sound (S .plan) (fit .plan) (countIn S 1) (count-some S fit 1)
-    trace-sound (turned {r} {k} {b} {s} t l) =
-        turnOf-sound (S .plan) (fit .plan) (countIn S r) (count-most S fit r) r k (getD b k Idle) s (trace-began t k (le-refl k)) (trace-sound t)
-    trace-sound (goes-on t f) = trace-sound t
-    trace-sound (laid {r} {k} {b} {s} t l) =
-        lay-sound (S .plan) (countIn S r) (count-most S fit r) S r k (getD b k Idle) s l (laying-idle t k (le-refl k)) (trace-sound t)
-    trace-sound (all-laid t) = trace-sound t
-    trace-sound (served {r} {k} {b} {s} t l) =
-        serve-sound (S .plan) (fit .plan) (countIn S r) (count-most S fit r) s (trace-sound t) k l (oldest k (countIn S r) (s .workers) .who)
-        (oldest-waits k (countIn S r) (s .workers) (count-most S fit r))
-    trace-sound (next-round {r} t) = rw (count-next S r) (trace-sound t)
+  -- each worker that there is has its place
+  pub workers-length : {r : ℕ} {b : List Worker} {g : Stage} {s : State} → Trace S r b g s → (k : ℕ) → k < countIn S r → k < length (s .workers)
+  workers-length {r} t k h = omega (arith, trace-sound t .workers, count-most S fit r)

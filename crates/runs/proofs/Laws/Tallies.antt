@@ -9,14 +9,13 @@ use lib.ListN.{getD}
 use Rattle.runs.specs.declared.tally.Tally.{Tally}
 use Rattle.runs.specs.declared.worker.Worker.{Worker}
 use Rattle.runs.specs.declared.worker.Worker.the-variants.{Idle, Holding, Waiting}
-use Rattle.plan.specs.Plan.{Plan}
 use Rattle.runs.specs.Setting.{Setting, countIn}
 use Rattle.runs.specs.State.{State, dequeOf, start}
 use Rattle.runs.specs.Turn.{turn, idled, turnOf}
 use Rattle.runs.specs.Steal.{laid as laidBy, lay, oldest, given, serve}
 use Rattle.runs.specs.Trace.{Stage, turning, laying, serving, Trace, begins, turned, goes-on, laid, all-laid, served, next-round}
 use Rattle.runs.proofs.Laws.Fit.{Fit, count-most, count-within, count-is}
-use Rattle.runs.proofs.Laws.Rests.{lay-rests, serve-rests}
+use Rattle.runs.proofs.Laws.Rests.{lay-rests, serve-rests, turn-counts}
 use Rattle.runs.proofs.Laws.Rounds.{began-busy}
 
 -- how many turns the rounds up to round r have
@@ -46,12 +45,6 @@ abbrev pub Requested : Setting → Stage → ℕ → ℕ → Type 0
 Requested S (turning k) r q = q + countIn S r ≤ counts S r
 Requested S (laying k) r q = (k ≤ countIn S r) × (q + countIn S r ≤ counts S r + k)
 Requested S (serving k) r q = q ≤ counts S r
-
-pub turn-requests : (p : Plan) (r w : ℕ) (x : Worker) (s : State) → turnOf p r w x s .tally .requests ≡ s .tally .requests
-unfolding turnOf turn idled
-turn-requests p r w Idle s = refl
-turn-requests p r w (Holding j) s = refl
-turn-requests p r w (Waiting v l) s = refl
 
 pub serve-requests : (v who : ℕ) (s : State) → serve v who s .tally .requests ≡ s .tally .requests
 unfolding serve given
@@ -103,7 +96,7 @@ module _ (S : Setting) (fit : Fit S) where
   pub requests-counted : {r : ℕ} {b : List Worker} {g : Stage} {s : State} → Trace S r b g s → Requested S g r (s .tally .requests)
   unfolding start counts
   requests-counted begins = omega arith
-  requests-counted (turned {r} {k} {b} {s} t h) = rw (turn-requests plan r k (getD b k Idle) s) (requests-counted t)
+  requests-counted (turned {r} {k} {b} {s} t h) = rw (turn-counts plan r k (getD b k Idle) s .0) (requests-counted t)
   requests-counted (goes-on t e) = (omega arith, omega (arith, requests-counted t))
   requests-counted (laid {r} {k} {b} {s} t h) = (h, omega (arith, requests-counted t, lay-requests S r k (getD b k Idle) s))
   requests-counted (all-laid t) = omega (arith, requests-counted t)
@@ -138,14 +131,3 @@ module _ (S : Setting) (fit : Fit S) where
     lone-idle (all-laid t) = lone-idle t
     lone-idle (served {r} {k} {b} {s} t h) = serve-rests k (oldest k (countIn S r) (s .workers) .who) s .idle ∙ lone-idle t
     lone-idle (next-round t) = lone-idle t
-
-    -- and lays no request
-    pub lone-requests : {r : ℕ} {b : List Worker} {g : Stage} {s : State} → Trace S r b g s → s .tally .requests ≡ 0
-    unfolding lay start
-    lone-requests begins = refl
-    lone-requests (turned {r} {k} {b} {s} t h) = turn-requests plan r k (getD b k Idle) s ∙ lone-requests t
-    lone-requests (goes-on t e) = lone-requests t
-    lone-requests (laid {r} {k} {b} {s} t h) = rw (lone-holds t k h .1) (lone-requests t)
-    lone-requests (all-laid t) = lone-requests t
-    lone-requests (served {r} {k} {b} {s} t h) = serve-requests k (oldest k (countIn S r) (s .workers) .who) s ∙ lone-requests t
-    lone-requests (next-round t) = lone-requests t

@@ -217,20 +217,6 @@ idled-sound p n r s sound = record {
   absent = sound .absent;
 }
 
--- a turn changes no other worker
-pub turn-others : (p : Plan) (r w : ℕ) (k : Worker) (s : State) (v : ℕ) → v ≢ w → workerOf (turnOf p r w k s) v ≡ workerOf s v
-unfolding turnOf
-turn-others p r w Idle s v f = refl
-turn-others p r w (Holding j) s v f = getD-set-other (s .workers) w v (seatOf p s w j .worker) Idle f
-turn-others p r w (Waiting u l) s v f = refl
-
--- and none if the worker was idle
-pub turn-still : (p : Plan) (r w : ℕ) (k : Worker) (s : State) (v : ℕ) → k ≡ Idle → workerOf (turnOf p r w k s) v ≡ workerOf s v
-unfolding turnOf
-turn-still p r w Idle s v e = refl
-turn-still p r w (Holding j) s v e = let z : _≡_ {A = ℕ} 0 1 = cc in absurd (omega arith)
-turn-still p r w (Waiting u l) s v e = refl
-
 pub turnOf-sound : (p : Plan) → Accepted p → (n : ℕ) → n ≤ 16 → (r w : ℕ) (k : Worker) (s : State) → workerOf s w ≡ k → Sound p n s
     → Sound p n (turnOf p r w k s)
 unfolding turnOf

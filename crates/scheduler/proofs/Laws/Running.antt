@@ -17,13 +17,13 @@ use Rattle.runs.specs.declared.worker.Worker.the-variants.{Idle, Holding, Waiti
 use Rattle.runs.specs.State.{State, workerOf}
 use Rattle.runs.specs.Turn.{turns}
 use Rattle.runs.specs.Steal.{lays, serves}
-use Rattle.runs.specs.Trace.{Stage, turning, laying, serving, Trace, begins, turned, goes-on, laid, all-laid, served, next-round}
+use Rattle.runs.specs.Trace.{Stage, turning, laying, serving, Trace}
 use Rattle.scheduler.specs.Machine.{InRun, Fitting}
 use Rattle.scheduler.specs.Requests.{Fits}
 use Rattle.runs.proofs.Laws.Fit.{Fit}
 use Rattle.runs.proofs.Laws.Lined.{Sound}
 use Rattle.runs.proofs.Laws.Sound.{trace-sound, held-job}
-use Rattle.runs.proofs.Laws.Waiting.{idle-unheld}
+use Rattle.runs.proofs.Laws.Began.{idle-unheld, round-began}
 use Rattle.runs.proofs.Laws.Victims.{victim-below, laid-choices}
 use Rattle.runs.proofs.Laws.Whole.{counts-small, turns-trace, lays-trace, serves-trace}
 
@@ -77,16 +77,7 @@ run-at run t = record { accepted = run .accepted; some = run .some; most = run .
 
 -- the workers as the round began were those of a state too
 pub run-began : {p : Plan} {n : ℕ} {choices : List ℕ} {r : ℕ} {b : List Worker} {g : Stage} {s : State} → InRun p n choices r b g s → Fits b
-run-began {p} {n} {choices} run = go (run .trace)
-  where
-    go : {r : ℕ} {b : List Worker} {g : Stage} {s : State} → Trace (setting p n choices) r b g s → Fits b
-    go begins = run-seats (run-at run begins)
-    go (turned t h) = go t
-    go (goes-on t e) = go t
-    go (laid t h) = go t
-    go (all-laid t) = go t
-    go (served t h) = go t
-    go (next-round t) = run-seats (run-at run t)
+run-began run = let (u, t, e) = round-began (run .trace) in rw e (run-seats (run-at run t))
 
 module _ {p : Plan} {n : ℕ} {choices : List ℕ} {r : ℕ} {b : List Worker} {s : State} where
   pub run-turns : InRun p n choices r b (turning 0) s → (k : ℕ) → k ≤ n → InRun p n choices r b (turning k) (turns p r k b s)

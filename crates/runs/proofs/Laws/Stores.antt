@@ -1,0 +1,66 @@
+-- What a turn, a request and a service store of the workers: at most one of them changes. After its turn, or once it is served, a
+-- worker does not wait; with its request it waits on the victim that the choices name.
+--   victimOf S s  == the victim of the next request
+--   turn-workers  == what holds of the workers, and holds if worker k, which holds a job, gives way to one that does not wait, holds after its turn
+--   lay-workers   == what holds of the workers, and holds if worker w, which is idle, gives way to one that waits, holds after its request
+--   serve-workers == what holds of the workers, and holds if the one that is served gives way to one that does not wait, holds after the service
+use Prim.Native.Nat.{ℕ, zero, suc, _%_}
+use mathlib.Core.Path.{_≡_, refl}
+use mathlib.Core.Bool.{Bool, true, false}
+use mathlib.Core.List.{List, [], _∷_}
+use lib.Dec.{ltb}
+use lib.ListN.{length, getD, set}
+use Rattle.plan.specs.Test.{both}
+use Rattle.plan.specs.Plan.{Plan, size, action}
+use Rattle.courses.specs.Ready.{ready}
+use Rattle.runs.specs.declared.worker.Worker.{Worker}
+use Rattle.runs.specs.declared.worker.Worker.the-variants.{Idle, Holding, Waiting}
+use Rattle.runs.specs.Setting.{Setting}
+use Rattle.runs.specs.State.{State, nextOf, dequeOf}
+use Rattle.runs.specs.Turn.{takeBottom, seatAfter, turn, idled, turnOf}
+use Rattle.runs.specs.Parts.{afterOf, aboveOf}
+use Rattle.runs.specs.Steal.{laid, lay, topOf, given, serve, waits}
+
+abbrev pub victimOf : Setting → State → ℕ
+victimOf S s = getD (S .choices) (s .tally .requests % length (S .choices)) 0
+
+-- a worker does not wait after its turn
+seat-waits : (p : Plan) (after : List ℕ) (j i : ℕ) (d : List ℕ) → waits (seatAfter p after j i d .worker) ≡ 0
+unfolding seatAfter
+seat-waits p after j i d = go (action p j i .spawn) refl (both (ltb (suc i) (size p j)) (ready p after j)) refl
+  where
+    bottom : (d : List ℕ) → waits (takeBottom d .worker) ≡ 0
+    bottom [] = refl
+    bottom (x ∷ d) = refl
+
+    go : (c : ℕ) → action p j i .spawn ≡ c → (x : Bool) → both (ltb (suc i) (size p j)) (ready p after j) ≡ x
+        → waits (seatAfter p after j i d .worker) ≡ 0
+    go (suc c) e x f = rw (seatAfter, e)
+    go zero e true f = rw (seatAfter, e, f)
+    go zero e false f = rw (seatAfter, e, f) (bottom d)
+
+module _ (P : List Worker → Type 0) where
+  pub turn-workers : (p : Plan) (r k : ℕ) (x : Worker) (s : State) → P (s .workers)
+      → ((j : ℕ) (y : Worker) → x ≡ Holding j → waits y ≡ 0 → P (set (s .workers) k y)) → P (turnOf p r k x s .workers)
+  unfolding turnOf turn idled
+  turn-workers p r k Idle s i f = i
+  turn-workers p r k (Holding j) s i f = f j _ refl (seat-waits p (afterOf s j) j (nextOf s j) (aboveOf p s k j))
+  turn-workers p r k (Waiting v l) s i f = i
+
+  pub lay-workers : (S : Setting) (r w : ℕ) (x : Worker) (s : State) → P (s .workers)
+      → (x ≡ Idle → P (set (s .workers) w (Waiting (victimOf S s) r))) → P (lay S r w x s .workers)
+  unfolding lay laid
+  lay-workers S r w Idle s i f = f refl
+  lay-workers S r w (Holding j) s i f = i
+  lay-workers S r w (Waiting v l) s i f = i
+
+  pub given-workers : (v w : ℕ) (d : List ℕ) (s : State) → ((y : Worker) → waits y ≡ 0 → P (set (s .workers) w y)) → P (given v w d s .workers)
+  unfolding given
+  given-workers v w [] s f = f Idle refl
+  given-workers v w (x ∷ d) s f = f (Holding (topOf x d)) refl
+
+  pub serve-workers : (v who : ℕ) (s : State) → (who ≡ 0 → P (s .workers))
+      → ((w : ℕ) (y : Worker) → who ≡ suc w → waits y ≡ 0 → P (set (s .workers) w y)) → P (serve v who s .workers)
+  unfolding serve
+  serve-workers v zero s i f = i refl
+  serve-workers v (suc w) s i f = given-workers v w (dequeOf s v) s (λ y. f w y refl)
