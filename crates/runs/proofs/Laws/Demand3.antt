@@ -24,34 +24,34 @@ workers-range : (n : ℕ) → T (workersFit n) → (1 ≤ n) × (n ≤ 16)
 unfolding workersFit
 workers-range n t = (leb→le 1 n (both-left (leb 1 n) (leb n 16) t), leb→le n 16 (both-right (leb 1 n) (leb n 16) t))
 
-pub run-bounds : (S : Setting) → Fit S → Bounds (S .plan) (S .workers) (run S .rows) (run S .tally)
-run-bounds S fit =
-    let (r, b, t, e, q) = run-trace S fit in
+pub run-bounds : {S : Setting} → Fit S → Bounds (S .plan) (S .workers) (run S .rows) (run S .tally)
+run-bounds fit =
+    let (r, b, t, e, q) = run-trace fit in
     record {
-      space = run-space S fit t e;
-      most-rounds = rounds-most S fit;
-      least-rounds = omega (arith, least-rounds S fit t e);
-      lone-peak = lone-peak S fit t e;
-      lone-rounds = lone-rounds S fit;
-      peak = run-peak S fit t e;
-      rounds = q ∙ sym (last-round S fit t e);
+      space = run-space fit t e;
+      most-rounds = rounds-most fit;
+      least-rounds = omega (arith, least-rounds fit t e);
+      lone-peak = lone-peak fit t e;
+      lone-rounds = lone-rounds fit;
+      peak = run-peak fit t e;
+      rounds = q ∙ sym (last-round fit t e);
     }
 
 -- of bytes that begin with a run's schedule
-pub run-bounded : (S : Setting) → Fit S → (rest : List ℕ)
+pub run-bounded : {S : Setting} → Fit S → (rest : List ℕ)
     → Bounded (S .plan) (S .workers) (scheduleBytes (S .workers) (run S .rows) ++ rest) (run S .tally)
-run-bounded S fit rest =
+run-bounded {S} fit rest =
     let out = scheduleBytes (S .workers) (run S .rows) in
     let m = total (S .plan) in
-    let (r, b, t, e, q) = run-trace S fit in
-    let few : r ≤ 4095 = omega (arith, round-most S fit t, work-range (S .plan) (fit .plan)) in
-    let long : length out ≡ 4 + 2 * m = schedule-length (S .workers) (run S .rows) ∙ ap (λ k. 4 + 2 * k) (rows-length S fit t) in
+    let (r, b, t, e, q) = run-trace fit in
+    let few : r ≤ 4095 = omega (arith, round-most fit t, work-range (S .plan) (fit .plan)) in
+    let long : length out ≡ 4 + 2 * m = schedule-length (S .workers) (run S .rows) ∙ ap (λ k. 4 + 2 * k) (rows-length fit t) in
     record {
       rows = run S .rows;
-      read = ap (λ l. readSchedule l m) (take-at out rest (4 + 2 * m) long) ∙ run-schedule S fit t e few;
-      bounds = run-bounds S fit;
+      read = ap (λ l. readSchedule l m) (take-at out rest (4 + 2 * m) long) ∙ run-schedule fit t e few;
+      bounds = run-bounds fit;
     }
 
 pub demand3 : Demand3
 demand3 s p n choices a w c =
-    run-bounds (setting p n choices) (record { plan = accepted-kept s p a; some = workers-range n w .0; most = workers-range n w .1 })
+    run-bounds {S = setting p n choices} (record { plan = accepted-kept s p a; some = workers-range n w .0; most = workers-range n w .1 })

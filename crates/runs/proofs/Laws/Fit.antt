@@ -12,13 +12,13 @@ pub record Fit (S : Setting) : Type 0 where
   pub some : 1 ≤ S .workers
   pub most : S .workers ≤ 16
 
-pub count-some : (S : Setting) → Fit S → (r : ℕ) → 1 ≤ countIn S r
+pub count-some : {S : Setting} → Fit S → (r : ℕ) → 1 ≤ countIn S r
 unfolding countIn
-count-some S fit r = fit .some
+count-some fit r = fit .some
 
-pub count-most : (S : Setting) → Fit S → (r : ℕ) → countIn S r ≤ 16
+pub count-most : {S : Setting} → Fit S → (r : ℕ) → countIn S r ≤ 16
 unfolding countIn
-count-most S fit r = fit .most
+count-most fit r = fit .most
 
 pub count-within : (S : Setting) (r : ℕ) → countIn S r ≤ S .workers
 unfolding countIn

@@ -32,15 +32,15 @@ Numbered (turning (suc k)) r t = t ≡ r
 Numbered (laying k) r t = t ≡ r
 Numbered (serving k) r t = t ≡ r
 
-pub numbered-late : (k r t : ℕ) → 1 ≤ k → Numbered (turning k) r t → t ≡ r
-numbered-late zero r t h i = absurd (not-suc-le-zero h)
-numbered-late (suc k) r t h i = i
+pub numbered-late : {k r t : ℕ} → 1 ≤ k → Numbered (turning k) r t → t ≡ r
+numbered-late {k = zero} h i = absurd (not-suc-le-zero h)
+numbered-late {k = suc k} h i = i
 
-pub numbered-most : (g : Stage) (r t : ℕ) → Numbered g r t → t ≤ r
-numbered-most (turning zero) r t i = omega arith
-numbered-most (turning (suc k)) r t i = omega arith
-numbered-most (laying k) r t i = omega arith
-numbered-most (serving k) r t i = omega arith
+pub numbered-most : (g : Stage) {r t : ℕ} → Numbered g r t → t ≤ r
+numbered-most (turning zero) i = omega arith
+numbered-most (turning (suc k)) i = omega arith
+numbered-most (laying k) i = omega arith
+numbered-most (serving k) i = omega arith
 
 -- job 0 has not ended but in the first half of a round
 abbrev pub Going : Plan → Stage → State → Type 0
@@ -52,7 +52,7 @@ Going p (serving k) s = ended p s ≡ false
 ended-rests : (p : Plan) {s t : State} → Rests s t → ended p s ≡ false → ended p t ≡ false
 ended-rests p q i = ap (λ l. leb (size p 0) (getD l 0 0)) (q .next) ∙ i
 
-module _ (S : Setting) (fit : Fit S) where
+module _ {S : Setting} (fit : Fit S) where
   open Setting S using (plan)
 
   -- the tally counts the rounds
@@ -65,7 +65,7 @@ module _ (S : Setting) (fit : Fit S) where
       go Idle = refl
       go (Holding j) = refl
       go (Waiting v l) = refl
-  rounds-known (goes-on {r} {b} {s} t e) = numbered-late (countIn S r) r (s .tally .rounds) (count-some S fit r) (rounds-known t)
+  rounds-known (goes-on {r} {b} {s} t e) = numbered-late (count-some fit r) (rounds-known t)
   rounds-known (laid {r} {k} {b} {s} t h) = lay-rests S r k (getD b k Idle) s .rounds ∙ rounds-known t
   rounds-known (all-laid t) = rounds-known t
   rounds-known (served {r} {k} {b} {s} t h) = serve-rests k (oldest k (countIn S r) (s .workers) .who) s .rounds ∙ rounds-known t
@@ -86,12 +86,12 @@ module _ (S : Setting) (fit : Fit S) where
   -- as each round begins some worker holds a job
   pub began-busy : {r : ℕ} {b : List Worker} {g : Stage} {s : State} → Trace S r b g s
       → (w : ℕ) × (j : ℕ) × (w < countIn S r) × (getD b w Idle ≡ Holding j)
-  began-busy {r} t = let (u, v, e) = round-began t in rw e (busy plan (fit .plan) (countIn S r) u (trace-sound S fit v) (not-ended v))
+  began-busy {r} t = let (u, v, e) = round-began t in rw e (busy (fit .plan) (trace-sound fit v) (not-ended v))
 
   -- and each that does is one of those that there are
   pub began-below : {r : ℕ} {b : List Worker} {g : Stage} {s : State} → Trace S r b g s
       → (w j : ℕ) → getD b w Idle ≡ Holding j → w < countIn S r
-  began-below {r} t = let (u, v, e) = round-began t in rw e (held-below plan (countIn S r) u (trace-sound S fit v))
+  began-below {r} t = let (u, v, e) = round-began t in rw e (λ w j. held-below (trace-sound fit v) w)
 
   -- rounds count from 1
   pub round-first : {r : ℕ} {b : List Worker} {g : Stage} {s : State} → Trace S r b g s → 1 ≤ r

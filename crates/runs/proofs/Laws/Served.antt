@@ -22,6 +22,7 @@ use Rattle.runs.specs.Run.{choicesFit}
 use Rattle.lines.proofs.Laws.Sum.{sum, sum-le, sum-less, sum-bound, only, only-yes}
 use Rattle.runs.specs.Trace.{Stage, turning, laying, serving, Trace, begins, turned, goes-on, laid, all-laid, served, next-round}
 use Rattle.runs.proofs.Laws.Fit.{Fit, count-most, count-next}
+use Rattle.runs.proofs.Laws.Lined.{seen-below}
 use Rattle.runs.proofs.Laws.Sound.{trace-sound, workers-length}
 use Rattle.runs.proofs.Laws.Start.{start-calm}
 use Rattle.runs.proofs.Laws.Stores.{victimOf, turn-workers, lay-workers, serve-workers}
@@ -154,38 +155,36 @@ module _ (n r k : ℕ) (ws : List Worker) (below : (w v l : ℕ) → getD ws w I
             (λ f. omega (arith, due .1 (omega arith))),
       )
 
-module _ (S : Setting) (fit : Fit S) (chosen : T (choicesFit (S .workers) (S .choices))) where
+module _ {S : Setting} (fit : Fit S) (chosen : T (choicesFit (S .workers) (S .choices))) where
   open Setting S using (plan, choices)
 
   worker-below : {r : ℕ} {b : List Worker} {g : Stage} {s : State} → Trace S r b g s → (w v l : ℕ) → workerOf s w ≡ Waiting v l → w < countIn S r
-  worker-below {r} t w v l e =
-      by-cases (decLt w (countIn S r)) (λ h. h)
-      (λ f. let z : _≡_ {A = ℕ} 0 1 = cc (trace-sound S fit t .absent w (omega arith)) in absurd (omega arith))
+  worker-below t w v l e = seen-below (trace-sound fit t) w (λ q. let z : _≡_ {A = ℕ} 0 1 = cc in omega arith)
 
   all-due : {r : ℕ} {b : List Worker} {g : Stage} {s : State} → Trace S r b g s → AllDue (countIn S r) r g (s .workers)
   all-due begins = λ w v l e. absurd (omega (arith, start-calm plan w, ap waits e))
   all-due (turned {r} {k} {b} {s} t h) =
-      let len = workers-length S fit t k h in
+      let len = workers-length fit t k h in
       turn-workers (AllDue (countIn S r) r (turning (suc k))) plan r k (getD b k Idle) s (all-due t) (λ j y q c w v l e.
       omega (arith, calm-before (s .workers) k y len c (countIn S r) v (rank l w), all-due t w v l (calm-set (s .workers) k y len c w v l e .1)))
   all-due (goes-on t e) = all-due t
   all-due (laid {r} {k} {b} {s} t h) =
       lay-workers (AllDue (countIn S r) r (laying (suc k))) S r k (getD b k Idle) s (all-due t)
-      (λ e. laid-due (countIn S r) r k (victimOf S s) (s .workers) (count-most S fit r) h (workers-length S fit t k h) (worker-below t) (all-due t))
+      (λ e. laid-due (countIn S r) r k (victimOf S s) (s .workers) (count-most fit r) h (workers-length fit t k h) (worker-below t) (all-due t))
   all-due (all-laid t) = λ w v l e. (all-due t w v l e, λ b. absurd (not-suc-le-zero b))
   all-due (served {r} {k} {b} {s} t h) =
       let pick = oldest k (countIn S r) (s .workers) in
-      let best = oldest-best k (countIn S r) (s .workers) (count-most S fit r) in
+      let best = oldest-best k (countIn S r) (s .workers) (count-most fit r) in
       serve-workers (AllDue (countIn S r) r (serving (suc k))) k (pick .who) s
       (λ e. none-due (countIn S r) r k (s .workers) (worker-below t) (all-due t) (rw e at best))
       (λ x y e.
       let first : Best k (countIn S r) (s .workers) (suc x) (pick .laid) = rw e at best in
-      served-due (countIn S r) r k (s .workers) (worker-below t) (all-due t) x (pick .laid) first y (workers-length S fit t x (first .0)))
-  all-due (next-round {r} t) = rw (count-next S r) λ w v l e. omega (arith, all-due t w v l e .1 (victim-below S fit chosen t w v l e .0))
+      served-due (countIn S r) r k (s .workers) (worker-below t) (all-due t) x (pick .laid) first y (workers-length fit t x (first .0)))
+  all-due (next-round {r} t) = rw (count-next S r) λ w v l e. omega (arith, all-due t w v l e .1 (victim-below fit chosen t w v l e .0))
 
   -- a request that still waits when round r is over was laid in a round l with r < l + (n - 1): it is served in round l + countIn S r - 1 at the latest
   pub waits-served : {r : ℕ} {b : List Worker} {s : State} → Trace S r b (serving (countIn S r)) s → (w v l : ℕ) → workerOf s w ≡ Waiting v l
       → (l ≤ r) × (r + 2 ≤ l + countIn S r)
   waits-served t w v l e =
-      let (below, first, round) = victim-below S fit chosen t w v l e in
+      let (below, first, round) = victim-below fit chosen t w v l e in
       (round, omega (arith, all-due t w v l e .1 below))

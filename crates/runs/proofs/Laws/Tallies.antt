@@ -23,10 +23,10 @@ unfoldable pub counts : Setting → ℕ → ℕ
 counts S zero = 0
 counts S (suc r) = counts S r + countIn S (suc r)
 
-pub counts-most : (S : Setting) → Fit S → (r : ℕ) → counts S r ≤ 16 * r
+pub counts-most : {S : Setting} → Fit S → (r : ℕ) → counts S r ≤ 16 * r
 unfolding counts
-counts-most S fit zero = omega arith
-counts-most S fit (suc r) = omega (arith, counts-most S fit r, count-most S fit (suc r))
+counts-most fit zero = omega arith
+counts-most fit (suc r) = omega (arith, counts-most fit r, count-most fit (suc r))
 
 -- each round has the same number of workers
 pub counts-same : (S : Setting) (r : ℕ) → counts S r ≡ S .workers * r
@@ -61,7 +61,7 @@ lay-requests S r w Idle s = omega arith
 lay-requests S r w (Holding j) s = omega arith
 lay-requests S r w (Waiting v l) s = omega arith
 
-module _ (S : Setting) (fit : Fit S) where
+module _ {S : Setting} (fit : Fit S) where
   open Setting S using (plan)
 
   pub turns-counted : {r : ℕ} {b : List Worker} {g : Stage} {s : State} → Trace S r b g s → Turned S g r (s .tally)
@@ -117,7 +117,7 @@ module _ (S : Setting) (fit : Fit S) where
     pub lone-holds : {r : ℕ} {b : List Worker} {g : Stage} {s : State} → Trace S r b g s → (k : ℕ) → k < countIn S r
         → (j : ℕ) × (getD b k Idle ≡ Holding j)
     lone-holds {r} {b} t k h =
-        let (w, j, l, f) = began-busy S fit t in
+        let (w, j, l, f) = began-busy fit t in
         let e : k ≡ w = omega (arith, count-within S r) in
         (j, ap (λ v. getD b v Idle) e ∙ f)
 

@@ -83,31 +83,30 @@ module _ (p : Plan) (after : List ℕ) (j i : ℕ) (d : List ℕ) where
 abbrev pub seatOf : Plan → State → ℕ → ℕ → Seat
 seatOf p s w j = seatAfter p (afterOf s j) j (nextOf s j) (aboveOf p s w j)
 
-module _ (p : Plan) (ok : Accepted p) (n : ℕ) (most : n ≤ 16) (s : State) (sound : Sound p n s) (w j : ℕ)
-    (holds : workerOf s w ≡ Holding j) where
-  abbrev pub next′ : ℕ → ℕ
+pub others : (s : State) (j k : ℕ) → k ≢ j → getD (afterOf s j) k 0 ≡ nextOf s k
+others s j k f = getD-set-other (s .next) j k (suc (nextOf s j)) 0 f
+
+module _ {p : Plan} (ok : Accepted p) {n : ℕ} {s : State} (sound : Sound p n s) (w : ℕ) {j : ℕ} (holds : workerOf s w ≡ Holding j) where
+  abbrev next′ : ℕ → ℕ
   next′ k = getD (afterOf s j) k 0
 
   me : Living (shape p) (nextOf s) j × Ready (shape p) (nextOf s) j
-  me = sound .good .here w j (held-in s w j holds)
+  me = sound .good .here w j (held-in s w holds)
 
   pub acted : next′ j ≡ suc (nextOf s j)
   acted = getD-set-same (s .next) j (suc (nextOf s j)) 0 (omega (arith, sound .nexts, me .0 .below))
 
-  pub others : (k : ℕ) → k ≢ j → next′ k ≡ nextOf s k
-  others k f = getD-set-other (s .next) j k (suc (nextOf s j)) 0 f
-
   action-of : Act (shape p) (nextOf s) next′ j
-  action-of = record { closed = sound .good .closed; lives = me .0; ready = me .1; acts = acted; others = others }
+  action-of = record { closed = sound .good .closed; lives = me .0; ready = me .1; acts = acted; others = others s j }
 
   is : lineOf s w ≡ j ∷ dequeOf s w
-  is = line-of s w (Holding j) holds
+  is = line-of s w holds
 
   -- the parent has begun, before and after
   parent-begun : 1 ≤ j → (0 < nextOf s (parent p j)) × (0 < next′ (parent p j))
   parent-begun o =
       let b = me .0 .begun o in
-      omega (arith, others (parent p j) (λ e. omega (arith, older p ok j o (me .0 .below))))
+      omega (arith, others s j (parent p j) (λ e. omega (arith, older p ok j o (me .0 .below))))
 
   pub wakes-is : T (wakes p (s .next) (afterOf s j) j (nextOf s j)) → Wakes (shape p) (nextOf s) next′ j
   unfolding wakes
@@ -182,10 +181,10 @@ module _ (p : Plan) (ok : Accepted p) (n : ℕ) (most : n ≤ 16) (s : State) (s
           j (aboveOf p s w j) (λ b. lineAt (stay b j (aboveOf p s w j))) refl (bottom-line (aboveOf p s w j))
           ∙ ap (put (goes? (shape p) next′ j) j) above ∙ sym (turn-none (shape p) (nextOf s) next′ j (dequeOf s w) e)
 
-  pub turn-sound : (r : ℕ) → Sound p n (turn p r w j s)
+  turn-sound : n ≤ 16 → (r : ℕ) → Sound p n (turn p r w j s)
   unfolding turn
-  turn-sound r =
-      let b = held-below p n s sound w j holds in
+  turn-sound most r =
+      let b = held-below sound w holds in
       let hw : w < length (s .workers) = omega (arith, sound .workers) in
       let hd : w < length (s .deques) = omega (arith, sound .deques) in
       let seat = seatOf p s w j in
@@ -205,21 +204,23 @@ module _ (p : Plan) (ok : Accepted p) (n : ℕ) (most : n ≤ 16) (s : State) (s
         absent = λ v h. getD-set-other (s .workers) w v (seat .worker) Idle (λ q. omega arith) ∙ sound .absent v h;
       }
 
-pub idled-sound : (p : Plan) (n r : ℕ) (s : State) → Sound p n s → Sound p n (idled r s)
-unfolding idled
-idled-sound p n r s sound = record {
-  nexts = sound .nexts;
-  workers = sound .workers;
-  deques = sound .deques;
-  rows = sound .rows;
-  good = sound .good;
-  empty = sound .empty;
-  absent = sound .absent;
-}
-
-pub turnOf-sound : (p : Plan) → Accepted p → (n : ℕ) → n ≤ 16 → (r w : ℕ) (k : Worker) (s : State) → workerOf s w ≡ k → Sound p n s
+pub turnOf-sound : {p : Plan} → Accepted p → {n : ℕ} → n ≤ 16 → {s : State} → Sound p n s → (r w : ℕ) (k : Worker) → workerOf s w ≡ k
     → Sound p n (turnOf p r w k s)
-unfolding turnOf
-turnOf-sound p ok n most r w Idle s e sound = idled-sound p n r s sound
-turnOf-sound p ok n most r w (Holding j) s e sound = turn-sound p ok n most s sound w j e r
-turnOf-sound p ok n most r w (Waiting u l) s e sound = idled-sound p n r s sound
+unfolding turnOf idled
+turnOf-sound {p} ok {n} most {s} sound r w k e = go k e
+  where
+    idle : Sound p n (idled r s)
+    idle = record {
+      nexts = sound .nexts;
+      workers = sound .workers;
+      deques = sound .deques;
+      rows = sound .rows;
+      good = sound .good;
+      empty = sound .empty;
+      absent = sound .absent;
+    }
+
+    go : (k : Worker) → workerOf s w ≡ k → Sound p n (turnOf p r w k s)
+    go Idle e = idle
+    go (Holding j) e = turn-sound ok sound w e most r
+    go (Waiting v l) e = idle

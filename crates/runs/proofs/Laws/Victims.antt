@@ -57,7 +57,7 @@ choice-below n choices some t i =
     by-cases (decLt i (length choices)) (λ h. ltb→lt (getD choices i 0) n (all-at (λ c. ltb c n) choices t 0 i h))
     (λ f. rw (List·getD-eq-default choices 0 {n = i} (omega arith)) some)
 
-module _ (S : Setting) (fit : Fit S) where
+module _ {S : Setting} (fit : Fit S) where
   open Setting S using (plan, choices)
 
   named-all : T (all (λ c. ltb c (S .workers)) choices) → {r : ℕ} {b : List Worker} {g : Stage} {s : State} → Trace S r b g s
@@ -69,7 +69,7 @@ module _ (S : Setting) (fit : Fit S) where
   named-all named (laid {r} {k} {b} {s} t h) =
       let below = choice-below (S .workers) choices (fit .some) named (s .tally .requests % length choices) in
       lay-workers (AllNamed (countIn S r) r) S r k (getD b k Idle) s (named-all named t)
-      (λ e. named-set (s .workers) k _ (named-laid (rw (count-is S r) below) (round-first S fit t)) (named-all named t))
+      (λ e. named-set (s .workers) k _ (named-laid (rw (count-is S r) below) (round-first fit t)) (named-all named t))
   named-all named (all-laid t) = named-all named t
   named-all named (served {r} {k} {b} {s} t h) =
       serve-workers (AllNamed (countIn S r) r) k (oldest k (countIn S r) (s .workers) .who) s (λ z. named-all named t)
@@ -85,7 +85,7 @@ module _ (S : Setting) (fit : Fit S) where
   -- a worker that held nothing as a round began is not alone
   pub unheld-more : {r : ℕ} {b : List Worker} {g : Stage} {s : State} → Trace S r b g s → (w : ℕ) → w < countIn S r → Unheld (getD b w Idle) → 2 ≤ S .workers
   unheld-more t w h u =
-      lt-of-not-le (λ (f : S .workers ≤ 1). let (j, e) = lone-holds S fit (omega arith) t w h in u j e)
+      lt-of-not-le (λ (f : S .workers ≤ 1). let (j, e) = lone-holds fit (omega arith) t w h in u j e)
 
   -- so there is a choice for each request
   pub laid-choices : T (choicesFit (S .workers) choices) → {r : ℕ} {b : List Worker} {g : Stage} {s : State} → Trace S r b g s

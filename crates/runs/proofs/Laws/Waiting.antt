@@ -24,7 +24,7 @@ use Rattle.runs.proofs.Laws.Stores.{turn-workers}
 abbrev pub Settled : ℕ → State → Type 0
 Settled n s = s .tally .requests ≡ s .tally .steals + s .tally .misses + waiting n (s .workers)
 
-module _ (S : Setting) (fit : Fit S) where
+module _ {S : Setting} (fit : Fit S) where
   open Setting S using (plan)
 
   -- each request was a steal or a miss, or its worker waits
@@ -33,7 +33,7 @@ module _ (S : Setting) (fit : Fit S) where
   requests-sum begins = omega (arith, waiting-none (countIn S 1) (start plan .workers) (start-calm plan))
   requests-sum (turned {r} {k} {b} {s} t h) =
       let same = turn-workers (λ ws. waiting (countIn S r) ws ≡ waiting (countIn S r) (s .workers)) plan r k (getD b k Idle) s refl
-      (λ j y e c. waiting-kept (s .workers) k y (workers-length S fit t k h) (countIn S r) (c ∙ ap waits (sym (trace-began t k (le-refl k) ∙ e)))) in
+      (λ j y e c. waiting-kept (s .workers) k y (workers-length fit t k h) (countIn S r) (c ∙ ap waits (sym (trace-began t k (le-refl k) ∙ e)))) in
       omega (arith, turn-counts plan r k (getD b k Idle) s, requests-sum t)
   requests-sum (goes-on t e) = requests-sum t
   requests-sum (laid {r} {k} {b} {s} t h) = go (getD b k Idle) refl (requests-sum t)
@@ -41,7 +41,7 @@ module _ (S : Setting) (fit : Fit S) where
       go : (x : Worker) → getD b k Idle ≡ x → Settled (countIn S r) s → Settled (countIn S r) (lay S r k x s)
       go Idle e i =
           let idle : workerOf s k ≡ Idle = laying-idle t k (le-refl k) e in
-          rw (waiting-more (s .workers) k _ (workers-length S fit t k h) (countIn S r) h (ap (λ x. suc (waits x)) (sym idle))) (omega arith)
+          rw (waiting-more (s .workers) k _ (workers-length fit t k h) (countIn S r) h (ap (λ x. suc (waits x)) (sym idle))) (omega arith)
       go (Holding j) e i = i
       go (Waiting v l) e i = i
   requests-sum (all-laid t) = requests-sum t
@@ -52,11 +52,11 @@ module _ (S : Setting) (fit : Fit S) where
       go (suc w) e i = gives (dequeOf s k)
         where
           found : (w < countIn S r) × (l : ℕ) × (getD (s .workers) w Idle ≡ Waiting k l)
-          found = oldest-waits k (countIn S r) (s .workers) (count-most S fit r) w e
+          found = oldest-waits k (countIn S r) (s .workers) (count-most fit r) w e
 
           less : (x : Worker) → waits x ≡ 0 → suc (waiting (countIn S r) (set (s .workers) w x)) ≡ waiting (countIn S r) (s .workers)
           less x z =
-              waiting-less (s .workers) w x (workers-length S fit t w (found .0)) (countIn S r) (found .0) (ap suc z ∙ ap waits (sym (found .2)))
+              waiting-less (s .workers) w x (workers-length fit t w (found .0)) (countIn S r) (found .0) (ap suc z ∙ ap waits (sym (found .2)))
 
           gives : (d : List ℕ) → Settled (countIn S r) (given k w d s)
           gives [] = omega (arith, less Idle refl)

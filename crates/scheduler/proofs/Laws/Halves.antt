@@ -123,7 +123,7 @@ module _ {p : Plan} {n : ℕ} {choices : List ℕ} {r : ℕ} {s : State} {c : Ac
   round-counted = omega (arith, ap (λ t. t .rounds) (manned .counts))
 
   pub round-known : c .tally .rounds + 1 ≡ r
-  round-known = omega (arith, round-counted, rounds-known (setting p n choices) (run-fit run) (run .trace))
+  round-known = omega (arith, round-counted, rounds-known (run-fit run) (run .trace))
 
   -- the round that begins is the one after those that the tally counts
   pub round-now : InRun p n choices (c .tally .rounds + 1) (s .workers) (turning 0) s

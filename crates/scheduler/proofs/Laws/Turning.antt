@@ -25,7 +25,6 @@ use Rattle.runs.specs.Turn.{turn, idled, turnOf}
 use Rattle.runs.specs.Trace.{turning, Trace, turned}
 use Rattle.scheduler.specs.Machine.{InRun, codeOf, Fitting, Planned, Machine, Manned, Printed, Kept, Acting, Acted}
 use Rattle.runs.proofs.Laws.Began.{trace-began}
-use Rattle.runs.proofs.Laws.Sound.{next-bound}
 use Rattle.courses.proofs.Laws.Course.{place-apart, Acts, acted}
 use Rattle.runs.proofs.Laws.Coursed.{core, turn-ends}
 use Rattle.scheduler.proofs.Laws.Codes.{seated-set}
@@ -112,14 +111,14 @@ module _ (p : Plan) (n : ℕ) (choices : List ℕ) (r w : ℕ) (b : List Worker)
     turning-ahead =
         let ok = run .accepted in
         let sound = run-sound run in
-        let acts = turn-ends p ok n s sound r w j holding .acts in
+        let acts = turn-ends sound r w holding .acts in
         record {
           known = acts .known;
           small = omega (arith, acts .known, jobs-range p ok);
           within = place-below p j (nextOf s j) (acts .known) (acts .left);
           early = turning-small .0;
           few = turning-small .1;
-          bound = next-bound p ok n s sound;
+          bound = sound .good .closed .bound;
           acts = acts;
         }
 
