@@ -13,7 +13,7 @@ use Rattle.runs.specs.declared.worker.Worker.the-variants.{Idle, Holding
 use Rattle.runs.specs.Setting.{Setting}
 use Rattle.runs.specs.State.{State, workerOf, start}
 use Rattle.runs.specs.Trace.{Stage, turning, laying, serving, Trace, begins, turned, goes-on, laid, all-laid, served, next-round}
-use Rattle.runs.proofs.Laws.Stores.{turn-workers, lay-workers}
+use Rattle.runs.proofs.Laws.Stores.{turned-workers, laid-workers}
 
 abbrev pub Unheld : Worker → Type 0
 Unheld x = (j : ℕ) → x ≡ Holding j → ⊥
@@ -38,14 +38,14 @@ module _ {S : Setting} where
 
   began-kept : {r : ℕ} {b : List Worker} {g : Stage} {s : State} → Trace S r b g s → Kept g b s
   began-kept begins = λ w u. refl
-  began-kept (turned {r} {k} {b} {s} t h) = λ w u.
+  began-kept (turned {k = k} {b} {s} t h) = λ w u.
       let was = began-kept t w (λ l. u (omega arith)) in
-      turn-workers (λ ws. getD ws w Idle ≡ getD b w Idle) (S .plan) r k (getD b k Idle) s was
+      turned-workers (λ ws. getD ws w Idle ≡ getD b w Idle) t was
       (λ j y e c. getD-set-other (s .workers) k w y Idle (λ q. u (omega arith) j (ap (λ z. getD b z Idle) q ∙ e)) ∙ was)
   began-kept (goes-on t e) = λ w l u. began-kept t w (λ h. u)
-  began-kept (laid {r} {k} {b} {s} t h) = λ w l u.
+  began-kept (laid {k = k} {b} {s} t h) = λ w l u.
       let was = began-kept t w (omega arith) u in
-      lay-workers (λ ws. getD ws w Idle ≡ getD b w Idle) S r k (getD b k Idle) s was
+      laid-workers (λ ws. getD ws w Idle ≡ getD b w Idle) t was
       (λ e. getD-set-other (s .workers) k w _ Idle (λ q. omega arith) ∙ was)
   began-kept (all-laid t) = tt
   began-kept (served t h) = tt

@@ -6,7 +6,7 @@
 use Prim.Native.Nat.{ℕ, suc, _*_, _≤_, _<_}
 use mathlib.Core.Path.{_≡_, refl, ap, sym, _∙_}
 use mathlib.Core.Logic.{inl}
-use mathlib.Core.Bool.{true, false}
+use mathlib.Core.Bool.{true}
 use mathlib.Core.List.{List, []}
 use native.Mathlib.Omega.{arith}
 use native.Mathlib.Nat.{le-refl, le-trans, le-of-eq, mul-le-mul}
@@ -22,7 +22,6 @@ use Rattle.runs.specs.Setting.{Setting, countIn}
 use Rattle.runs.specs.State.{State, nextOf, workerOf, start}
 use Rattle.courses.specs.Ready.{weight}
 use Rattle.runs.specs.Turn.{turn, turnOf, idled}
-use Rattle.runs.specs.Steal.{oldest}
 use Rattle.runs.specs.Run.{ended}
 use Rattle.courses.specs.Schedule.{keeps}
 use Rattle.courses.specs.Living.{weightAfter, peakOf, lastRound}
@@ -41,7 +40,7 @@ use Rattle.runs.proofs.Laws.Fit.{Fit, count-some, count-within, count-i
 use Rattle.runs.proofs.Laws.Lined.{held-in, held-below, held-job, held-once}
 use Rattle.runs.proofs.Laws.Began.{trace-began}
 use Rattle.runs.proofs.Laws.Sound.{Sound, start-sound, trace-sound, space, busy}
-use Rattle.runs.proofs.Laws.Rests.{Rests, lay-rests, serve-rests}
+use Rattle.runs.proofs.Laws.Rests.{Rests, laid-rests, served-rests}
 use Rattle.runs.proofs.Laws.Start.{none-done, start-turns, start-peak}
 use Rattle.runs.proofs.Laws.Rounds.{not-ended, began-below}
 
@@ -135,9 +134,9 @@ module _ {S : Setting} (fit : Fit S) where
   trace-course (Trace.turned {k = k} {b = b} t h) =
       turned-course t (getD b k Idle) refl (trace-sound fit (Trace.turned t h)) (trace-course t)
   trace-course (Trace.goes-on t e) = trace-course t
-  trace-course (Trace.laid {r = r} {k = k} {b = b} {s = s} t h) = rw (core-rests (lay-rests S r k (getD b k Idle) s)) (trace-course t)
+  trace-course (Trace.laid t h) = rw (core-rests (laid-rests t)) (trace-course t)
   trace-course (Trace.all-laid t) = trace-course t
-  trace-course (Trace.served {r = r} {k = k} {s = s} t h) = rw (core-rests (serve-rests k (oldest k (countIn S r) (s .workers) .who) s)) (trace-course t)
+  trace-course (Trace.served t h) = rw (core-rests (served-rests t)) (trace-course t)
   trace-course (Trace.next-round {r = r} {b = b} t) =
       let u = Trace.next-round t in
       Course.next-round (trace-course t)

@@ -9,12 +9,10 @@ use lib.Dec.{leb}
 use lib.ListN.{getD}
 use borrow.Author.Tests.{lt-leb}
 use Rattle.runs.specs.declared.worker.Worker.{Worker}
-use Rattle.runs.specs.declared.worker.Worker.the-variants.{Idle, Holding, Waiting}
+use Rattle.runs.specs.declared.worker.Worker.the-variants.{Idle, Holding}
 use Rattle.plan.specs.Plan.{Plan, size}
 use Rattle.runs.specs.Setting.{Setting, countIn}
 use Rattle.runs.specs.State.{State, nextOf, start}
-use Rattle.runs.specs.Turn.{turn, idled, turnOf}
-use Rattle.runs.specs.Steal.{oldest}
 use Rattle.runs.specs.Run.{ended}
 use Rattle.plan.proofs.Laws.Valid.{jobs-range, size-range}
 use Rattle.runs.specs.Trace.{Stage, turning, laying, serving, Trace, begins, turned, goes-on, laid, all-laid, served, next-round}
@@ -22,7 +20,7 @@ use Rattle.runs.proofs.Laws.Fit.{Fit, count-some}
 use Rattle.runs.proofs.Laws.Began.{round-began}
 use Rattle.runs.proofs.Laws.Lined.{held-below}
 use Rattle.runs.proofs.Laws.Sound.{trace-sound, busy}
-use Rattle.runs.proofs.Laws.Rests.{Rests, lay-rests, serve-rests}
+use Rattle.runs.proofs.Laws.Rests.{Rests, turned-took, laid-rests, served-rests}
 use Rattle.runs.proofs.Laws.Start.{none-done}
 
 -- what the tally says of the rounds in round r: a round counts from its first turn on
@@ -57,18 +55,13 @@ module _ {S : Setting} (fit : Fit S) where
 
   -- the tally counts the rounds
   pub rounds-known : {r : ℕ} {b : List Worker} {g : Stage} {s : State} → Trace S r b g s → Numbered g r (s .tally .rounds)
-  unfolding turnOf turn idled start
+  unfolding start
   rounds-known begins = refl
-  rounds-known (turned {r} {k} {b} {s} t h) = go (getD b k Idle)
-    where
-      go : (x : Worker) → turnOf plan r k x s .tally .rounds ≡ r
-      go Idle = refl
-      go (Holding j) = refl
-      go (Waiting v l) = refl
-  rounds-known (goes-on {r} {b} {s} t e) = numbered-late (count-some fit r) (rounds-known t)
-  rounds-known (laid {r} {k} {b} {s} t h) = lay-rests S r k (getD b k Idle) s .rounds ∙ rounds-known t
+  rounds-known (turned t h) = turned-took t .rounds
+  rounds-known (goes-on {r} t e) = numbered-late (count-some fit r) (rounds-known t)
+  rounds-known (laid t h) = laid-rests t .rounds ∙ rounds-known t
   rounds-known (all-laid t) = rounds-known t
-  rounds-known (served {r} {k} {b} {s} t h) = serve-rests k (oldest k (countIn S r) (s .workers) .who) s .rounds ∙ rounds-known t
+  rounds-known (served t h) = served-rests t .rounds ∙ rounds-known t
   rounds-known (next-round t) = ap suc (rounds-known t)
 
   -- a run goes on from round to round only while job 0 has not ended
@@ -78,9 +71,9 @@ module _ {S : Setting} (fit : Fit S) where
       lt-leb (size plan 0) (nextOf (start plan) 0) (omega (arith, size-range plan (fit .plan) 0 (jobs-range plan (fit .plan) .0)))
   not-ended (turned t h) = tt
   not-ended (goes-on t e) = e
-  not-ended (laid {r} {k} {b} {s} t h) = ended-rests plan (lay-rests S r k (getD b k Idle) s) (not-ended t)
+  not-ended (laid t h) = ended-rests plan (laid-rests t) (not-ended t)
   not-ended (all-laid t) = not-ended t
-  not-ended (served {r} {k} {b} {s} t h) = ended-rests plan (serve-rests k (oldest k (countIn S r) (s .workers) .who) s) (not-ended t)
+  not-ended (served t h) = ended-rests plan (served-rests t) (not-ended t)
   not-ended (next-round t) = not-ended t
 
   -- as each round begins some worker holds a job

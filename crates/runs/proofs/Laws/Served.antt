@@ -25,7 +25,7 @@ use Rattle.runs.proofs.Laws.Fit.{Fit, count-most, count-next}
 use Rattle.runs.proofs.Laws.Lined.{seen-below}
 use Rattle.runs.proofs.Laws.Sound.{trace-sound, workers-length}
 use Rattle.runs.proofs.Laws.Start.{start-calm}
-use Rattle.runs.proofs.Laws.Stores.{victimOf, turn-workers, lay-workers, serve-workers}
+use Rattle.runs.proofs.Laws.Stores.{victimOf, turned-workers, laid-workers, served-workers}
 use Rattle.runs.proofs.Laws.Victims.{victim-below}
 use Rattle.runs.proofs.Laws.Least.{rank, Best, oldest-best}
 
@@ -165,17 +165,17 @@ module _ {S : Setting} (fit : Fit S) (chosen : T (choicesFit (S .workers) (S .ch
   all-due begins = λ w v l e. absurd (omega (arith, start-calm plan w, ap waits e))
   all-due (turned {r} {k} {b} {s} t h) =
       let len = workers-length fit t k h in
-      turn-workers (AllDue (countIn S r) r (turning (suc k))) plan r k (getD b k Idle) s (all-due t) (λ j y q c w v l e.
+      turned-workers (AllDue (countIn S r) r (turning (suc k))) t (all-due t) (λ j y q c w v l e.
       omega (arith, calm-before (s .workers) k y len c (countIn S r) v (rank l w), all-due t w v l (calm-set (s .workers) k y len c w v l e .1)))
   all-due (goes-on t e) = all-due t
   all-due (laid {r} {k} {b} {s} t h) =
-      lay-workers (AllDue (countIn S r) r (laying (suc k))) S r k (getD b k Idle) s (all-due t)
+      laid-workers (AllDue (countIn S r) r (laying (suc k))) t (all-due t)
       (λ e. laid-due (countIn S r) r k (victimOf S s) (s .workers) (count-most fit r) h (workers-length fit t k h) (worker-below t) (all-due t))
   all-due (all-laid t) = λ w v l e. (all-due t w v l e, λ b. absurd (not-suc-le-zero b))
   all-due (served {r} {k} {b} {s} t h) =
       let pick = oldest k (countIn S r) (s .workers) in
       let best = oldest-best k (countIn S r) (s .workers) (count-most fit r) in
-      serve-workers (AllDue (countIn S r) r (serving (suc k))) k (pick .who) s
+      served-workers (AllDue (countIn S r) r (serving (suc k))) t
       (λ e. none-due (countIn S r) r k (s .workers) (worker-below t) (all-due t) (rw e at best))
       (λ x y e.
       let first : Best k (countIn S r) (s .workers) (suc x) (pick .laid) = rw e at best in

@@ -11,11 +11,11 @@ use Rattle.runs.specs.declared.worker.Worker.{Worker}
 use Rattle.runs.specs.declared.worker.Worker.the-variants.{Idle, Holding, Waiting}
 use Rattle.runs.specs.Setting.{Setting, countIn}
 use Rattle.runs.specs.State.{State, dequeOf, start}
-use Rattle.runs.specs.Turn.{turn, idled, turnOf}
+use Rattle.runs.specs.Turn.{turn, turnOf}
 use Rattle.runs.specs.Steal.{laid as laidBy, lay, oldest, given, serve}
 use Rattle.runs.specs.Trace.{Stage, turning, laying, serving, Trace, begins, turned, goes-on, laid, all-laid, served, next-round}
 use Rattle.runs.proofs.Laws.Fit.{Fit, count-most, count-within, count-is}
-use Rattle.runs.proofs.Laws.Rests.{lay-rests, serve-rests, turn-counts}
+use Rattle.runs.proofs.Laws.Rests.{turned-took, laid-rests, served-rests}
 use Rattle.runs.proofs.Laws.Rounds.{began-busy}
 
 -- how many turns the rounds up to round r have
@@ -65,19 +65,13 @@ module _ {S : Setting} (fit : Fit S) where
   open Setting S using (plan)
 
   pub turns-counted : {r : ℕ} {b : List Worker} {g : Stage} {s : State} → Trace S r b g s → Turned S g r (s .tally)
-  unfolding turnOf turn idled start counts
+  unfolding start counts
   turns-counted begins = (omega arith, omega arith)
-  turns-counted (turned {r} {k} {b} {s} t h) = go (getD b k Idle) (turns-counted t)
-    where
-      go : (x : Worker) → Turned S (turning k) r (s .tally) → Turned S (turning (suc k)) r (turnOf plan r k x s .tally)
-      go Idle i = (h, omega (arith, i .1))
-      go (Holding j) i = (h, omega (arith, i .1))
-      go (Waiting v l) i = (h, omega (arith, i .1))
+  turns-counted (turned t h) = (h, omega (arith, turns-counted t, turned-took t .turns))
   turns-counted (goes-on t e) = omega (arith, turns-counted t)
-  turns-counted (laid {r} {k} {b} {s} t h) = let q = lay-rests S r k (getD b k Idle) s in omega (arith, turns-counted t, q .actions, q .idle)
+  turns-counted (laid t h) = let q = laid-rests t in omega (arith, turns-counted t, q .actions, q .idle)
   turns-counted (all-laid t) = turns-counted t
-  turns-counted (served {r} {k} {b} {s} t h) =
-      let q = serve-rests k (oldest k (countIn S r) (s .workers) .who) s in omega (arith, turns-counted t, q .actions, q .idle)
+  turns-counted (served t h) = let q = served-rests t in omega (arith, turns-counted t, q .actions, q .idle)
   turns-counted (next-round {r} t) = (omega arith, omega (arith, turns-counted t))
 
   -- when every worker has had its turn in round r
@@ -96,7 +90,7 @@ module _ {S : Setting} (fit : Fit S) where
   pub requests-counted : {r : ℕ} {b : List Worker} {g : Stage} {s : State} → Trace S r b g s → Requested S g r (s .tally .requests)
   unfolding start counts
   requests-counted begins = omega arith
-  requests-counted (turned {r} {k} {b} {s} t h) = rw (turn-counts plan r k (getD b k Idle) s .0) (requests-counted t)
+  requests-counted (turned t h) = rw (turned-took t .requests) (requests-counted t)
   requests-counted (goes-on t e) = (omega arith, omega (arith, requests-counted t))
   requests-counted (laid {r} {k} {b} {s} t h) = (h, omega (arith, requests-counted t, lay-requests S r k (getD b k Idle) s))
   requests-counted (all-laid t) = omega (arith, requests-counted t)
@@ -127,7 +121,7 @@ module _ {S : Setting} (fit : Fit S) where
     lone-idle begins = refl
     lone-idle (turned {r} {k} {b} {s} t h) = rw (lone-holds t k h .1) (lone-idle t)
     lone-idle (goes-on t e) = lone-idle t
-    lone-idle (laid {r} {k} {b} {s} t h) = lay-rests S r k (getD b k Idle) s .idle ∙ lone-idle t
+    lone-idle (laid t h) = laid-rests t .idle ∙ lone-idle t
     lone-idle (all-laid t) = lone-idle t
-    lone-idle (served {r} {k} {b} {s} t h) = serve-rests k (oldest k (countIn S r) (s .workers) .who) s .idle ∙ lone-idle t
+    lone-idle (served t h) = served-rests t .idle ∙ lone-idle t
     lone-idle (next-round t) = lone-idle t

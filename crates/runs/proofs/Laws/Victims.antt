@@ -14,14 +14,14 @@ use Rattle.runs.specs.declared.worker.Worker.{Worker}
 use Rattle.runs.specs.declared.worker.Worker.the-variants.{Idle, Waiting}
 use Rattle.runs.specs.Setting.{Setting, countIn}
 use Rattle.runs.specs.State.{State, workerOf, start}
-use Rattle.runs.specs.Steal.{oldest, waits}
+use Rattle.runs.specs.Steal.{waits}
 use Rattle.runs.specs.Run.{choicesFit}
 use Rattle.plan.proofs.Laws.Lists.{both-left, both-right, all-at}
 use Rattle.runs.specs.Trace.{Stage, Trace, begins, turned, goes-on, laid, all-laid, served, next-round}
 use Rattle.runs.proofs.Laws.Fit.{Fit, count-is, count-next}
 use Rattle.runs.proofs.Laws.Tallies.{lone-holds}
 use Rattle.runs.proofs.Laws.Start.{start-calm}
-use Rattle.runs.proofs.Laws.Stores.{turn-workers, lay-workers, serve-workers}
+use Rattle.runs.proofs.Laws.Stores.{turned-workers, laid-workers, served-workers}
 use Rattle.runs.proofs.Laws.Began.{Unheld}
 use Rattle.runs.proofs.Laws.Rounds.{round-first}
 
@@ -64,15 +64,15 @@ module _ {S : Setting} (fit : Fit S) where
       → AllNamed (countIn S r) r (s .workers)
   named-all named begins = λ w. named-calm (countIn S 1) 1 (workerOf (start plan) w) (start-calm plan w)
   named-all named (turned {r} {k} {b} {s} t h) =
-      turn-workers (AllNamed (countIn S r) r) plan r k (getD b k Idle) s (named-all named t) (λ j y e. calm-named (s .workers) k y (named-all named t))
+      turned-workers (AllNamed (countIn S r) r) t (named-all named t) (λ j y e. calm-named (s .workers) k y (named-all named t))
   named-all named (goes-on t e) = named-all named t
   named-all named (laid {r} {k} {b} {s} t h) =
       let below = choice-below (S .workers) choices (fit .some) named (s .tally .requests % length choices) in
-      lay-workers (AllNamed (countIn S r) r) S r k (getD b k Idle) s (named-all named t)
+      laid-workers (AllNamed (countIn S r) r) t (named-all named t)
       (λ e. named-set (s .workers) k _ (named-laid (rw (count-is S r) below) (round-first fit t)) (named-all named t))
   named-all named (all-laid t) = named-all named t
   named-all named (served {r} {k} {b} {s} t h) =
-      serve-workers (AllNamed (countIn S r) r) k (oldest k (countIn S r) (s .workers) .who) s (λ z. named-all named t)
+      served-workers (AllNamed (countIn S r) r) t (λ z. named-all named t)
       (λ w y e. calm-named (s .workers) w y (named-all named t))
   named-all named (next-round {r} t) = λ w v l e. omega (arith, named-all named t w v l e, count-next S r)
 

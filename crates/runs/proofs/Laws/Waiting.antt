@@ -17,8 +17,8 @@ use Rattle.runs.proofs.Laws.Sound.{workers-length}
 use Rattle.runs.proofs.Laws.Start.{start-calm}
 use Rattle.runs.proofs.Laws.Least.{oldest-waits}
 use Rattle.runs.proofs.Laws.Waits.{waiting-none, waiting-kept, waiting-more, waiting-less}
-use Rattle.runs.proofs.Laws.Rests.{turn-counts}
-use Rattle.runs.proofs.Laws.Stores.{turn-workers}
+use Rattle.runs.proofs.Laws.Rests.{turned-took}
+use Rattle.runs.proofs.Laws.Stores.{turned-workers}
 
 -- the requests of a state, by what became of them
 abbrev pub Settled : ℕ → State → Type 0
@@ -32,9 +32,9 @@ module _ {S : Setting} (fit : Fit S) where
   unfolding lay laidBy serve given start
   requests-sum begins = omega (arith, waiting-none (countIn S 1) (start plan .workers) (start-calm plan))
   requests-sum (turned {r} {k} {b} {s} t h) =
-      let same = turn-workers (λ ws. waiting (countIn S r) ws ≡ waiting (countIn S r) (s .workers)) plan r k (getD b k Idle) s refl
+      let same = turned-workers (λ ws. waiting (countIn S r) ws ≡ waiting (countIn S r) (s .workers)) t refl
       (λ j y e c. waiting-kept (s .workers) k y (workers-length fit t k h) (countIn S r) (c ∙ ap waits (sym (trace-began t k (le-refl k) ∙ e)))) in
-      omega (arith, turn-counts plan r k (getD b k Idle) s, requests-sum t)
+      omega (arith, turned-took t, requests-sum t)
   requests-sum (goes-on t e) = requests-sum t
   requests-sum (laid {r} {k} {b} {s} t h) = go (getD b k Idle) refl (requests-sum t)
     where

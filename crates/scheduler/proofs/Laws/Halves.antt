@@ -25,7 +25,7 @@ use Rattle.runs.specs.Trace.{Stage, turning, laying, goes-on}
 use Rattle.scheduler.specs.Requests.{Pointed, Queued}
 use Rattle.scheduler.specs.Machine.{Planned, Progressed, Dequed, Manned, InRun, Machine}
 use Rattle.runs.proofs.Laws.Rounds.{rounds-known}
-use Rattle.runs.proofs.Laws.Rests.{lay-rests, serve-rests, turn-counts}
+use Rattle.runs.proofs.Laws.Rests.{lay-rests, serve-rests, turn-took}
 use Rattle.runs.proofs.Laws.Tallies.{serve-requests}
 use Rattle.runs.proofs.Laws.Whole.{round-last, round-on}
 use Rattle.scheduler.proofs.Laws.Running.{run-fit, run-sound, run-at, run-turns}
@@ -53,7 +53,7 @@ serves-still S r (suc k) s =
 pub turns-requests : (p : Plan) (r k : ℕ) (b : List Worker) (s : State) → turns p r k b s .tally .requests ≡ s .tally .requests
 unfolding turns
 turns-requests p r zero b s = refl
-turns-requests p r (suc k) b s = turn-counts p r k (getD b k Idle) (turns p r k b s) .0 ∙ turns-requests p r k b s
+turns-requests p r (suc k) b s = turn-took p r k (getD b k Idle) (turns p r k b s) .requests ∙ turns-requests p r k b s
 
 pub serves-requests : (S : Setting) (r k : ℕ) (s : State) → serves S r k s .tally .requests ≡ s .tally .requests
 unfolding serves

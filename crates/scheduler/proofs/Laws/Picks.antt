@@ -21,7 +21,7 @@ use Rattle.scheduler.specs.Requests.{Calm, Queued, Serving}
 use Rattle.runs.proofs.Laws.Least.{oldest-waits}
 use Rattle.runs.proofs.Laws.Began.{trace-began, laying-idle}
 use Rattle.runs.proofs.Laws.Start.{start-calm}
-use Rattle.runs.proofs.Laws.Stores.{victimOf, turn-workers, given-workers}
+use Rattle.runs.proofs.Laws.Stores.{victimOf, turned-workers, given-workers}
 use Rattle.scheduler.proofs.Laws.Running.{run-sound, run-turns}
 use Rattle.scheduler.proofs.Laws.Queues.{queue-first, queued-calm}
 
@@ -43,7 +43,7 @@ turns-queued {p} {n} {choices} {r} {b} {s} {hi} {after} {last} run (suc k) h q =
     let t = turns p r k b s in
     let here : InRun p n choices r b (turning k) t = run-turns run k (omega arith) in
     let rest = turns-queued run k (omega arith) q in
-    turn-workers (λ ws. Queued hi ws after last) p r k (getD b k Idle) t rest (λ j y e c.
+    turned-workers (λ ws. Queued hi ws after last) (here .trace) rest (λ j y e c.
     queued-calm rest (run-sound here .workers) k (omega (arith, run .most)) y
     (calm-held (workerOf t k) j (trace-began (here .trace) k (le-refl k) ∙ e)) (calm-waits y c))
 
