@@ -14,7 +14,6 @@ pub mod Rests
 pub mod Rounds
 pub mod Coursed
 pub mod Tallies
-pub mod Waits
 pub mod Waiting
 pub mod Victims
 pub mod Whole

@@ -33,10 +33,10 @@ module _ {p : Plan} {n : ℕ} {s : State} (sound : Sound p n s) where
   pub sound-chain : (w : ℕ) {j : ℕ} → workerOf s w ≡ Holding j → Chain (shape p) (j ∷ dequeOf s w)
   sound-chain w e = rw (line-of s w e) at (sound .good .chain w)
 
-  pub sound-empty : (w : ℕ) → Unheld (workerOf s w) → dequeOf s w ≡ []
+  sound-empty : (w : ℕ) → Unheld (workerOf s w) → dequeOf s w ≡ []
   sound-empty w none = ⊎-elim (λ (j, e). absurd (none j e)) (λ e. e) (held-or-empty sound w)
 
-  pub sound-height : Accepted p → (w : ℕ) → length (dequeOf s w) ≤ 255
+  sound-height : Accepted p → (w : ℕ) → length (dequeOf s w) ≤ 255
   sound-height ok w = ⊎-elim (λ (j, e). held j e) (λ e. rw e (omega arith)) (held-or-empty sound w)
     where
       held : (j : ℕ) → workerOf s w ≡ Holding j → length (dequeOf s w) ≤ 255

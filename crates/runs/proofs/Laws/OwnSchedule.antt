@@ -39,7 +39,7 @@ module _ {S : Setting} (fit : Fit S) {r : ℕ} {b : List Worker} {s : State}
       rw (← long) (schedule-read (S .workers) (s .rows) (fit .some) (fit .most) (omega (arith, total-range plan (fit .plan))) small)
 
   -- and the checker finds no rule broken
-  pub run-ruled : ruled plan (readSchedule (scheduleBytes (S .workers) (s .rows)) (total plan)) ≡ accepted 0
+  run-ruled : ruled plan (readSchedule (scheduleBytes (S .workers) (s .rows)) (total plan)) ≡ accepted 0
   unfolding ruled
   run-ruled = ap (ruled plan) run-schedule ∙ unbroken (keeps plan (S .workers) (s .rows)) (run-keeps fit t e)
 

@@ -22,7 +22,7 @@ use Rattle.runs.proofs.Laws.Lined.{lineIn, lineOf, Sound, line-of, held
 use Rattle.runs.proofs.Laws.Stores.{victimOf}
 
 -- the state with other workers
-abbrev pub withWorkers : State → List Worker → Tally → State
+abbrev withWorkers : State → List Worker → Tally → State
 withWorkers s ws t = record { next = s .next; workers = ws; deques = s .deques; rows = s .rows; tally = t }
 
 -- a worker that holds nothing may change to another that holds nothing

@@ -91,9 +91,5 @@ module _ {S : Setting} (fit : Fit S) where
   trace-sound (all-laid t) = trace-sound t
   trace-sound (served {r} {k} {b} {s} t l) =
       serve-sound (fit .plan) (count-most fit r) (trace-sound t) l (oldest k (countIn S r) (s .workers) .who)
-      (oldest-waits k (countIn S r) (s .workers) (count-most fit r))
+      (λ w. oldest-waits k (countIn S r) (s .workers) (count-most fit r))
   trace-sound (next-round {r} t) = rw (count-next S r) (trace-sound t)
-
-  -- each worker that there is has its place
-  pub workers-length : {r : ℕ} {b : List Worker} {g : Stage} {s : State} → Trace S r b g s → (k : ℕ) → k < countIn S r → k < length (s .workers)
-  workers-length {r} t k h = omega (arith, trace-sound t .workers, count-most fit r)

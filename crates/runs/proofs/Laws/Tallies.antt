@@ -35,13 +35,13 @@ counts-same S zero = omega (arith, mul-zero (S .workers))
 counts-same S (suc r) = omega (arith, counts-same S r, count-is S (suc r), mul-suc (S .workers) r)
 
 -- the turns of the rounds before, and of the workers below k in this one
-abbrev pub Turned : Setting → Stage → ℕ → Tally → Type 0
+abbrev Turned : Setting → Stage → ℕ → Tally → Type 0
 Turned S (turning k) r t = (k ≤ countIn S r) × (counts S r + k ≡ countIn S r + (t .actions + t .idle))
 Turned S (laying k) r t = counts S r ≡ t .actions + t .idle
 Turned S (serving k) r t = counts S r ≡ t .actions + t .idle
 
 -- no more requests than turns in the rounds before, and in this one of the workers below k
-abbrev pub Requested : Setting → Stage → ℕ → ℕ → Type 0
+abbrev Requested : Setting → Stage → ℕ → ℕ → Type 0
 Requested S (turning k) r q = q + countIn S r ≤ counts S r
 Requested S (laying k) r q = (k ≤ countIn S r) × (q + countIn S r ≤ counts S r + k)
 Requested S (serving k) r q = q ≤ counts S r
@@ -55,7 +55,7 @@ serve-requests v (suc w) s = go (dequeOf s v)
     go [] = refl
     go (x ∷ d) = refl
 
-pub lay-requests : (S : Setting) (r w : ℕ) (x : Worker) (s : State) → lay S r w x s .tally .requests ≤ suc (s .tally .requests)
+lay-requests : (S : Setting) (r w : ℕ) (x : Worker) (s : State) → lay S r w x s .tally .requests ≤ suc (s .tally .requests)
 unfolding lay laidBy
 lay-requests S r w Idle s = omega arith
 lay-requests S r w (Holding j) s = omega arith
@@ -64,7 +64,7 @@ lay-requests S r w (Waiting v l) s = omega arith
 module _ {S : Setting} (fit : Fit S) where
   open Setting S using (plan)
 
-  pub turns-counted : {r : ℕ} {b : List Worker} {g : Stage} {s : State} → Trace S r b g s → Turned S g r (s .tally)
+  turns-counted : {r : ℕ} {b : List Worker} {g : Stage} {s : State} → Trace S r b g s → Turned S g r (s .tally)
   unfolding start counts
   turns-counted begins = (omega arith, omega arith)
   turns-counted (turned t h) = (h, omega (arith, turns-counted t, turned-took t .turns))
@@ -87,7 +87,7 @@ module _ {S : Setting} (fit : Fit S) where
       go (laying k) t i = omega arith
       go (serving k) t i = omega arith
 
-  pub requests-counted : {r : ℕ} {b : List Worker} {g : Stage} {s : State} → Trace S r b g s → Requested S g r (s .tally .requests)
+  requests-counted : {r : ℕ} {b : List Worker} {g : Stage} {s : State} → Trace S r b g s → Requested S g r (s .tally .requests)
   unfolding start counts
   requests-counted begins = omega arith
   requests-counted (turned t h) = rw (turned-took t .requests) (requests-counted t)

@@ -73,7 +73,7 @@ module _ (p : Plan) (after : List ℕ) (j i : ℕ) (d : List ℕ) where
       go true = refl
       go false = refl
 
-  pub seat-empty : lineAt (seatAfter p after j i d) ≡ [] → seatAfter p after j i d .deque ≡ []
+  seat-empty : lineAt (seatAfter p after j i d) ≡ [] → seatAfter p after j i d .deque ≡ []
   seat-empty = go (action p j i .spawn) refl
     where
       go : (x : ℕ) → action p j i .spawn ≡ x → lineAt (seatAfter p after j i d) ≡ [] → seatAfter p after j i d .deque ≡ []
@@ -160,7 +160,7 @@ module _ {p : Plan} (ok : Accepted p) {n : ℕ} {s : State} (sound : Sound p n s
       both-intro (ltb (suc (nextOf s j)) (size p j)) _ (lt→ltb (suc (nextOf s j)) (size p j) (rw acted at (g .left)))
       (ready-by p (afterOf s j) ok j (g .ready) (λ z. absurd (omega (arith, acted))))
 
-  pub seat-line : lineAt (seatOf p s w j) ≡ turnLine (shape p) (nextOf s) next′ j (dequeOf s w)
+  seat-line : lineAt (seatOf p s w j) ≡ turnLine (shape p) (nextOf s) next′ j (dequeOf s w)
   seat-line = go (action p j (nextOf s j) .spawn) refl
     where
       up : List ℕ

@@ -52,7 +52,7 @@ calm-named : {n r : ℕ} (ws : List Worker) (k : ℕ) (x : Worker) → AllNamed 
 calm-named {n} {r} ws k x i c = named-set ws k x (named-calm n r x c) i
 
 -- each choice is a worker that there is
-pub choice-below : (n : ℕ) (choices : List ℕ) → 1 ≤ n → T (all (λ c. ltb c n) choices) → (i : ℕ) → getD choices i 0 < n
+choice-below : (n : ℕ) (choices : List ℕ) → 1 ≤ n → T (all (λ c. ltb c n) choices) → (i : ℕ) → getD choices i 0 < n
 choice-below n choices some t i =
     by-cases (decLt i (length choices)) (λ h. ltb→lt (getD choices i 0) n (all-at (λ c. ltb c n) choices t 0 i h))
     (λ f. rw (List·getD-eq-default choices 0 {n = i} (omega arith)) some)
@@ -83,7 +83,7 @@ module _ {S : Setting} (fit : Fit S) where
   victim-below chosen = named-all (both-left (all (λ c. ltb c (S .workers)) choices) _ chosen)
 
   -- a worker that held nothing as a round began is not alone
-  pub unheld-more : {r : ℕ} {b : List Worker} {g : Stage} {s : State} → Trace S r b g s → (w : ℕ) → w < countIn S r → Unheld (getD b w Idle) → 2 ≤ S .workers
+  unheld-more : {r : ℕ} {b : List Worker} {g : Stage} {s : State} → Trace S r b g s → (w : ℕ) → w < countIn S r → Unheld (getD b w Idle) → 2 ≤ S .workers
   unheld-more t w h u =
       lt-of-not-le (λ (f : S .workers ≤ 1). let (j, e) = lone-holds fit (omega arith) t w h in u j e)
 

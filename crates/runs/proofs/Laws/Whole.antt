@@ -100,7 +100,7 @@ module _ {S : Setting} (fit : Fit S) where
       )
 
   -- fuel for the rounds that are left of T1 is enough
-  pub rounds-finish : (k r : ℕ) (s : State) → Trace S r (s .workers) (turning 0) s → work plan < k + r → Finished S (rounds k S s)
+  rounds-finish : (k r : ℕ) (s : State) → Trace S r (s .workers) (turning 0) s → work plan < k + r → Finished S (rounds k S s)
   rounds-finish zero r s t h = absurd (omega (arith, round-most fit t))
   rounds-finish (suc k) r s t h = rw (rounds-on S k s (not-ended fit t)) (go (ended plan half) refl (rounds-finish k))
     where

@@ -75,7 +75,7 @@ serve-queued {hi} {after} {last} v w s q =
 pub served-below : {p : Plan} {n : ℕ} {choices : List ℕ} {r : ℕ} {b : List Worker} {s : State} {v w : ℕ} {c : Account} {seats slots top len : List ℕ}
     → Serving p n choices r b s v (suc w) c seats slots top len → w < 16
 served-below {n = n} {s = s} {v = v} {w = w} g =
-    omega (arith, g .run .most, oldest-waits v n (s .workers) (g .run .most) w (sym (g .picked)) .0)
+    omega (arith, g .run .most, oldest-waits v n (s .workers) (g .run .most) (sym (g .picked)) .0)
 
 -- the lines as a run begins
 abbrev pub firstEnds : List ℕ
