@@ -1,4 +1,7 @@
 -- An accepted plan is run, or turned down for its worker count or its choices.
+--   Stopped p n cs == it is turned down, for a cause
+--   Went p n cs    == it is run, and there are 1 to 16 workers
+--   outcome        == one of the two
 use Prim.Native.Nat.{ℕ, _≤_}
 use mathlib.Core.Path.{_≡_, refl}
 use mathlib.Core.Logic.{_⊎_, inl, inr}

@@ -1,7 +1,9 @@
 -- A state of a run against the workers as its round began.
 --   round-began == each state of a round comes from one as the round began, which has these workers
 --   Unheld x    == the worker x holds no job
---   began-kept  == a worker that has not had its turn is as the round began; one that held nothing then is so until it may lay a request
+--   Kept g b s  == at stage g a worker that has not had its turn is as the round began; one that held nothing then is so until it
+--                  may lay a request
+--   began-kept  == that holds of every state of a run; of it `trace-began` and `laying-idle` are the halves
 use Prim.Native.Nat.{ℕ, _≤_, _<_}
 use mathlib.Core.Path.{_≡_, refl, ap, _∙_}
 use mathlib.Core.List.{List}
@@ -27,7 +29,8 @@ Kept (laying k) b s = (w : ℕ) → k ≤ w → Unheld (getD b w Idle) → worke
 Kept (serving k) b s = Unit {0}
 
 module _ {S : Setting} where
-  pub round-began : {r : ℕ} {b : List Worker} {g : Stage} {s : State} → Trace S r b g s → (u : State) × Trace S r b (turning 0) u × (b ≡ u .workers)
+  pub round-began : {r : ℕ} {b : List Worker} {g : Stage} {s : State} → Trace S r b g s
+      → (u : State) × Trace S r b (turning 0) u × (b ≡ u .workers)
   round-began begins = (start (S .plan), begins, refl)
   round-began (turned t h) = round-began t
   round-began (goes-on t e) = round-began t

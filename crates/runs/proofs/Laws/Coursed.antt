@@ -1,8 +1,10 @@
 -- A run is a course of turns, so that all that holds of courses holds of its rows and its peak.
---   core s      == the state as a course has it
---   handsOf b   == which job each worker has in a round that begins with the workers b
---   terms S     == what the course of a run is of
+--   core s       == the state as a course has it
+--   handsOf b    == which job each worker has in a round that begins with the workers b: its number plus 1, or 0
+--   terms S      == what the course of a run is of
 --   passed S r g == how many workers have had their turns at stage g of round r
+--   trace-course == every state of a run is one of a course
+--   run-row, run-keeps, least-rounds, last-round, run-space, run-peak, lone-peak == so of the end of a run: its rows, rounds and peak
 use Prim.Native.Nat.{ℕ, suc, _*_, _≤_, _<_}
 use mathlib.Core.Path.{_≡_, refl, ap, sym, _∙_}
 use mathlib.Core.Logic.{inl}
@@ -86,7 +88,13 @@ module _ {S : Setting} (fit : Fit S) where
   open Setting S using (plan)
 
   start-begins : Begins plan (core (start plan))
-  start-begins = record { none = none-done plan; fresh = λ j. refl; long = start-sound (fit .plan) (count-some fit 1) .rows; turns = start-turns plan; peak = start-peak plan }
+  start-begins = record {
+    none = none-done plan;
+    fresh = λ j. refl;
+    long = start-sound (fit .plan) (count-some fit 1) .rows;
+    turns = start-turns plan;
+    peak = start-peak plan;
+  }
 
   start-light : weight plan (start plan .next) ≤ countIn S 0 * heaviest plan
   start-light = space (fit .plan) (start-sound (fit .plan) (count-some fit 0))
@@ -116,7 +124,8 @@ module _ {S : Setting} (fit : Fit S) where
   all-turns = price-work (terms S) (λ x. refl)
 
   turned-course : {r k : ℕ} {b : List Worker} {s : State} → Trace S r b (turning k) s → (v : Worker) → getD b k Idle ≡ v
-      → Sound plan (countIn S r) (turnOf plan r k v s) → Course (terms S) r 0 k (handsOf b) (core s) → Course (terms S) r 0 (suc k) (handsOf b) (core (turnOf plan r k v s))
+      → Sound plan (countIn S r) (turnOf plan r k v s) → Course (terms S) r 0 k (handsOf b) (core s)
+      → Course (terms S) r 0 (suc k) (handsOf b) (core (turnOf plan r k v s))
   unfolding turnOf idled
   turned-course t Idle e sound c = Course.rests c (ap handsIn e)
   turned-course t (Waiting v l) e sound c = Course.rests c (ap handsIn e)
@@ -192,4 +201,9 @@ module _ {S : Setting} (fit : Fit S) where
     pub lone-peak : S .workers ≡ 1 → s .tally .peak ≡ heaviest plan
     lone-peak q =
         let z : S .workers * heaviest plan ≡ heaviest plan = rw q (omega arith) in
-        omega (arith, peak-least (terms S) (fit .plan) grows (trace-course t) over, peak-most (terms S) (fit .plan) grows (trace-course t) over (S .workers * heaviest plan) within)
+        let c = trace-course t in
+        omega (
+          arith,
+          peak-least (terms S) (fit .plan) grows c over,
+          peak-most (terms S) (fit .plan) grows c over (S .workers * heaviest plan) within,
+        )

@@ -1,4 +1,7 @@
 -- Demand 3, whole: the claim of specs/Claim.antt about every run, and about the schedule that it writes.
+--   run-bounds  == the bounds hold of the rows and the tally of a run
+--   run-bounded == and of the rows that are read off its schedule, whatever follows this
+--   demand3     == so of all that is accepted
 use Prim.Native.Nat.{ℕ, _+_, _*_, _≤_}
 use mathlib.Core.Path.{_≡_, sym, ap, _∙_}
 use mathlib.Core.List.{List, _++_}
@@ -37,7 +40,6 @@ run-bounds fit =
       rounds = q ∙ sym (last-round fit t e);
     }
 
--- of bytes that begin with a run's schedule
 pub run-bounded : {S : Setting} → Fit S → (rest : List ℕ)
     → Bounded (S .plan) (S .workers) (scheduleBytes (S .workers) (run S .rows) ++ rest) (run S .tally)
 run-bounded {S} fit rest =

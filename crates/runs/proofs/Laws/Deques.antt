@@ -1,5 +1,8 @@
 -- The deques of every state of a run: with the job that is held below it, a deque is a chain of jobs, each the child of the one
 -- above it, so that it has room in 255 places; a worker that holds nothing has none.
+--   deque-chain  == the held job and the deque from the bottom up: each job is the child of the next
+--   deque-empty  == who holds nothing has an empty deque
+--   deque-height == at most 255 jobs
 use Prim.Native.Nat.{ℕ, _≤_, _<_}
 use mathlib.Core.Path.{_≡_, refl}
 use mathlib.Core.Logic.{inl, inr, ⊎-elim}
@@ -48,7 +51,6 @@ module _ {p : Plan} {n : ℕ} {s : State} (sound : Sound p n s) where
 
 module _ {S : Setting} (fit : Fit S) {r : ℕ} {b : List Worker} {g : Stage} {s : State}
     (t : Trace S r b g s) where
-  -- the held job is lowest, and each job on the deque, from the bottom up, is the parent of the one below it
   pub deque-chain : (w : ℕ) {j : ℕ} → workerOf s w ≡ Holding j → Chain (shape (S .plan)) (j ∷ dequeOf s w)
   deque-chain = sound-chain (trace-sound fit t)
 

@@ -1,6 +1,9 @@
 -- The request that a victim serves is the one of least rank.
---   rank l w         == orders requests as a victim does: by the round l, then by the worker w, which is below 16
---   Best v k ws q m  == of the workers below k, q is what `oldest` picks for v, laid in round m
+--   rank l w        == orders requests as a victim does: by the round l, then by the worker w, which is below 16
+--   Best v k ws q m == of the workers below k none waits on v and q is 0, or q is 1 plus the one whose request on v, laid in round m,
+--                      has the least rank
+--   oldest-best     == `oldest` picks the best
+--   oldest-waits    == so the worker whose request a victim serves waits on it
 use Prim.Native.Nat.{ℕ, zero, suc, _+_, _*_, _≤_, _<_}
 use mathlib.Core.Path.{_≡_, refl, sym, ap, _∙_}
 use mathlib.Core.Logic.{_≢_, by-cases}
@@ -74,7 +77,6 @@ oldest-best v (suc k) ws h = go (getD ws k Idle) refl (oldest v k ws .who) (olde
         picked true f (suc x) m i true g = rw (older, f, g) (fresh (cc (eqb-true y v f)) (earlier i (ltb-true l m g)))
         picked true f (suc x) m i false g = rw (older, f, g) (stays (cc (eqb-true y v f)) i (ltb-false l m g))
 
--- the worker whose request a victim serves waits on it
 pub oldest-waits : (v k : ℕ) (ws : List Worker) → k ≤ 16 → {w : ℕ} → oldest v k ws .who ≡ suc w
     → (w < k) × (l : ℕ) × (getD ws w Idle ≡ Waiting v l)
 oldest-waits v k ws few {w} e =

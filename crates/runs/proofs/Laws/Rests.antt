@@ -1,8 +1,8 @@
 -- What a turn does to the counts, and what a request and a service leave as it was: all that a schedule and the counts of turns rest on.
---   Took r s t                 == t has one turn more than s, of round r, and the requests, steals and misses of s
---   Rests s t                  == t has the actions, the rows and the counts of turns of s
---   turned-took                == a turn of a run takes one turn
---   laid-rests, served-rests   == a request and a service of a run leave the rest
+--   Took r s t               == t has one turn more than s, of round r, and the requests, steals and misses of s
+--   Rests s t                == t has the actions, the rows and the counts of turns of s
+--   turned-took              == `Took` of a turn of a run
+--   laid-rests, served-rests == `Rests` of a request and of a service
 use Prim.Native.Nat.{ℕ, zero, suc, _+_}
 use mathlib.Core.Path.{_≡_, refl}
 use mathlib.Core.List.{List, [], _∷_}

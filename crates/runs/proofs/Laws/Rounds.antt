@@ -1,4 +1,8 @@
 -- The rounds of a run: how they are counted, and that each begins with a worker that holds a job.
+--   Numbered g r t == at stage g of round r the tally has t rounds: a round counts from its first turn on
+--   Going p g s    == job 0 has not ended, but in the first half of a round it may have
+--   rounds-known, not-ended   == both hold of every state of a run
+--   began-busy, began-below   == as a round begins some worker holds a job, and who does is one of those that there are
 use Prim.Native.Nat.{ℕ, zero, suc, _≤_, _<_}
 use mathlib.Core.Path.{_≡_, refl, ap, _∙_}
 use mathlib.Core.Bool.{false}
@@ -23,7 +27,6 @@ use Rattle.runs.proofs.Laws.Sound.{trace-sound, busy}
 use Rattle.runs.proofs.Laws.Rests.{Rests, turned-took, laid-rests, served-rests}
 use Rattle.runs.proofs.Laws.Start.{none-done}
 
--- what the tally says of the rounds in round r: a round counts from its first turn on
 abbrev pub Numbered : Stage → ℕ → ℕ → Type 0
 Numbered (turning zero) r t = suc t ≡ r
 Numbered (turning (suc k)) r t = t ≡ r
@@ -40,7 +43,6 @@ numbered-most (turning (suc k)) i = omega arith
 numbered-most (laying k) i = omega arith
 numbered-most (serving k) i = omega arith
 
--- job 0 has not ended but in the first half of a round
 abbrev pub Going : Plan → Stage → State → Type 0
 Going p (turning zero) s = ended p s ≡ false
 Going p (turning (suc k)) s = Unit {0}
@@ -53,7 +55,6 @@ ended-rests p q i = ap (λ l. leb (size p 0) (getD l 0 0)) (q .next) ∙ i
 module _ {S : Setting} (fit : Fit S) where
   open Setting S using (plan)
 
-  -- the tally counts the rounds
   pub rounds-known : {r : ℕ} {b : List Worker} {g : Stage} {s : State} → Trace S r b g s → Numbered g r (s .tally .rounds)
   unfolding start
   rounds-known begins = refl
@@ -64,7 +65,6 @@ module _ {S : Setting} (fit : Fit S) where
   rounds-known (served t h) = served-rests t .rounds ∙ rounds-known t
   rounds-known (next-round t) = ap suc (rounds-known t)
 
-  -- a run goes on from round to round only while job 0 has not ended
   pub not-ended : {r : ℕ} {b : List Worker} {g : Stage} {s : State} → Trace S r b g s → Going plan g s
   not-ended begins =
       let z = none-done plan 0 in
@@ -76,12 +76,10 @@ module _ {S : Setting} (fit : Fit S) where
   not-ended (served t h) = ended-rests plan (served-rests t) (not-ended t)
   not-ended (next-round t) = not-ended t
 
-  -- as each round begins some worker holds a job
   pub began-busy : {r : ℕ} {b : List Worker} {g : Stage} {s : State} → Trace S r b g s
       → (w : ℕ) × (j : ℕ) × (w < countIn S r) × (getD b w Idle ≡ Holding j)
   began-busy {r} t = let (u, v, e) = round-began t in rw e (busy (fit .plan) (trace-sound fit v) (not-ended v))
 
-  -- and each that does is one of those that there are
   pub began-below : {r : ℕ} {b : List Worker} {g : Stage} {s : State} → Trace S r b g s
       → (w j : ℕ) → getD b w Idle ≡ Holding j → w < countIn S r
   began-below {r} t = let (u, v, e) = round-began t in rw e (λ w j. held-below (trace-sound fit v) w)

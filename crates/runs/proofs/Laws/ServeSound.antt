@@ -1,4 +1,6 @@
 -- A request and a service keep a state sound: a request and a miss change no line, and a steal is a theft.
+--   lay-sound   == of the request of a worker that is idle
+--   serve-sound == of the service of a worker that waits on the victim
 use Prim.Native.Nat.{ℕ, zero, suc, _≤_, _<_}
 use mathlib.Core.Path.{_≡_, refl, ap, ap₂, sym, subst, fun-ext, _∙_}
 use mathlib.Core.Logic.{_≢_, by-cases, ⊎-elim}
@@ -42,7 +44,10 @@ free-sound {p} {n} most {s} sound {w} b free k is t =
     same : (v : ℕ) → lineOf (withWorkers s (set (s .workers) w k) t) v ≡ lineOf s v
     same v =
         by-cases (ℕ-discrete v w)
-        (λ q. rw q (ap (λ x. lineIn x (dequeOf s w)) (getD-set-same (s .workers) w k Idle (omega (arith, sound .workers))) ∙ is (dequeOf s w) ∙ sym free))
+        (λ q. rw q (
+        ap (λ x. lineIn x (dequeOf s w)) (getD-set-same (s .workers) w k Idle (omega (arith, sound .workers)))
+        ∙ is (dequeOf s w) ∙ sym free
+        ))
         (λ f. ap (λ x. lineIn x (dequeOf s v)) (getD-set-other (s .workers) w v k Idle f))
 
 pub lay-sound : {p : Plan} {n : ℕ} → n ≤ 16 → {s : State} → Sound p n s → (S : Setting) (r : ℕ) {w : ℕ} → w < n → (k : Worker)
@@ -126,7 +131,6 @@ module _ {p : Plan} (ok : Accepted p) {n : ℕ} (most : n ≤ 16) {s : State} (s
     given-sound [] q = free-sound most sound c idle Idle (λ d. refl) (given v w [] s .tally)
     given-sound (x ∷ d) q = let (j, h) = victim-holds q in steal-sound q h
 
-  -- whoever is served, if it waits on the victim
   pub serve-sound : (who : ℕ) → ((w : ℕ) → who ≡ suc w → (w < n) × (l : ℕ) × (workerOf s w ≡ Waiting v l)) → Sound p n (serve v who s)
   unfolding serve
   serve-sound zero waits = sound

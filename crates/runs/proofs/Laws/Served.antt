@@ -3,6 +3,10 @@
 -- one request fewer comes before one that waits, and when it was laid at most n - 1 did.
 --   ahead v a u x    == 1 where the worker u, which is x, waits on v with a request of a rank below a, 0 where it does not
 --   before n v a ws  == how many of the workers below n do
+--   Within v a xs ws == each request on v of a rank below a in xs is in ws too
+--   Roster n ws      == of the workers ws those below n are there: at most sixteen, each with its place, and who waits is one of them
+--   AllDue n r g ws  == at stage g of round r each request in ws can be served in time
+--   waits-served     == it is
 use Prim.Native.Nat.{ℕ, suc, _+_, _≤_, _<_, zero-le}
 use mathlib.Core.Path.{_≡_, refl, sym, ap, _∙_}
 use mathlib.Core.Logic.{_≢_, by-cases}
@@ -53,7 +57,6 @@ ahead-most v a u (Waiting y m) {b} f = go (ℕ-discrete y v) (decLt (rank m u) a
 abbrev before : ℕ → ℕ → ℕ → List Worker → ℕ
 before n v a ws = sum n (λ u. ahead v a u (getD ws u Idle))
 
--- each request on v of a rank below a in xs is in ws too
 record Within (v a : ℕ) (xs ws : List Worker) : Type 0 where
   stays : (u m : ℕ) → getD xs u Idle ≡ Waiting v m → rank m u < a → getD ws u Idle ≡ Waiting v m
 
@@ -90,7 +93,6 @@ Due n r (serving k) v l c = (c + r < l + n) × (v < k → c + r + 1 < l + n)
 abbrev AllDue : ℕ → ℕ → Stage → List Worker → Type 0
 AllDue n r g ws = (w v l : ℕ) → getD ws w Idle ≡ Waiting v l → Due n r g v l (before n v (rank l w) ws)
 
--- of the workers ws those below n are there: at most sixteen, each with its place, and who waits is one of them
 record Roster (n : ℕ) (ws : List Worker) : Type 0 where
   few : n ≤ 16
   placed : n ≤ length ws
@@ -195,9 +197,10 @@ module _ {S : Setting} (fit : Fit S) (chosen : T (choicesFit (S .workers) (S .ch
       (λ x y e. served-due (roster t) r (all-due t) (rw e at best) y)
   all-due (next-round {r} t) = rw (count-next S r) λ w v l e. omega (arith, all-due t w v l e .1 (victim-below fit chosen t w v l e .0))
 
-  -- a request that still waits when round r is over was laid in a round l with r < l + (n - 1): it is served in round l + countIn S r - 1 at the latest
-  pub waits-served : {r : ℕ} {b : List Worker} {s : State} → Trace S r b (serving (countIn S r)) s → (w v l : ℕ) → workerOf s w ≡ Waiting v l
-      → (l ≤ r) × (r + 2 ≤ l + countIn S r)
+  -- a request that still waits when round r is over was laid in a round l with r < l + (n - 1): it is served in round l + n - 1 at
+  -- the latest
+  pub waits-served : {r : ℕ} {b : List Worker} {s : State} → Trace S r b (serving (countIn S r)) s
+      → (w v l : ℕ) → workerOf s w ≡ Waiting v l → (l ≤ r) × (r + 2 ≤ l + countIn S r)
   waits-served t w v l e =
       let (below, first, round) = victim-below fit chosen t w v l e in
       (round, omega (arith, all-due t w v l e .1 below))

@@ -1,4 +1,8 @@
--- What holds of every state of a run: its lines are good, and a worker that holds nothing has an empty deque.
+-- Every state of a run is sound, and what follows for a sound state.
+--   trace-sound == every state of a run is sound
+--   space       == the living frames weigh at most the number of workers times the heaviest path
+--   busy        == until job 0 has ended some worker holds a job
+--   all-done    == when job 0 has ended every action is done
 use Prim.Native.Nat.{ℕ, _*_, _≤_, _<_}
 use mathlib.Core.Path.{_≡_, refl}
 use mathlib.Core.Bool.{true, false}
@@ -56,13 +60,11 @@ module _ {p : Plan} (ok : Accepted p) {n : ℕ} where
     leaves : Leaves (shape p) (nextOf s) (lineOf s)
     leaves = good-leaves (shape p) (shape-valid p ok) (nextOf s) (lineOf s) (sound .good)
 
-    -- the living frames weigh at most the number of workers times the heaviest path
     pub space : weight p (s .next) ≤ n * heaviest p
     space =
         le-trans (leaves-space p ok (s .next) (lineOf s) leaves n (λ w h. line-of s w (sound .absent w h)))
         (mul-le-mul (filled-most n (lineOf s)) (le-refl (heaviest p)))
 
-    -- until job 0 has ended some worker holds a job
     pub busy : ended p s ≡ false → (w : ℕ) × (j : ℕ) × (w < n) × (workerOf s w ≡ Holding j)
     busy e =
         let root : Living (shape p) (nextOf s) 0 = record {
@@ -74,13 +76,11 @@ module _ {p : Plan} (ok : Accepted p) {n : ℕ} where
         let q = line-held (workerOf s w) (dequeOf s w) i .0 in
         (w, h, held-below sound w q, q)
 
-    -- when job 0 has ended every action is done
     pub all-done : ended p s ≡ true → (j : ℕ) → j < length p → nextOf s j ≡ size p j
     all-done e =
         Progress.all-done (shape p) (shape-valid p ok) (nextOf s) (sound .good .closed) (leb→le (size p 0) (nextOf s 0) (rw e tt))
 
 module _ {S : Setting} (fit : Fit S) where
-  -- the state of every stage of a run is sound
   pub trace-sound : {r : ℕ} {b : List Worker} {g : Stage} {s : State} → Trace S r b g s → Sound (S .plan) (countIn S r) s
   trace-sound begins = start-sound (fit .plan) (count-some fit 1)
   trace-sound (turned {r} {k} {b} {s} t l) =

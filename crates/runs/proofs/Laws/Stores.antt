@@ -1,10 +1,12 @@
 -- What a turn, a request and a service store of the workers: at most one of them changes. After its turn, or once it is served, a
 -- worker does not wait; with its request it waits on the victim that the choices name.
 --   victimOf S s   == the victim of the next request
---   turned-workers == what holds of the workers, and if worker k held a job also with one that does not wait in its place, holds after its turn
---   laid-workers   == what holds of the workers, and if worker k was idle also with one that waits in its place, holds after its request
---   served-workers == what holds of the workers if none is served, and with one that does not wait in the place of the one that is,
---                     holds after the service
+--   turned-workers == what holds of the workers, and of those with one that does not wait in place of a worker k that held a job as
+--                     the round began, holds after k's turn
+--   laid-workers   == what holds of the workers, and of those with one that waits in place of a worker k that was idle as the round
+--                     began, holds after k's request
+--   served-workers == what holds of the workers if none is served, and of those with one that does not wait in place of the one that
+--                     is, holds after the service
 use Prim.Native.Nat.{ℕ, zero, suc, _%_}
 use mathlib.Core.Path.{_≡_, refl}
 use mathlib.Core.Bool.{Bool, true, false}

@@ -1,5 +1,8 @@
 -- The counts of turns and requests in every state of a run: each worker has one turn in a round, and lays at most one request.
---   counts S r == how many turns the rounds up to round r have
+--   counts S r      == how many turns the rounds up to round r have
+--   turns-sum       == when every worker has had its turn in round r, the tally has as many
+--   turns-most, requests-most == before that no more turns, and never more requests
+--   lone-holds, lone-idle     == a worker that is alone holds a job as each round begins, so it never idles
 use Prim.Native.Nat.{ℕ, zero, suc, _+_, _*_, _≤_, _<_}
 use mathlib.Core.Path.{_≡_, refl, ap, _∙_}
 use mathlib.Core.List.{List, [], _∷_}
@@ -18,7 +21,6 @@ use Rattle.runs.proofs.Laws.Fit.{Fit, count-most, count-within, count-i
 use Rattle.runs.proofs.Laws.Rests.{turned-took, laid-rests, served-rests}
 use Rattle.runs.proofs.Laws.Rounds.{began-busy}
 
--- how many turns the rounds up to round r have
 unfoldable pub counts : Setting → ℕ → ℕ
 counts S zero = 0
 counts S (suc r) = counts S r + countIn S (suc r)
@@ -74,11 +76,10 @@ module _ {S : Setting} (fit : Fit S) where
   turns-counted (served t h) = let q = served-rests t in omega (arith, turns-counted t, q .actions, q .idle)
   turns-counted (next-round {r} t) = (omega arith, omega (arith, turns-counted t))
 
-  -- when every worker has had its turn in round r
-  pub turns-sum : {r : ℕ} {b : List Worker} {s : State} → Trace S r b (turning (countIn S r)) s → counts S r ≡ s .tally .actions + s .tally .idle
+  pub turns-sum : {r : ℕ} {b : List Worker} {s : State} → Trace S r b (turning (countIn S r)) s
+      → counts S r ≡ s .tally .actions + s .tally .idle
   turns-sum t = omega (arith, turns-counted t)
 
-  -- no more turns than workers in the rounds up to the present one
   pub turns-most : {r : ℕ} {b : List Worker} {g : Stage} {s : State} → Trace S r b g s → s .tally .actions + s .tally .idle ≤ counts S r
   turns-most {r} {g = g} {s} t = go g (s .tally) (turns-counted t)
     where
@@ -97,7 +98,6 @@ module _ {S : Setting} (fit : Fit S) where
   requests-counted (served {r} {k} {b} {s} t h) = rw (serve-requests k (oldest k (countIn S r) (s .workers) .who) s) (requests-counted t)
   requests-counted (next-round {r} t) = omega (arith, requests-counted t)
 
-  -- no more requests than turns up to the present round
   pub requests-most : {r : ℕ} {b : List Worker} {g : Stage} {s : State} → Trace S r b g s → s .tally .requests ≤ counts S r
   requests-most {r} {g = g} {s} t = go g (s .tally .requests) (requests-counted t)
     where
@@ -107,7 +107,6 @@ module _ {S : Setting} (fit : Fit S) where
       go (serving k) q i = i
 
   module _ (lone : S .workers ≡ 1) where
-    -- a worker that is alone holds a job as each round begins
     pub lone-holds : {r : ℕ} {b : List Worker} {g : Stage} {s : State} → Trace S r b g s → (k : ℕ) → k < countIn S r
         → (j : ℕ) × (getD b k Idle ≡ Holding j)
     lone-holds {r} {b} t k h =
@@ -115,7 +114,6 @@ module _ {S : Setting} (fit : Fit S) where
         let e : k ≡ w = omega (arith, count-within S r) in
         (j, ap (λ v. getD b v Idle) e ∙ f)
 
-    -- so it never idles
     pub lone-idle : {r : ℕ} {b : List Worker} {g : Stage} {s : State} → Trace S r b g s → s .tally .idle ≡ 0
     unfolding turnOf turn start
     lone-idle begins = refl

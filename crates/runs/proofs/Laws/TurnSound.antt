@@ -1,5 +1,8 @@
 -- A turn keeps a state sound: the worker's line becomes the one that the theory of lines gives it, and no other changes.
---   seatOf p s w j == worker w and its deque after that action
+--   seatOf p s w j == worker w, which holds job j, and its deque after its turn
+--   wakes-is, wakes-by, wakes-empty == rule 1's test is that of the theory, and a parent that is woken finds an empty deque
+--   seat-spawn, seat-none           == rules 2 and 3; `stay` is the latter
+--   turnOf-sound                    == a turn keeps a state sound
 use Prim.Native.Nat.{ℕ, zero, suc, _≤_, _<_}
 use mathlib.Core.Path.{_≡_, refl, ap, sym, _∙_}
 use mathlib.Core.Logic.{inl, inr, _≢_, by-cases}
@@ -137,7 +140,6 @@ module _ {p : Plan} (ok : Accepted p) {n : ℕ} {s : State} (sound : Sound p n s
       rw (wakes, k .sends) (both-intro (not before) _ (not-T before (λ x. t .0 (ready-is p (s .next) ok (parent p j) x)))
       (ready-by p (afterOf s j) ok (parent p j) (t .1) (λ z. absurd (omega arith))))
 
-  -- a parent that is woken finds an empty deque
   pub wakes-empty : T (wakes p (s .next) (afterOf s j) j (nextOf s j)) → dequeOf s w ≡ []
   wakes-empty t = go (dequeOf s w) refl
     where

@@ -1,4 +1,7 @@
--- The victims that waiting workers name are workers that there are.
+-- The victims that waiting workers name are workers that there are, and there is a choice for each request.
+--   Named n r x  == if the worker x waits, it names one of n victims, and one of the rounds 1 to r
+--   victim-below == that holds of every worker of a state of a run
+--   laid-choices == a worker that held nothing as a round began has a choice
 use Prim.Native.Nat.{ℕ, zero, suc, _≤_, _<_, _%_}
 use mathlib.Core.Path.{_≡_, refl, sym, ap, _∙_}
 use mathlib.Core.Logic.{_⊎_, inl, inr, by-cases, ⊎-elim}
@@ -76,23 +79,23 @@ module _ {S : Setting} (fit : Fit S) where
       (λ w y e. calm-named (s .workers) w y (named-all named t))
   named-all named (next-round {r} t) = λ w v l e. omega (arith, named-all named t w v l e, count-next S r)
 
-  -- a worker that waits names a victim that there is, and a round that has begun
   pub victim-below : T (choicesFit (S .workers) choices) → {r : ℕ} {b : List Worker} {g : Stage} {s : State} → Trace S r b g s
       → (w v l : ℕ) → workerOf s w ≡ Waiting v l → (v < countIn S r) × (1 ≤ l) × (l ≤ r)
   unfolding choicesFit
   victim-below chosen = named-all (both-left (all (λ c. ltb c (S .workers)) choices) _ chosen)
 
   -- a worker that held nothing as a round began is not alone
-  unheld-more : {r : ℕ} {b : List Worker} {g : Stage} {s : State} → Trace S r b g s → (w : ℕ) → w < countIn S r → Unheld (getD b w Idle) → 2 ≤ S .workers
+  unheld-more : {r : ℕ} {b : List Worker} {g : Stage} {s : State} → Trace S r b g s
+      → (w : ℕ) → w < countIn S r → Unheld (getD b w Idle) → 2 ≤ S .workers
   unheld-more t w h u =
       lt-of-not-le (λ (f : S .workers ≤ 1). let (j, e) = lone-holds fit (omega arith) t w h in u j e)
 
-  -- so there is a choice for each request
   pub laid-choices : T (choicesFit (S .workers) choices) → {r : ℕ} {b : List Worker} {g : Stage} {s : State} → Trace S r b g s
       → (w : ℕ) → w < countIn S r → Unheld (getD b w Idle) → 1 ≤ length choices
   unfolding choicesFit
   laid-choices chosen t w h u =
-      go (leb (S .workers) 1) (leb→le (S .workers) 1) (both-right (leb (length choices) 4096) _ (both-right (all (λ c. ltb c (S .workers)) choices) _ chosen))
+      go (leb (S .workers) 1) (leb→le (S .workers) 1)
+      (both-right (leb (length choices) 4096) _ (both-right (all (λ c. ltb c (S .workers)) choices) _ chosen))
     where
       go : (x : Bool) → (T x → S .workers ≤ 1) → T (either x (leb 1 (length choices))) → 1 ≤ length choices
       go true f a = absurd (omega (arith, f tt, unheld-more t w h u))

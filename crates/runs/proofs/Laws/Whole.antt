@@ -1,5 +1,8 @@
 -- The whole run: its fuel is enough, it ends in at most T1 rounds and has done every action once.
 --   Finished S s == s is the state in which a run ends: all turns of a round are taken, and job 0 has ended
+--   run-trace    == a run ends in such a state: T1 rounds are enough
+--   rounds-most, run-done, run-actions, run-turns, run-requests, lone-rounds == so of its rounds, its actions and its counts
+--   turns-trace, lays-trace, serves-trace, round-last, round-on, rounds-stop, rounds-on == its rounds and halves, as steps
 use Prim.Native.Nat.{ℕ, zero, suc, _+_, _*_, _≤_, _<_}
 use mathlib.Core.Path.{_≡_, refl, ap, sym, _∙_}
 use mathlib.Core.Bool.{Bool, true, false}
@@ -32,7 +35,6 @@ Finished S s =
 module _ {S : Setting} where
   open Setting S using (plan)
 
-  -- the halves of a round, as steps
   pub turns-trace : {r : ℕ} {b : List Worker} {s : State} → Trace S r b (turning 0) s → (k : ℕ) → k ≤ countIn S r
       → Trace S r b (turning k) (turns plan r k b s)
   unfolding turns
@@ -104,14 +106,17 @@ module _ {S : Setting} (fit : Fit S) where
   rounds-finish zero r s t h = absurd (omega (arith, round-most fit t))
   rounds-finish (suc k) r s t h = rw (rounds-on S k s (not-ended fit t)) (go (ended plan half) refl (rounds-finish k))
     where
+      n : ℕ
+      n = countIn S r
+
       half : State
-      half = turns plan r (countIn S r) (s .workers) s
+      half = turns plan r n (s .workers) s
 
       known : suc (s .tally .rounds) ≡ r
       known = rounds-known fit t
 
-      taken : Trace S r (s .workers) (turning (countIn S r)) half
-      taken = turns-trace t (countIn S r) (le-refl (countIn S r))
+      taken : Trace S r (s .workers) (turning n) half
+      taken = turns-trace t n (le-refl n)
 
       go : (x : Bool) → ended plan half ≡ x
           → ((r : ℕ) (s : State) → Trace S r (s .workers) (turning 0) s → work plan < k + r → Finished S (rounds k S s))
@@ -121,9 +126,8 @@ module _ {S : Setting} (fit : Fit S) where
           (r, s .workers, taken, f, numbered-late (count-some fit r) (rounds-known fit taken))
       go false f rec =
           rw (round-on S r s known f)
-          (rec (suc r) _ (next-round (serves-trace (all-laid (lays-trace (goes-on taken f) (countIn S r) (le-refl (countIn S r)))) (countIn S r) (le-refl (countIn S r)))) (omega arith))
+          (rec (suc r) _ (next-round (serves-trace (all-laid (lays-trace (goes-on taken f) n (le-refl n))) n (le-refl n))) (omega arith))
 
-  -- T1 rounds are enough
   pub run-trace : Finished S (run S)
   unfolding run
   run-trace = rounds-finish (work plan) 1 (start plan) begins (omega arith)
