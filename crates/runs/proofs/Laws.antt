@@ -4,9 +4,9 @@ pub mod Admitted
 pub mod Start
 pub mod Least
 pub mod Lined
+pub mod TurnSound
 pub mod Stores
 pub mod Began
-pub mod TurnSound
 pub mod ServeSound
 pub mod Sound
 pub mod Deques

@@ -23,7 +23,8 @@ use Rattle.courses.specs.Schedule.{scheduleBytes, checked}
 use Rattle.runs.proofs.Laws.Fit.{Fit}
 use Rattle.runs.proofs.Laws.Admitted.{Stopped, Went, outcome}
 use Rattle.runs.proofs.Laws.OwnSchedule.{run-checked}
-use Rattle.runs.proofs.Laws.Whole.{run-trace, round-most, run-actions}
+use Rattle.runs.proofs.Laws.Whole.{run-trace, run-actions}
+use Rattle.runs.proofs.Laws.Coursed.{round-most}
 use Rattle.scheduler.specs.declared.run.Ran.{Ran}
 use Rattle.scheduler.specs.declared.run.Ran.the-variants.{Done}
 use Rattle.scheduler.specs.Entry.{Result, resulted, runInto, ranOf}

@@ -39,9 +39,9 @@ use Rattle.courses.proofs.Laws.Price.{price-work}
 use Rattle.courses.proofs.Laws.Peak.{course-space, course-peak, peak-least, peak-most}
 use Rattle.courses.proofs.Laws.Order.{course-row, course-keeps, course-least, course-last}
 use Rattle.runs.proofs.Laws.Fit.{Fit, count-some, count-within, count-is}
-use Rattle.runs.proofs.Laws.Lined.{held-in, held-below, held-job, held-once}
+use Rattle.runs.proofs.Laws.Lined.{Sound, held-in, held-below, held-job, held-once}
 use Rattle.runs.proofs.Laws.Began.{trace-began}
-use Rattle.runs.proofs.Laws.Sound.{Sound, start-sound, trace-sound, space, busy}
+use Rattle.runs.proofs.Laws.Sound.{start-sound, trace-sound, space, busy}
 use Rattle.runs.proofs.Laws.Rests.{Rests, laid-rests, served-rests}
 use Rattle.runs.proofs.Laws.Start.{none-done, start-turns, start-peak}
 use Rattle.runs.proofs.Laws.Rounds.{not-ended, began-below}

@@ -8,24 +8,19 @@ use mathlib.Core.List.{List, _++_}
 use native.Mathlib.Omega.{arith}
 use lib.ListN.{length}
 use lib.Seq.{take-at}
-use lib.Dec.{T, leb, leb→le}
 use Rattle.plan.specs.Plan.{total}
 use Rattle.runs.specs.Setting.{Setting, setting}
-use Rattle.runs.specs.Run.{run, workersFit}
+use Rattle.runs.specs.Run.{run}
 use Rattle.courses.specs.Schedule.{scheduleBytes, readSchedule}
 use Rattle.runs.specs.Claim.{Bounds, Bounded, Demand3}
-use Rattle.plan.proofs.Laws.Lists.{both-left, both-right}
 use Rattle.plan.proofs.Laws.Accepted.{accepted-kept}
 use Rattle.plan_measure.proofs.Laws.Work.{work-range}
 use Rattle.runs.proofs.Laws.Fit.{Fit}
-use Rattle.runs.proofs.Laws.Whole.{run-trace, round-most, rounds-most, lone-rounds}
-use Rattle.runs.proofs.Laws.Coursed.{rows-length, last-round, least-rounds, run-space, run-peak, lone-peak}
+use Rattle.runs.proofs.Laws.Admitted.{workers-range}
+use Rattle.runs.proofs.Laws.Whole.{run-trace, rounds-most, lone-rounds}
+use Rattle.runs.proofs.Laws.Coursed.{rows-length, round-most, last-round, least-rounds, run-space, run-peak, lone-peak}
 use Rattle.courses.proofs.Laws.ScheduleBytes.{schedule-length}
 use Rattle.runs.proofs.Laws.OwnSchedule.{run-schedule}
-
-workers-range : (n : ℕ) → T (workersFit n) → (1 ≤ n) × (n ≤ 16)
-unfolding workersFit
-workers-range n t = (leb→le 1 n (both-left (leb 1 n) (leb n 16) t), leb→le n 16 (both-right (leb 1 n) (leb n 16) t))
 
 pub run-bounds : {S : Setting} → Fit S → Bounds (S .plan) (S .workers) (run S .rows) (run S .tally)
 run-bounds fit =

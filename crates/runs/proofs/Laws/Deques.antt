@@ -18,12 +18,12 @@ use Rattle.lines.proofs.Laws.Member.{_∈_}
 use Rattle.lines.proofs.Laws.Shape.{Shape, Valid, Chain}
 use Rattle.plan.specs.Rules.{Accepted}
 use Rattle.plan.proofs.Laws.Valid.{jobs-range}
-use Rattle.courses.proofs.Laws.PlanShape.{shape-valid}
+use Rattle.courses.proofs.Laws.PlanShape.{shape, shape-valid}
 use Rattle.runs.proofs.Laws.Fit.{Fit}
-use Rattle.runs.proofs.Laws.Lined.{line-of, held-or-empty}
+use Rattle.runs.proofs.Laws.Lined.{Sound, line-of, held-or-empty}
 use Rattle.runs.proofs.Laws.Began.{Unheld}
 use Rattle.runs.specs.Trace.{Stage, Trace}
-use Rattle.runs.proofs.Laws.Sound.{shape, Sound, trace-sound}
+use Rattle.runs.proofs.Laws.Sound.{trace-sound}
 
 -- above a job of number h a chain has at most h jobs
 chain-length : {P : Shape} → Valid P → (h : ℕ) (l : List ℕ) → ((x : ℕ) → x ∈ h ∷ l → x < P .jobs) → Chain P (h ∷ l) → length l ≤ h

@@ -31,16 +31,14 @@ use Rattle.courses.proofs.Laws.Space.{leaves-space}
 use Rattle.plan.specs.Rules.{Accepted}
 use Rattle.plan.proofs.Laws.Valid.{jobs-range}
 use Rattle.runs.specs.Trace.{Stage, Trace, begins, turned, goes-on, laid, all-laid, served, next-round}
-use Rattle.courses.proofs.Laws.PlanShape.{shape-valid}
+use Rattle.courses.proofs.Laws.PlanShape.{shape, shape-valid}
 use Rattle.runs.proofs.Laws.Fit.{Fit, count-some, count-most, count-next}
 use Rattle.runs.proofs.Laws.Start.{none-done, start-idle, start-deque}
 use Rattle.runs.proofs.Laws.Least.{oldest-waits}
-use Rattle.runs.proofs.Laws.Lined.{line-of, line-held, held-below}
+use Rattle.runs.proofs.Laws.Lined.{lineOf, Sound, line-of, line-held, held-below}
 use Rattle.runs.proofs.Laws.Began.{trace-began, laying-idle}
 use Rattle.runs.proofs.Laws.TurnSound.{turnOf-sound}
 use Rattle.runs.proofs.Laws.ServeSound.{lay-sound, serve-sound}
-pub use Rattle.courses.proofs.Laws.PlanShape.{shape}
-pub use Rattle.runs.proofs.Laws.Lined.{lineIn, lineOf, Sound}
 
 module _ {p : Plan} (ok : Accepted p) {n : ℕ} where
   pub start-sound : 1 ≤ n → Sound p n (start p)

@@ -20,28 +20,26 @@ use Rattle.runs.specs.declared.worker.Worker.{Worker}
 use Rattle.runs.specs.declared.worker.Worker.the-variants.{Idle, Holding, Waiting}
 use Rattle.runs.specs.Setting.{Setting, countIn}
 use Rattle.runs.specs.State.{State, nextOf, dequeOf}
-use Rattle.runs.specs.Turn.{takeBottom, seatAfter, turn, idled, turnOf}
+use Rattle.runs.specs.Turn.{seatAfter, turn, idled, turnOf}
 use Rattle.runs.specs.Parts.{afterOf, aboveOf}
 use Rattle.runs.specs.Trace.{turning, laying, serving, Trace}
+use Rattle.runs.proofs.Laws.TurnSound.{stay, seat-spawn, seat-none}
 use Rattle.runs.specs.Steal.{laid, lay, oldest, topOf, given, serve, waits}
 
 abbrev pub victimOf : Setting → State → ℕ
 victimOf S s = getD (S .choices) (s .tally .requests % length (S .choices)) 0
 
--- a worker does not wait after its turn
-seat-waits : (p : Plan) (after : List ℕ) (j i : ℕ) (d : List ℕ) → waits (seatAfter p after j i d .worker) ≡ 0
-unfolding seatAfter
-seat-waits p after j i d = go (action p j i .spawn) refl (both (ltb (suc i) (size p j)) (ready p after j)) refl
-  where
-    bottom : (d : List ℕ) → waits (takeBottom d .worker) ≡ 0
-    bottom [] = refl
-    bottom (x ∷ d) = refl
+stay-waits : (b : Bool) (j : ℕ) (d : List ℕ) → waits (stay b j d .worker) ≡ 0
+stay-waits true j d = refl
+stay-waits false j [] = refl
+stay-waits false j (x ∷ d) = refl
 
-    go : (c : ℕ) → action p j i .spawn ≡ c → (x : Bool) → both (ltb (suc i) (size p j)) (ready p after j) ≡ x
-        → waits (seatAfter p after j i d .worker) ≡ 0
-    go (suc c) e x f = rw (seatAfter, e)
-    go zero e true f = rw (seatAfter, e, f)
-    go zero e false f = rw (seatAfter, e, f) (bottom d)
+seat-waits : (p : Plan) (after : List ℕ) (j i : ℕ) (d : List ℕ) → waits (seatAfter p after j i d .worker) ≡ 0
+seat-waits p after j i d = go (action p j i .spawn) refl
+  where
+    go : (c : ℕ) → action p j i .spawn ≡ c → waits (seatAfter p after j i d .worker) ≡ 0
+    go (suc c) e = rw (seat-spawn p after j i d e)
+    go zero e = rw (seat-none p after j i d e) (stay-waits (both (ltb (suc i) (size p j)) (ready p after j)) j d)
 
 module _ (P : List Worker → Type 0) where
   turn-workers : (p : Plan) (r k : ℕ) (x : Worker) (s : State) → P (s .workers)

@@ -20,7 +20,7 @@ use Rattle.plan.specs.Plan.{Plan, size, action, parent}
 use Rattle.runs.specs.State.{State, nextOf, workerOf, dequeOf}
 use Rattle.courses.specs.Ready.{ready}
 use Rattle.runs.specs.Turn.{wakes, woken, Seat, takeBottom, seatAfter, turn, idled, turnOf}
-pub use Rattle.runs.specs.Parts.{afterOf, aboveOf}
+use Rattle.runs.specs.Parts.{afterOf, aboveOf}
 use Rattle.lines.proofs.Laws.Shape.{Living, Ready, Chain}
 use Rattle.lines.proofs.Laws.Member.{put}
 use Rattle.lines.proofs.Laws.Act.{Goes, goes?, Wakes, wakes?, Act, wakes-iff, stalled, sender}
@@ -32,10 +32,10 @@ use Rattle.courses.proofs.Laws.PlanShape.{shape, shape-valid, ready-is, ready-b
 use Rattle.runs.proofs.Laws.Lined.{lineIn, lineOf, Sound, line-of, held-in, held-below, line-stored, line-other}
 
 -- a test and a decision of one thing
-module _ {A : Type 0} (b : Bool) (d : Dec A) (f : T b → A) (g : A → T b) (q : ℕ) (l : List ℕ) where
-  to-put : (h : Bool → List ℕ) → h true ≡ q ∷ l → h false ≡ l → h b ≡ put d q l
+module _ {A : Type 0} (b : Bool) (d : Dec A) (f : T b → A) (g : A → T b) where
+  to-put : {q : ℕ} {l : List ℕ} (h : Bool → List ℕ) → h true ≡ q ∷ l → h false ≡ l → h b ≡ put d q l
   unfolding put
-  to-put h yes-is no-is = go b d f g
+  to-put {q} {l} h yes-is no-is = go b d f g
     where
       go : (b : Bool) (d : Dec A) → (T b → A) → (A → T b) → h b ≡ put d q l
       go true (yes a) f g = yes-is
@@ -43,16 +43,12 @@ module _ {A : Type 0} (b : Bool) (d : Dec A) (f : T b → A) (g : A → T b) (q 
       go false (yes a) f g = absurd (g a)
       go false (no n) f g = no-is
 
-abbrev pub lineAt : Seat → List ℕ
+abbrev lineAt : Seat → List ℕ
 lineAt t = lineIn (t .worker) (t .deque)
 
 bottom-line : (d : List ℕ) → lineAt (takeBottom d) ≡ d
 bottom-line [] = refl
 bottom-line (j ∷ d) = refl
-
-bottom-empty : (d : List ℕ) → lineAt (takeBottom d) ≡ [] → takeBottom d .deque ≡ []
-bottom-empty [] e = refl
-bottom-empty (j ∷ d) e = absurd (cons-ne-nil j d e)
 
 -- rule 3
 abbrev pub stay : Bool → ℕ → List ℕ → Seat
@@ -61,12 +57,13 @@ stay false j d = takeBottom d
 
 stay-empty : (b : Bool) (j : ℕ) (d : List ℕ) → lineAt (stay b j d) ≡ [] → stay b j d .deque ≡ []
 stay-empty true j d e = absurd (cons-ne-nil j d e)
-stay-empty false j d e = bottom-empty d e
+stay-empty false j [] e = refl
+stay-empty false j (x ∷ d) e = absurd (cons-ne-nil x d e)
 
 module _ (p : Plan) (after : List ℕ) (j i : ℕ) (d : List ℕ) where
-  pub seat-spawn : (c : ℕ) → action p j i .spawn ≡ suc c → seatAfter p after j i d ≡ record { worker = Holding c; deque = j ∷ d }
+  pub seat-spawn : {c : ℕ} → action p j i .spawn ≡ suc c → seatAfter p after j i d ≡ record { worker = Holding c; deque = j ∷ d }
   unfolding seatAfter
-  seat-spawn c e = rw (seatAfter, e)
+  seat-spawn e = rw (seatAfter, e)
 
   pub seat-none : action p j i .spawn ≡ 0 → seatAfter p after j i d ≡ stay (both (ltb (suc i) (size p j)) (ready p after j)) j d
   unfolding seatAfter
@@ -80,7 +77,7 @@ module _ (p : Plan) (after : List ℕ) (j i : ℕ) (d : List ℕ) where
   seat-empty = go (action p j i .spawn) refl
     where
       go : (x : ℕ) → action p j i .spawn ≡ x → lineAt (seatAfter p after j i d) ≡ [] → seatAfter p after j i d .deque ≡ []
-      go (suc c) e = rw (seat-spawn c e) (λ q. absurd (cons-ne-nil c (j ∷ d) q))
+      go (suc c) e = rw (seat-spawn e) (λ q. absurd (cons-ne-nil c (j ∷ d) q))
       go zero e = rw (seat-none e) (stay-empty (both (ltb (suc i) (size p j)) (ready p after j)) j d)
 
 abbrev pub seatOf : Plan → State → ℕ → ℕ → Seat
@@ -171,16 +168,16 @@ module _ {p : Plan} (ok : Accepted p) {n : ℕ} {s : State} (sound : Sound p n s
       above : aboveOf p s w j ≡ up
       above =
           to-put (wakes p (s .next) (afterOf s j) j (nextOf s j)) (wakes? (shape p) (nextOf s) next′ j) wakes-is wakes-by
-          (parent p j) (dequeOf s w) (λ b. woken b (parent p j) (dequeOf s w)) refl refl
+          (λ b. woken b (parent p j) (dequeOf s w)) refl refl
 
       go : (x : ℕ) → action p j (nextOf s j) .spawn ≡ x → lineAt (seatOf p s w j) ≡ turnLine (shape p) (nextOf s) next′ j (dequeOf s w)
       go (suc c) e =
-          ap lineAt (seat-spawn p (afterOf s j) j (nextOf s j) (aboveOf p s w j) c e) ∙ ap (λ l. c ∷ (j ∷ l)) above
+          ap lineAt (seat-spawn p (afterOf s j) j (nextOf s j) (aboveOf p s w j) e) ∙ ap (λ l. c ∷ (j ∷ l)) above
           ∙ sym (turn-spawn (shape p) (nextOf s) next′ j (dequeOf s w) c e)
       go zero e =
           ap lineAt (seat-none p (afterOf s j) j (nextOf s j) (aboveOf p s w j) e)
           ∙ to-put (both (ltb (suc (nextOf s j)) (size p j)) (ready p (afterOf s j) j)) (goes? (shape p) next′ j) goes-is goes-by
-          j (aboveOf p s w j) (λ b. lineAt (stay b j (aboveOf p s w j))) refl (bottom-line (aboveOf p s w j))
+          (λ b. lineAt (stay b j (aboveOf p s w j))) refl (bottom-line (aboveOf p s w j))
           ∙ ap (put (goes? (shape p) next′ j) j) above ∙ sym (turn-none (shape p) (nextOf s) next′ j (dequeOf s w) e)
 
   turn-sound : n ≤ 16 → (r : ℕ) → Sound p n (turn p r w j s)

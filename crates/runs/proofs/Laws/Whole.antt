@@ -23,8 +23,7 @@ use Rattle.runs.specs.Trace.{Stage, turning, laying, serving, Trace, beg
 use Rattle.runs.proofs.Laws.Fit.{Fit, count-some, count-is}
 use Rattle.runs.proofs.Laws.Sound.{trace-sound, all-done}
 use Rattle.runs.proofs.Laws.Rounds.{rounds-known, numbered-late, numbered-most, not-ended}
-use Rattle.runs.proofs.Laws.Coursed.{actions-most, actions-all}
-pub use Rattle.runs.proofs.Laws.Coursed.{round-most}
+use Rattle.runs.proofs.Laws.Coursed.{round-most, actions-most, actions-all}
 use Rattle.runs.proofs.Laws.Tallies.{counts-most, counts-same, turns-sum, turns-most, requests-most, lone-idle}
 use Rattle.runs.proofs.Laws.Waiting.{requests-sum}
 

@@ -18,9 +18,9 @@ use Rattle.courses.specs.Schedule.{scheduleBytes}
 use Rattle.scheduler.specs.Machine.{Printed, Kept}
 use Rattle.scheduler.specs.Header.{headerBytes}
 use Rattle.runs.proofs.Laws.Fit.{Fit}
-use Rattle.runs.proofs.Laws.Coursed.{rows-length, run-row}
+use Rattle.runs.proofs.Laws.Coursed.{rows-length, round-most, run-row}
 use Rattle.courses.proofs.Laws.ScheduleBytes.{schedule-length}
-use Rattle.runs.proofs.Laws.Whole.{run-trace, round-most, run-done}
+use Rattle.runs.proofs.Laws.Whole.{run-trace, run-done}
 use Rattle.scheduler.proofs.Laws.ScheduleBytes.{rowBytes, Narrow, schedule-bytes}
 
 -- bytes that hold each row at its place begin with the rows' bytes

@@ -118,7 +118,7 @@ module _ {p : Plan} {n : ℕ} {choices : List ℕ} {r : ℕ} {b : List Worker} {
         → Acted p (turn p r w j s) w t next′ missing′ slots′ top′ len′
     acting-spawns t h z g d =
         seated (record { worker = Holding c; deque = j ∷ aboveOf p s w j })
-        (seat-spawn p (afterOf s j) j (nextOf s j) (aboveOf p s w j) c spawns) t h
+        (seat-spawn p (afterOf s j) j (nextOf s j) (aboveOf p s w j) spawns) t h
         (omega (
           arith,
           a .weighed,

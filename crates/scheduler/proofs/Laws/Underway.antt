@@ -17,7 +17,8 @@ use Rattle.runs.specs.Run.{ended, round, rounds, run}
 use Rattle.runs.specs.Trace.{turning, Trace, begins, goes-on, all-laid, next-round}
 use Rattle.runs.proofs.Laws.Fit.{Fit}
 use Rattle.runs.proofs.Laws.Rounds.{rounds-known, numbered-late}
-use Rattle.runs.proofs.Laws.Whole.{turns-trace, lays-trace, serves-trace, round-last, round-on, rounds-stop, rounds-on, round-most}
+use Rattle.runs.proofs.Laws.Whole.{turns-trace, lays-trace, serves-trace, round-last, round-on, rounds-stop, rounds-on}
+use Rattle.runs.proofs.Laws.Coursed.{round-most}
 
 pub data Underway (p : Plan) (n : ℕ) (choices : List ℕ) (s : State) : Type 0 where
   begun : (r k : ℕ) → Trace (setting p n choices) r (s .workers) (turning 0) s → run (setting p n choices) ≡ rounds k (setting p n choices) s → work p < k + r
