@@ -1,8 +1,8 @@
 -- The rounds of a run: how they are counted, and that each begins with a worker that holds a job.
---   Numbered g r t == at stage g of round r the tally has t rounds: a round counts from its first turn on
---   Going p g s    == job 0 has not ended, but in the first half of a round it may have
---   rounds-known, not-ended   == both hold of every state of a run
---   began-busy, began-below   == as a round begins some worker holds a job, and who does is one of those that there are
+--   Numbered g r t          == at stage g of round r the tally has t rounds: a round counts from its first turn on
+--   Going p g s             == job 0 has not ended, but in the first half of a round it may have
+--   rounds-known, not-ended == both hold of every state of a run
+--   began-busy, began-below == as a round begins some worker holds a job, and who does is one of those that there are
 use Prim.Native.Nat.{ℕ, zero, suc, _≤_, _<_}
 use mathlib.Core.Path.{_≡_, refl, ap, _∙_}
 use mathlib.Core.Bool.{false}

@@ -6,7 +6,7 @@
 --   Within v a xs ws == each request on v of a rank below a in xs is in ws too
 --   Roster n ws      == of the workers ws those below n are there: at most sixteen, each with its place, and who waits is one of them
 --   AllDue n r g ws  == at stage g of round r each request in ws can be served in time
---   waits-served     == it is
+--   waits-served     == so when round r is over no request waits that was laid n - 1 rounds before it or earlier
 use Prim.Native.Nat.{ℕ, suc, _+_, _≤_, _<_, zero-le}
 use mathlib.Core.Path.{_≡_, refl, sym, ap, _∙_}
 use mathlib.Core.Logic.{_≢_, by-cases}
@@ -27,7 +27,7 @@ use Rattle.lines.proofs.Laws.Sum.{sum, sum-le, sum-less, sum-bound, only, only-
 use Rattle.runs.specs.Trace.{Stage, turning, laying, serving, Trace, begins, turned, goes-on, laid, all-laid, served, next-round}
 use Rattle.runs.proofs.Laws.Fit.{Fit, count-most, count-next}
 use Rattle.runs.proofs.Laws.Lined.{seen-below}
-use Rattle.runs.proofs.Laws.Sound.{trace-sound}
+use Rattle.runs.proofs.Laws.Sound.{trace-sound, workers-length}
 use Rattle.runs.proofs.Laws.Start.{start-calm}
 use Rattle.runs.proofs.Laws.Stores.{victimOf, turned-workers, laid-workers, served-workers}
 use Rattle.runs.proofs.Laws.Victims.{victim-below}
@@ -174,13 +174,11 @@ module _ {S : Setting} (fit : Fit S) (chosen : T (choicesFit (S .workers) (S .ch
   open Setting S using (plan, choices)
 
   roster : {r : ℕ} {b : List Worker} {g : Stage} {s : State} → Trace S r b g s → Roster (countIn S r) (s .workers)
-  roster {r} t =
-      let sound = trace-sound fit t in
-      record {
-        few = count-most fit r;
-        placed = omega (arith, sound .workers, count-most fit r);
-        below = λ w v l e. seen-below sound w (λ q. omega (arith, ap waits (sym e ∙ q)));
-      }
+  roster {r} t = record {
+    few = count-most fit r;
+    placed = workers-length fit t;
+    below = λ w v l e. seen-below (trace-sound fit t) w (λ q. omega (arith, ap waits (sym e ∙ q)));
+  }
 
   all-due : {r : ℕ} {b : List Worker} {g : Stage} {s : State} → Trace S r b g s → AllDue (countIn S r) r g (s .workers)
   all-due begins = λ w v l e. absurd (omega (arith, start-calm plan w, ap waits e))

@@ -91,3 +91,7 @@ module _ {S : Setting} (fit : Fit S) where
       serve-sound (fit .plan) (count-most fit r) (trace-sound t) l (oldest k (countIn S r) (s .workers) .who)
       (λ w. oldest-waits k (countIn S r) (s .workers) (count-most fit r))
   trace-sound (next-round {r} t) = rw (count-next S r) (trace-sound t)
+
+  -- each worker that there is has its place
+  pub workers-length : {r : ℕ} {b : List Worker} {g : Stage} {s : State} → Trace S r b g s → countIn S r ≤ length (s .workers)
+  workers-length {r} t = omega (arith, trace-sound t .workers, count-most fit r)

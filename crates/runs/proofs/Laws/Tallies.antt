@@ -1,6 +1,6 @@
 -- The counts of turns and requests in every state of a run: each worker has one turn in a round, and lays at most one request.
---   counts S r      == how many turns the rounds up to round r have
---   turns-sum       == when every worker has had its turn in round r, the tally has as many
+--   counts S r                == how many turns the rounds up to round r have
+--   turns-sum                 == when every worker has had its turn in round r, the tally has as many
 --   turns-most, requests-most == before that no more turns, and never more requests
 --   lone-holds, lone-idle     == a worker that is alone holds a job as each round begins, so it never idles
 use Prim.Native.Nat.{ℕ, zero, suc, _+_, _*_, _≤_, _<_}

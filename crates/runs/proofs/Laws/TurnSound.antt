@@ -1,5 +1,5 @@
 -- A turn keeps a state sound: the worker's line becomes the one that the theory of lines gives it, and no other changes.
---   seatOf p s w j == worker w, which holds job j, and its deque after its turn
+--   seatOf p s w j                  == worker w, which holds job j, and its deque after its turn
 --   wakes-is, wakes-by, wakes-empty == rule 1's test is that of the theory, and a parent that is woken finds an empty deque
 --   seat-spawn, seat-none           == rules 2 and 3; `stay` is the latter
 --   turnOf-sound                    == a turn keeps a state sound

@@ -19,7 +19,7 @@ use Rattle.runs.specs.Steal.{laid as laidBy, lay, oldest, topOf, given, 
 use Rattle.runs.specs.Trace.{Stage, Trace, begins, turned, goes-on, laid, all-laid, served, next-round}
 use Rattle.runs.proofs.Laws.Fit.{Fit, count-most, count-next}
 use Rattle.runs.proofs.Laws.Began.{trace-began, laying-idle}
-use Rattle.runs.proofs.Laws.Sound.{trace-sound}
+use Rattle.runs.proofs.Laws.Sound.{workers-length}
 use Rattle.runs.proofs.Laws.Start.{start-calm}
 use Rattle.runs.proofs.Laws.Least.{oldest-waits}
 use Rattle.runs.proofs.Laws.Rests.{turned-took}
@@ -57,7 +57,7 @@ module _ {S : Setting} (fit : Fit S) where
   exchanged : {r : ℕ} {b : List Worker} {g : Stage} {s : State} → Trace S r b g s → {k : ℕ} → k < countIn S r → (x : Worker)
       → waiting (countIn S r) (set (s .workers) k x) + waits (workerOf s k) ≡ waiting (countIn S r) (s .workers) + waits x
   exchanged {r} {s = s} t {k} h x =
-      waiting-set (s .workers) k x (omega (arith, trace-sound fit t .workers, count-most fit r)) (countIn S r) h
+      waiting-set (s .workers) k x (omega (arith, workers-length fit t)) (countIn S r) h
 
   pub requests-sum : {r : ℕ} {b : List Worker} {g : Stage} {s : State} → Trace S r b g s → Settled (countIn S r) s
   unfolding lay laidBy serve given start
