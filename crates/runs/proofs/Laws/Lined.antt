@@ -1,6 +1,6 @@
 -- The lines of a state, and what a sound state is.
 --   lineOf s w                      == worker w's line: the job that it holds and then its deque from the bottom up, or nothing
---   Sound p n s                     == s is a state of n workers on the plan p: its lines are good, and who holds nothing has an empty deque
+--   Sound p n s                     == a state of n workers on the plan p: its lines are good, and who holds nothing has an empty deque
 --   held-below, held-job, held-once == a job is held by one of the n, has an action left, and is held by no other
 --   held-or-empty                   == a worker holds a job, or its deque is empty
 use Prim.Native.Nat.{ℕ, _≤_, _<_}
