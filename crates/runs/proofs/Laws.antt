@@ -5,6 +5,8 @@ pub mod Start
 pub mod Least
 pub mod Lined
 pub mod TurnSound
+pub mod Stores
+pub mod Began
 pub mod ServeSound
 pub mod Sound
 pub mod Deques
@@ -12,7 +14,6 @@ pub mod Rests
 pub mod Rounds
 pub mod Coursed
 pub mod Tallies
-pub mod Waits
 pub mod Waiting
 pub mod Victims
 pub mod Whole

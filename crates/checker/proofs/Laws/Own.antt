@@ -23,7 +23,8 @@ use Rattle.courses.specs.Schedule.{scheduleBytes, checked}
 use Rattle.runs.proofs.Laws.Fit.{Fit}
 use Rattle.runs.proofs.Laws.Admitted.{Stopped, Went, outcome}
 use Rattle.runs.proofs.Laws.OwnSchedule.{run-checked}
-use Rattle.runs.proofs.Laws.Whole.{run-trace, round-most, run-actions}
+use Rattle.runs.proofs.Laws.Whole.{run-trace, run-actions}
+use Rattle.runs.proofs.Laws.Coursed.{round-most}
 use Rattle.scheduler.specs.declared.run.Ran.{Ran}
 use Rattle.scheduler.specs.declared.run.Ran.the-variants.{Done}
 use Rattle.scheduler.specs.Entry.{Result, resulted, runInto, ranOf}
@@ -89,7 +90,7 @@ module _ (plan : List ℕ) (n : ℕ) (choices schedule : List ℕ) where
           omega (
             arith,
             run-fits (w .p) n choices fit,
-            run-actions (setting (w .p) n choices) fit,
+            run-actions fit,
             work-total (w .p),
             ap (λ (t : Tally). t .actions) (w .tally),
           )
@@ -99,10 +100,10 @@ module _ (plan : List ℕ) (n : ℕ) (choices schedule : List ℕ) where
 
       own-accepted : checked plan (take (4 + 2 * t .actions) (result .schedule)) ≡ accepted 0
       own-accepted =
-          let (r, b, trace, e, q) = run-trace (setting (w .p) n choices) fit in
-          let few : r ≤ 4095 = omega (arith, round-most (setting (w .p) n choices) fit trace, work-range (w .p) kept) in
+          let (r, b, trace, e, q) = run-trace fit in
+          let few : r ≤ 4095 = omega (arith, round-most fit trace, work-range (w .p) kept) in
           let part = ap (take (4 + 2 * t .actions)) (w .written) ∙ take-at bytes (drop (length bytes) schedule) (4 + 2 * t .actions) long in
-          ap (checked plan) part ∙ run-checked (setting (w .p) n choices) fit trace e few plan (w .read)
+          ap (checked plan) part ∙ run-checked fit trace e few plan (w .read)
 
 -- the schedule is as long as its actions say
 pub run-room : (plan : List ℕ) (n : ℕ) (choices schedule : List ℕ) (t : Tally) → runInto plan n choices schedule .answer ≡ accepted t

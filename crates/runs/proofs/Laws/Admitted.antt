@@ -1,15 +1,22 @@
 -- An accepted plan is run, or turned down for its worker count or its choices.
+--   Stopped p n cs == it is turned down, for a cause
+--   Went p n cs    == it is run, and there are 1 to 16 workers
+--   outcome        == one of the two
 use Prim.Native.Nat.{ℕ, _≤_}
 use mathlib.Core.Path.{_≡_, refl}
 use mathlib.Core.Logic.{_⊎_, inl, inr}
 use mathlib.Core.Bool.{Bool, true, false}
 use mathlib.Core.List.{List}
-use lib.Dec.{leb, leb→le}
+use lib.Dec.{T, leb, leb→le}
 use Rattle.plan.specs.Refusal.{refused, accepted}
 use Rattle.plan.specs.Plan.{Plan}
 use Rattle.plan.proofs.Laws.Lists.{both-left, both-right, of-true}
 use Rattle.runs.specs.Setting.{setting}
 use Rattle.runs.specs.Run.{run, workersFit, choicesFit, admitted}
+
+pub workers-range : (n : ℕ) → T (workersFit n) → (1 ≤ n) × (n ≤ 16)
+unfolding workersFit
+workers-range n t = (leb→le 1 n (both-left (leb 1 n) (leb n 16) t), leb→le n 16 (both-right (leb 1 n) (leb n 16) t))
 
 module _ (p : Plan) (n : ℕ) (choices : List ℕ) where
   pub record Stopped : Type 0 where
@@ -22,18 +29,14 @@ module _ (p : Plan) (n : ℕ) (choices : List ℕ) where
     pub most : n ≤ 16
 
   pub outcome : Stopped ⊎ Went
-  unfolding admitted workersFit
+  unfolding admitted
   outcome = worker (workersFit n) refl
     where
       choice : (b : Bool) → workersFit n ≡ true → choicesFit n choices ≡ b → Stopped ⊎ Went
       choice false w q = inl (record { cause = 8; not-run = rw (admitted, w, q) })
       choice true w q =
-          let t = of-true (workersFit n) w in
-          inr (record {
-            ran = rw (admitted, w, q);
-            some = leb→le 1 n (both-left (leb 1 n) (leb n 16) t);
-            most = leb→le n 16 (both-right (leb 1 n) (leb n 16) t);
-          })
+          let (some, most) = workers-range n (of-true (workersFit n) w) in
+          inr (record { ran = rw (admitted, w, q); some = some; most = most })
 
       worker : (b : Bool) → workersFit n ≡ b → Stopped ⊎ Went
       worker false q = inl (record { cause = 7; not-run = rw (admitted, q) })

@@ -1,12 +1,14 @@
 -- A run is a course of turns, so that all that holds of courses holds of its rows and its peak.
---   core s      == the state as a course has it
---   handsOf b   == which job each worker has in a round that begins with the workers b
---   terms S     == what the course of a run is of
+--   core s       == the state as a course has it
+--   handsOf b    == which job each worker has in a round that begins with the workers b: its number plus 1, or 0
+--   terms S      == what the course of a run is of
 --   passed S r g == how many workers have had their turns at stage g of round r
-use Prim.Native.Nat.{ℕ, zero, suc, _*_, _≤_, _<_}
+--   trace-course == every state of a run is one of a course
+--   run-row, run-keeps, least-rounds, last-round, run-space, run-peak, lone-peak == so of the end of a run: its rows, rounds and peak
+use Prim.Native.Nat.{ℕ, suc, _*_, _≤_, _<_}
 use mathlib.Core.Path.{_≡_, refl, ap, sym, _∙_}
 use mathlib.Core.Logic.{inl}
-use mathlib.Core.Bool.{true, false}
+use mathlib.Core.Bool.{true}
 use mathlib.Core.List.{List, []}
 use native.Mathlib.Omega.{arith}
 use native.Mathlib.Nat.{le-refl, le-trans, le-of-eq, mul-le-mul}
@@ -17,32 +19,30 @@ use Rattle.runs.specs.declared.worker.Worker.the-variants.{Idle, Holding
 use Rattle.plan.specs.Plan.{Plan, job, size, total}
 use Rattle.plan.specs.Rules.{Accepted}
 use Rattle.plan_measure.specs.Measure.{work, longest, heaviest}
-use Rattle.plan_measure.proofs.Laws.Work.{work-total}
 use Rattle.courses.specs.Row.{noRow}
 use Rattle.runs.specs.Setting.{Setting, countIn}
 use Rattle.runs.specs.State.{State, nextOf, workerOf, start}
 use Rattle.courses.specs.Ready.{weight}
 use Rattle.runs.specs.Turn.{turn, turnOf, idled}
-use Rattle.runs.specs.Steal.{oldest}
 use Rattle.runs.specs.Run.{ended}
 use Rattle.courses.specs.Schedule.{keeps}
 use Rattle.courses.specs.Living.{weightAfter, peakOf, lastRound}
 use Rattle.runs.specs.Trace as Trace
 use Rattle.runs.specs.Trace.{Stage, turning, laying, serving, Trace}
-use Rattle.lines.proofs.Laws.Sum.{sum, sum-same}
 use Rattle.courses.proofs.Laws.Course as Course
 use Rattle.courses.proofs.Laws.Course.{Core, Terms, Begins, Hands, Paced, Ends, Course}
 use Rattle.courses.proofs.Laws.Steps.{finished-ends}
 use Rattle.courses.proofs.Laws.Start.{none-weight}
-use Rattle.courses.proofs.Laws.Kept.{Done, course-kept}
+use Rattle.courses.proofs.Laws.Kept.{Done}
 use Rattle.courses.proofs.Laws.Worked.{price, turns-most, turns-all, course-most}
 use Rattle.courses.proofs.Laws.Price.{price-work}
 use Rattle.courses.proofs.Laws.Peak.{course-space, course-peak, peak-least, peak-most}
 use Rattle.courses.proofs.Laws.Order.{course-row, course-keeps, course-least, course-last}
 use Rattle.runs.proofs.Laws.Fit.{Fit, count-some, count-within, count-is}
-use Rattle.runs.proofs.Laws.Lined.{held-in, held-below}
-use Rattle.runs.proofs.Laws.Sound.{Sound, start-sound, trace-sound, trace-began, space, busy, held-job, held-once}
-use Rattle.runs.proofs.Laws.Rests.{Rests, lay-rests, serve-rests}
+use Rattle.runs.proofs.Laws.Lined.{Sound, held-in, held-below, held-job, held-once}
+use Rattle.runs.proofs.Laws.Began.{trace-began}
+use Rattle.runs.proofs.Laws.Sound.{start-sound, trace-sound, space, busy}
+use Rattle.runs.proofs.Laws.Rests.{Rests, laid-rests, served-rests}
 use Rattle.runs.proofs.Laws.Start.{none-done, start-turns, start-peak}
 use Rattle.runs.proofs.Laws.Rounds.{not-ended, began-below}
 
@@ -77,74 +77,82 @@ pub start-weight : (p : Plan) → Accepted p → weight p (start p .next) ≡ jo
 start-weight p ok = none-weight p ok (start p .next) (none-done p)
 
 -- the turn of a worker that holds a job
-module _ (p : Plan) (ok : Accepted p) (n : ℕ) (s : State) (sound : Sound p n s) where
-  pub turn-ends : (r k j : ℕ) → workerOf s k ≡ Holding j → Ends p r k j (core s) (core (turn p r k j s))
-  unfolding turn
-  turn-ends r k j e =
-      let held = held-job p ok n s sound k j e in
-      finished-ends p r k j (core s) (sound .nexts) (sound .rows) (held .0) (held .1)
+pub turn-ends : {p : Plan} {n : ℕ} {s : State} → Sound p n s → (r k : ℕ) {j : ℕ} → workerOf s k ≡ Holding j
+    → Ends p r k j (core s) (core (turn p r k j s))
+unfolding turn
+turn-ends {p} {s = s} sound r k {j} e =
+    let held = held-job sound k e in
+    finished-ends p r k j (core s) (sound .nexts) (sound .rows) (held .0) (held .1)
 
-module _ (S : Setting) (fit : Fit S) where
+module _ {S : Setting} (fit : Fit S) where
   open Setting S using (plan)
 
   start-begins : Begins plan (core (start plan))
-  start-begins = record { none = none-done plan; fresh = λ j. refl; long = start-sound plan (fit .plan) (countIn S 1) (count-some S fit 1) .rows; turns = start-turns plan; peak = start-peak plan }
-
-  start-light : weight plan (start plan .next) ≤ countIn S 0 * heaviest plan
-  start-light = space plan (fit .plan) (countIn S 0) (start plan) (start-sound plan (fit .plan) (countIn S 0) (count-some S fit 0))
-
-  -- the jobs that are held as a round begins
-  held-hands : (r : ℕ) (s : State) → Sound plan (countIn S r) s → ended plan s ≡ false → (k : ℕ) (b : ℕ → ℕ) → ((w j : ℕ) → b w ≡ suc j → w < k)
-      → Hands (terms S) k b (handsOf (s .workers)) (core s)
-  held-hands r s sound e k b over = record {
-    over = over;
-    goes = nleb→lt (size plan 0) (nextOf s 0) (rw e tt);
-    known = λ w j q. omega (arith, held-below plan (countIn S r) s sound w j (hands-is (workerOf s w) j q), count-within S r);
-    lives = λ w j q. sound .good .here w j (held-in s w j (hands-is (workerOf s w) j q)) .0;
-    ready = λ w j q. sound .good .here w j (held-in s w j (hands-is (workerOf s w) j q)) .1;
-    once = λ v w j q i. held-once plan (fit .plan) (countIn S r) s sound v w j (hands-is (workerOf s v) j q) (hands-is (workerOf s w) j i);
-    stays = λ z w j q l. absurd (omega arith);
+  start-begins = record {
+    none = none-done plan;
+    fresh = λ j. refl;
+    long = start-sound (fit .plan) (count-some fit 1) .rows;
+    turns = start-turns plan;
+    peak = start-peak plan;
   }
 
+  start-light : weight plan (start plan .next) ≤ countIn S 0 * heaviest plan
+  start-light = space (fit .plan) (start-sound (fit .plan) (count-some fit 0))
+
+  -- the jobs that are held as a round begins
+  held-hands : {r : ℕ} {b : List Worker} {s : State} → Trace S r b (turning 0) s → (k : ℕ) (hands : ℕ → ℕ)
+      → ((w j : ℕ) → hands w ≡ suc j → w < k) → Hands (terms S) k hands (handsOf (s .workers)) (core s)
+  held-hands {r} {s = s} t k hands over =
+      let sound = trace-sound fit t in
+      let held : (w j : ℕ) → handsOf (s .workers) w ≡ suc j → workerOf s w ≡ Holding j = λ w j q. hands-is (workerOf s w) j q in
+      record {
+        over = over;
+        goes = nleb→lt (size plan 0) (nextOf s 0) (rw (not-ended fit t) tt);
+        known = λ w j q. omega (arith, held-below sound w (held w j q), count-within S r);
+        lives = λ w j q. sound .good .here w j (held-in s w (held w j q)) .0;
+        ready = λ w j q. sound .good .here w j (held-in s w (held w j q)) .1;
+        once = λ v w j q i. held-once sound v w (held v j q) (held w j i);
+        stays = λ z w j q l. absurd (omega arith);
+      }
+
   -- some job is
-  held-some : (r : ℕ) (s : State) → Sound plan (countIn S r) s → ended plan s ≡ false → Paced (terms S) 0 0 (handsOf (s .workers))
-  held-some r s sound e = let (w, j, l, q) = busy plan (fit .plan) (countIn S r) s sound e in inl (refl, (w, j, ap handsIn q))
+  held-some : {r : ℕ} {b : List Worker} {s : State} → Trace S r b (turning 0) s → Paced (terms S) 0 0 (handsOf (s .workers))
+  held-some t = let (w, j, l, q) = busy (fit .plan) (trace-sound fit t) (not-ended fit t) in inl (refl, (w, j, ap handsIn q))
 
   -- all actions take T1 turns
   all-turns : price (terms S) ≡ work plan
   all-turns = price-work (terms S) (λ x. refl)
 
   turned-course : {r k : ℕ} {b : List Worker} {s : State} → Trace S r b (turning k) s → (v : Worker) → getD b k Idle ≡ v
-      → Sound plan (countIn S r) (turnOf plan r k v s) → Course (terms S) r 0 k (handsOf b) (core s) → Course (terms S) r 0 (suc k) (handsOf b) (core (turnOf plan r k v s))
+      → Sound plan (countIn S r) (turnOf plan r k v s) → Course (terms S) r 0 k (handsOf b) (core s)
+      → Course (terms S) r 0 (suc k) (handsOf b) (core (turnOf plan r k v s))
   unfolding turnOf idled
   turned-course t Idle e sound c = Course.rests c (ap handsIn e)
   turned-course t (Waiting v l) e sound c = Course.rests c (ap handsIn e)
   turned-course {r} {k} {b} {s} t (Holding j) e sound c =
-      let held : workerOf s k ≡ Holding j = trace-began S t k (le-refl k) ∙ e in
-      Course.ends c (ap handsIn e) refl (turn-ends plan (fit .plan) (countIn S r) s (trace-sound S fit t) r k j held)
-      (space plan (fit .plan) (countIn S r) (turn plan r k j s) sound)
+      let held : workerOf s k ≡ Holding j = trace-began t k (le-refl k) ∙ e in
+      Course.ends c (ap handsIn e) refl (turn-ends (trace-sound fit t) r k held)
+      (space (fit .plan) sound)
 
   -- every state of a run is one of a course
   pub trace-course : {r : ℕ} {b : List Worker} {g : Stage} {s : State} → Trace S r b g s
       → Course (terms S) r 0 (passed S r g) (handsOf b) (core s)
   trace-course Trace.begins =
-      let sound = start-sound plan (fit .plan) (countIn S 1) (count-some S fit 1) in
-      let going = not-ended S fit Trace.begins in
       Course.next-round (Course.begins {b = λ w. 0} (λ w. refl) start-begins start-light)
-      (held-hands 1 (start plan) sound going 0 (λ w. 0) (λ w j q. absurd (omega arith))) (held-some 1 (start plan) sound going)
+      (held-hands Trace.begins 0 (λ w. 0) (λ w j q. absurd (omega arith))) (held-some Trace.begins)
   trace-course (Trace.turned {k = k} {b = b} t h) =
-      turned-course t (getD b k Idle) refl (trace-sound S fit (Trace.turned t h)) (trace-course t)
+      turned-course t (getD b k Idle) refl (trace-sound fit (Trace.turned t h)) (trace-course t)
   trace-course (Trace.goes-on t e) = trace-course t
-  trace-course (Trace.laid {r = r} {k = k} {b = b} {s = s} t h) = rw (core-rests (lay-rests S r k (getD b k Idle) s)) (trace-course t)
+  trace-course (Trace.laid t h) = rw (core-rests (laid-rests t)) (trace-course t)
   trace-course (Trace.all-laid t) = trace-course t
-  trace-course (Trace.served {r = r} {k = k} {s = s} t h) = rw (core-rests (serve-rests k (oldest k (countIn S r) (s .workers) .who) s)) (trace-course t)
-  trace-course (Trace.next-round {r = r} {b = b} {s = s} t) =
-      let sound = trace-sound S fit (Trace.next-round t) in
-      let going = not-ended S fit t in
-      Course.next-round (trace-course t) (held-hands (suc r) s sound going (countIn S r) (handsOf b) (λ w j q. began-below S fit t w j (hands-is (getD b w Idle) j q))) (held-some (suc r) s sound going)
+  trace-course (Trace.served t h) = rw (core-rests (served-rests t)) (trace-course t)
+  trace-course (Trace.next-round {r = r} {b = b} t) =
+      let u = Trace.next-round t in
+      Course.next-round (trace-course t)
+      (held-hands u (countIn S r) (handsOf b) (λ w j q. began-below fit t w j (hands-is (getD b w Idle) j q))) (held-some u)
 
   pub rows-length : {r : ℕ} {b : List Worker} {g : Stage} {s : State} → Trace S r b g s → length (s .rows) ≡ total plan
-  rows-length t = trace-sound S fit t .rows
+  rows-length t = trace-sound fit t .rows
 
   -- no round comes after round T1, for each that begins does an action
   pub round-most : {r : ℕ} {b : List Worker} {g : Stage} {s : State} → Trace S r b g s → r ≤ work plan
@@ -193,4 +201,9 @@ module _ (S : Setting) (fit : Fit S) where
     pub lone-peak : S .workers ≡ 1 → s .tally .peak ≡ heaviest plan
     lone-peak q =
         let z : S .workers * heaviest plan ≡ heaviest plan = rw q (omega arith) in
-        omega (arith, peak-least (terms S) (fit .plan) grows (trace-course t) over, peak-most (terms S) (fit .plan) grows (trace-course t) over (S .workers * heaviest plan) within)
+        let c = trace-course t in
+        omega (
+          arith,
+          peak-least (terms S) (fit .plan) grows c over,
+          peak-most (terms S) (fit .plan) grows c over (S .workers * heaviest plan) within,
+        )

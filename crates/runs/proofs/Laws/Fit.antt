@@ -1,6 +1,7 @@
--- A setting that is let through: its plan is accepted, and in each round there are 1 to 16 workers. Which workers the choices name is
--- not asked here, nor how many there are.
---   Fit S == that
+-- A setting that is let through, and the number of workers in a round.
+--   Fit S == its plan is accepted, and there are 1 to 16 workers; which workers the choices name is not asked, nor how many there are
+--   count-some, count-most, count-within == in a round there are 1 to 16 workers, and no more than the setting has
+--   count-is, count-next                 == the same number in every round; only the laws that cite these two use that
 use Prim.Native.Nat.{ℕ, suc, _≤_}
 use mathlib.Core.Path.{_≡_, refl, sym, _∙_}
 use native.Mathlib.Nat.{le-refl}
@@ -12,19 +13,18 @@ pub record Fit (S : Setting) : Type 0 where
   pub some : 1 ≤ S .workers
   pub most : S .workers ≤ 16
 
-pub count-some : (S : Setting) → Fit S → (r : ℕ) → 1 ≤ countIn S r
+pub count-some : {S : Setting} → Fit S → (r : ℕ) → 1 ≤ countIn S r
 unfolding countIn
-count-some S fit r = fit .some
+count-some fit r = fit .some
 
-pub count-most : (S : Setting) → Fit S → (r : ℕ) → countIn S r ≤ 16
+pub count-most : {S : Setting} → Fit S → (r : ℕ) → countIn S r ≤ 16
 unfolding countIn
-count-most S fit r = fit .most
+count-most fit r = fit .most
 
 pub count-within : (S : Setting) (r : ℕ) → countIn S r ≤ S .workers
 unfolding countIn
 count-within S r = le-refl (S .workers)
 
--- there are the same workers in every round
 pub count-is : (S : Setting) (r : ℕ) → countIn S r ≡ S .workers
 unfolding countIn
 count-is S r = refl

@@ -1,5 +1,7 @@
 -- The schedule of a run is well formed and keeps the checker's rules.
-use Prim.Native.Nat.{ℕ, _-_, _≤_}
+--   run-schedule == it is read back as the rows of the run
+--   run-checked  == the checker accepts it
+use Prim.Native.Nat.{ℕ, _≤_}
 use mathlib.Core.Path.{_≡_, refl, ap, _∙_}
 use mathlib.Core.Bool.{Bool, true, false}
 use mathlib.Core.List.{List}
@@ -25,23 +27,23 @@ unbroken true h = refl
 unbroken false h = absurd h
 
 -- the end of a run
-module _ (S : Setting) (fit : Fit S) {r : ℕ} {b : List Worker} {s : State}
+module _ {S : Setting} (fit : Fit S) {r : ℕ} {b : List Worker} {s : State}
     (t : Trace S r b (turning (countIn S r)) s) (e : ended (S .plan) s ≡ true) (few : r ≤ 4095) where
   open Setting S using (plan)
 
-  -- its schedule is well formed
-  pub run-schedule : readSchedule (scheduleBytes (S .workers) (s .rows)) (total plan) ≡ accepted (record { workers = S .workers; rows = s .rows })
+  pub run-schedule : readSchedule (scheduleBytes (S .workers) (s .rows)) (total plan)
+      ≡ accepted (record { workers = S .workers; rows = s .rows })
   run-schedule =
-      let long : length (s .rows) ≡ total plan = rows-length S fit t in
+      let long : length (s .rows) ≡ total plan = rows-length fit t in
       let small : Small (s .rows) = λ k l.
-      let d = run-row S fit t e k (omega arith) in
+      let d = run-row fit t e k (omega arith) in
       (d .first, omega (arith, d .latest), omega (arith, d .known)) in
       rw (← long) (schedule-read (S .workers) (s .rows) (fit .some) (fit .most) (omega (arith, total-range plan (fit .plan))) small)
 
-  -- and the checker finds no rule broken
-  pub run-ruled : ruled plan (readSchedule (scheduleBytes (S .workers) (s .rows)) (total plan)) ≡ accepted 0
+  -- no rule is broken
+  run-ruled : ruled plan (readSchedule (scheduleBytes (S .workers) (s .rows)) (total plan)) ≡ accepted 0
   unfolding ruled
-  run-ruled = ap (ruled plan) run-schedule ∙ unbroken (keeps plan (S .workers) (s .rows)) (run-keeps S fit t e)
+  run-ruled = ap (ruled plan) run-schedule ∙ unbroken (keeps plan (S .workers) (s .rows)) (run-keeps fit t e)
 
   pub run-checked : (bytes : List ℕ) → readPlan bytes ≡ accepted plan → checked bytes (scheduleBytes (S .workers) (s .rows)) ≡ accepted 0
   unfolding checked judgedBy

@@ -91,7 +91,8 @@ module _ (p : Plan) (n : ℕ) (choices : List ℕ) where
   round-plain s =
       let r = suc (s .tally .rounds) in
       let half = turns p r n (s .workers) s in
-      chosen (ended p half) half (serves-plain r n (lays (setting p n choices) r n (s .workers) half) ∙ ap (plainServes n n) (lays-plain r n (s .workers) half))
+      chosen (ended p half) half
+      (serves-plain r n (lays (setting p n choices) r n (s .workers) half) ∙ ap (plainServes n n) (lays-plain r n (s .workers) half))
 
   rounds-plain : (k : ℕ) (s : State) → rounds k (setting p n choices) s ≡ plainRounds k p n choices s
   unfolding rounds plainRounds

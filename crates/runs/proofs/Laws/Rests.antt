@@ -1,13 +1,21 @@
--- What a request and a service leave as it was: all that a schedule and the counts of turns rest on.
---   Rests s t == the state t has the actions, the rows and the counts of turns of s
-use Prim.Native.Nat.{ℕ, zero, suc}
+-- What a turn does to the counts, and what a request and a service leave as it was: all that a schedule and the counts of turns rest on.
+--   Took r s t               == t has one turn more than s, of round r, and the requests, steals and misses of s
+--   Rests s t                == t has the actions, the rows and the counts of turns of s
+--   turned-took              == `Took` of a turn of a run
+--   laid-rests, served-rests == `Rests` of a request and of a service
+use Prim.Native.Nat.{ℕ, zero, suc, _+_}
 use mathlib.Core.Path.{_≡_, refl}
 use mathlib.Core.List.{List, [], _∷_}
+use native.Mathlib.Omega.{arith}
+use lib.ListN.{getD}
 use Rattle.runs.specs.declared.worker.Worker.{Worker}
 use Rattle.runs.specs.declared.worker.Worker.the-variants.{Idle, Holding, Waiting}
-use Rattle.runs.specs.Setting.{Setting}
+use Rattle.plan.specs.Plan.{Plan}
+use Rattle.runs.specs.Setting.{Setting, countIn}
 use Rattle.runs.specs.State.{State, dequeOf}
-use Rattle.runs.specs.Steal.{laid, lay, given, serve}
+use Rattle.runs.specs.Turn.{turn, idled, turnOf}
+use Rattle.runs.specs.Steal.{laid, lay, oldest, given, serve}
+use Rattle.runs.specs.Trace.{turning, laying, serving, Trace}
 
 pub record Rests (s t : State) : Type 0 where
   pub next : t .next ≡ s .next
@@ -17,7 +25,14 @@ pub record Rests (s t : State) : Type 0 where
   pub idle : t .tally .idle ≡ s .tally .idle
   pub peak : t .tally .peak ≡ s .tally .peak
 
-pub same-rests : (s : State) → Rests s s
+pub record Took (r : ℕ) (s t : State) : Type 0 where
+  pub rounds : t .tally .rounds ≡ r
+  pub turns : t .tally .actions + t .tally .idle ≡ suc (s .tally .actions + s .tally .idle)
+  pub requests : t .tally .requests ≡ s .tally .requests
+  pub steals : t .tally .steals ≡ s .tally .steals
+  pub misses : t .tally .misses ≡ s .tally .misses
+
+same-rests : (s : State) → Rests s s
 same-rests s = record { next = refl; rows = refl; rounds = refl; actions = refl; idle = refl; peak = refl }
 
 pub lay-rests : (S : Setting) (r w : ℕ) (x : Worker) (s : State) → Rests s (lay S r w x s)
@@ -35,3 +50,20 @@ pub serve-rests : (v who : ℕ) (s : State) → Rests s (serve v who s)
 unfolding serve
 serve-rests v zero s = same-rests s
 serve-rests v (suc w) s = given-rests v w (dequeOf s v) s
+
+pub turn-took : (p : Plan) (r w : ℕ) (x : Worker) (s : State) → Took r s (turnOf p r w x s)
+unfolding turnOf turn idled
+turn-took p r w Idle s = record { rounds = refl; turns = omega arith; requests = refl; steals = refl; misses = refl }
+turn-took p r w (Holding j) s = record { rounds = refl; turns = omega arith; requests = refl; steals = refl; misses = refl }
+turn-took p r w (Waiting v l) s = record { rounds = refl; turns = omega arith; requests = refl; steals = refl; misses = refl }
+
+-- the steps of a run
+module _ {S : Setting} {r k : ℕ} {b : List Worker} {s : State} where
+  pub turned-took : Trace S r b (turning k) s → Took r s (turnOf (S .plan) r k (getD b k Idle) s)
+  turned-took t = turn-took (S .plan) r k (getD b k Idle) s
+
+  pub laid-rests : Trace S r b (laying k) s → Rests s (lay S r k (getD b k Idle) s)
+  laid-rests t = lay-rests S r k (getD b k Idle) s
+
+  pub served-rests : Trace S r b (serving k) s → Rests s (serve k (oldest k (countIn S r) (s .workers) .who) s)
+  served-rests t = serve-rests k (oldest k (countIn S r) (s .workers) .who) s

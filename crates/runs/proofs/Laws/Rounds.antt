@@ -1,4 +1,8 @@
 -- The rounds of a run: how they are counted, and that each begins with a worker that holds a job.
+--   Numbered g r t          == at stage g of round r the tally has t rounds: a round counts from its first turn on
+--   Going p g s             == job 0 has not ended, but in the first half of a round it may have
+--   rounds-known, not-ended == both hold of every state of a run
+--   began-busy, began-below == as a round begins some worker holds a job, and who does is one of those that there are
 use Prim.Native.Nat.{ℕ, zero, suc, _≤_, _<_}
 use mathlib.Core.Path.{_≡_, refl, ap, _∙_}
 use mathlib.Core.Bool.{false}
@@ -9,39 +13,36 @@ use lib.Dec.{leb}
 use lib.ListN.{getD}
 use borrow.Author.Tests.{lt-leb}
 use Rattle.runs.specs.declared.worker.Worker.{Worker}
-use Rattle.runs.specs.declared.worker.Worker.the-variants.{Idle, Holding, Waiting}
+use Rattle.runs.specs.declared.worker.Worker.the-variants.{Idle, Holding}
 use Rattle.plan.specs.Plan.{Plan, size}
 use Rattle.runs.specs.Setting.{Setting, countIn}
 use Rattle.runs.specs.State.{State, nextOf, start}
-use Rattle.runs.specs.Turn.{turn, idled, turnOf}
-use Rattle.runs.specs.Steal.{oldest}
 use Rattle.runs.specs.Run.{ended}
 use Rattle.plan.proofs.Laws.Valid.{jobs-range, size-range}
 use Rattle.runs.specs.Trace.{Stage, turning, laying, serving, Trace, begins, turned, goes-on, laid, all-laid, served, next-round}
 use Rattle.runs.proofs.Laws.Fit.{Fit, count-some}
+use Rattle.runs.proofs.Laws.Began.{round-began}
 use Rattle.runs.proofs.Laws.Lined.{held-below}
 use Rattle.runs.proofs.Laws.Sound.{trace-sound, busy}
-use Rattle.runs.proofs.Laws.Rests.{Rests, lay-rests, serve-rests}
+use Rattle.runs.proofs.Laws.Rests.{Rests, turned-took, laid-rests, served-rests}
 use Rattle.runs.proofs.Laws.Start.{none-done}
 
--- what the tally says of the rounds in round r: a round counts from its first turn on
 abbrev pub Numbered : Stage → ℕ → ℕ → Type 0
 Numbered (turning zero) r t = suc t ≡ r
 Numbered (turning (suc k)) r t = t ≡ r
 Numbered (laying k) r t = t ≡ r
 Numbered (serving k) r t = t ≡ r
 
-pub numbered-late : (k r t : ℕ) → 1 ≤ k → Numbered (turning k) r t → t ≡ r
-numbered-late zero r t h i = absurd (not-suc-le-zero h)
-numbered-late (suc k) r t h i = i
+pub numbered-late : {k r t : ℕ} → 1 ≤ k → Numbered (turning k) r t → t ≡ r
+numbered-late {k = zero} h i = absurd (not-suc-le-zero h)
+numbered-late {k = suc k} h i = i
 
-pub numbered-most : (g : Stage) (r t : ℕ) → Numbered g r t → t ≤ r
-numbered-most (turning zero) r t i = omega arith
-numbered-most (turning (suc k)) r t i = omega arith
-numbered-most (laying k) r t i = omega arith
-numbered-most (serving k) r t i = omega arith
+pub numbered-most : (g : Stage) {r t : ℕ} → Numbered g r t → t ≤ r
+numbered-most (turning zero) i = omega arith
+numbered-most (turning (suc k)) i = omega arith
+numbered-most (laying k) i = omega arith
+numbered-most (serving k) i = omega arith
 
--- job 0 has not ended but in the first half of a round
 abbrev pub Going : Plan → Stage → State → Type 0
 Going p (turning zero) s = ended p s ≡ false
 Going p (turning (suc k)) s = Unit {0}
@@ -51,55 +52,38 @@ Going p (serving k) s = ended p s ≡ false
 ended-rests : (p : Plan) {s t : State} → Rests s t → ended p s ≡ false → ended p t ≡ false
 ended-rests p q i = ap (λ l. leb (size p 0) (getD l 0 0)) (q .next) ∙ i
 
-module _ (S : Setting) (fit : Fit S) where
+module _ {S : Setting} (fit : Fit S) where
   open Setting S using (plan)
 
-  -- the tally counts the rounds
   pub rounds-known : {r : ℕ} {b : List Worker} {g : Stage} {s : State} → Trace S r b g s → Numbered g r (s .tally .rounds)
-  unfolding turnOf turn idled start
+  unfolding start
   rounds-known begins = refl
-  rounds-known (turned {r} {k} {b} {s} t h) = go (getD b k Idle)
-    where
-      go : (x : Worker) → turnOf plan r k x s .tally .rounds ≡ r
-      go Idle = refl
-      go (Holding j) = refl
-      go (Waiting v l) = refl
-  rounds-known (goes-on {r} {b} {s} t e) = numbered-late (countIn S r) r (s .tally .rounds) (count-some S fit r) (rounds-known t)
-  rounds-known (laid {r} {k} {b} {s} t h) = lay-rests S r k (getD b k Idle) s .rounds ∙ rounds-known t
+  rounds-known (turned t h) = turned-took t .rounds
+  rounds-known (goes-on {r} t e) = numbered-late (count-some fit r) (rounds-known t)
+  rounds-known (laid t h) = laid-rests t .rounds ∙ rounds-known t
   rounds-known (all-laid t) = rounds-known t
-  rounds-known (served {r} {k} {b} {s} t h) = serve-rests k (oldest k (countIn S r) (s .workers) .who) s .rounds ∙ rounds-known t
+  rounds-known (served t h) = served-rests t .rounds ∙ rounds-known t
   rounds-known (next-round t) = ap suc (rounds-known t)
 
-  -- a run goes on from round to round only while job 0 has not ended
   pub not-ended : {r : ℕ} {b : List Worker} {g : Stage} {s : State} → Trace S r b g s → Going plan g s
   not-ended begins =
       let z = none-done plan 0 in
       lt-leb (size plan 0) (nextOf (start plan) 0) (omega (arith, size-range plan (fit .plan) 0 (jobs-range plan (fit .plan) .0)))
   not-ended (turned t h) = tt
   not-ended (goes-on t e) = e
-  not-ended (laid {r} {k} {b} {s} t h) = ended-rests plan (lay-rests S r k (getD b k Idle) s) (not-ended t)
+  not-ended (laid t h) = ended-rests plan (laid-rests t) (not-ended t)
   not-ended (all-laid t) = not-ended t
-  not-ended (served {r} {k} {b} {s} t h) = ended-rests plan (serve-rests k (oldest k (countIn S r) (s .workers) .who) s) (not-ended t)
+  not-ended (served t h) = ended-rests plan (served-rests t) (not-ended t)
   not-ended (next-round t) = not-ended t
 
-  -- as each round begins some worker holds a job
   pub began-busy : {r : ℕ} {b : List Worker} {g : Stage} {s : State} → Trace S r b g s
       → (w : ℕ) × (j : ℕ) × (w < countIn S r) × (getD b w Idle ≡ Holding j)
-  began-busy begins = busy plan (fit .plan) (countIn S 1) (start plan) (trace-sound S fit begins) (not-ended begins)
-  began-busy (turned t h) = began-busy t
-  began-busy (goes-on t e) = began-busy t
-  began-busy (laid t h) = began-busy t
-  began-busy (all-laid t) = began-busy t
-  began-busy (served t h) = began-busy t
-  began-busy (next-round {r} {b} {s} t) = busy plan (fit .plan) (countIn S (suc r)) s (trace-sound S fit (next-round t)) (not-ended t)
+  began-busy {r} t = let (u, v, e) = round-began t in rw e (busy (fit .plan) (trace-sound fit v) (not-ended v))
 
-  -- and it is one of those that there are
   pub began-below : {r : ℕ} {b : List Worker} {g : Stage} {s : State} → Trace S r b g s
       → (w j : ℕ) → getD b w Idle ≡ Holding j → w < countIn S r
-  began-below begins = held-below plan (countIn S 1) (start plan) (trace-sound S fit begins)
-  began-below (turned t h) = began-below t
-  began-below (goes-on t e) = began-below t
-  began-below (laid t h) = began-below t
-  began-below (all-laid t) = began-below t
-  began-below (served t h) = began-below t
-  began-below (next-round {r} {b} {s} t) = held-below plan (countIn S (suc r)) s (trace-sound S fit (next-round t))
+  began-below {r} t = let (u, v, e) = round-began t in rw e (λ w j. held-below (trace-sound fit v) w)
+
+  -- rounds count from 1
+  pub round-first : {r : ℕ} {b : List Worker} {g : Stage} {s : State} → Trace S r b g s → 1 ≤ r
+  round-first t = let (u, v, e) = round-began t in omega (arith, rounds-known v)

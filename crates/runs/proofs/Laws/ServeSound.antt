@@ -1,11 +1,13 @@
 -- A request and a service keep a state sound: a request and a miss change no line, and a steal is a theft.
-use Prim.Native.Nat.{ℕ, zero, suc, _%_, _≤_, _<_}
+--   lay-sound   == of the request of a worker that is idle
+--   serve-sound == of the service of a worker that waits on the victim
+use Prim.Native.Nat.{ℕ, zero, suc, _≤_, _<_}
 use mathlib.Core.Path.{_≡_, refl, ap, ap₂, sym, subst, fun-ext, _∙_}
-use mathlib.Core.Logic.{_≢_, by-cases}
+use mathlib.Core.Logic.{_≢_, by-cases, ⊎-elim}
 use mathlib.Core.List.{List, [], _∷_, _++_}
 use native.Mathlib.Omega.{arith}
 use native.Mathlib.Decide.{ℕ-discrete}
-use lib.ListN.{length, getD, set, length-set}
+use lib.ListN.{set, length-set}
 use lib.Seq.{getD-set-same, getD-set-other}
 use Rattle.runs.specs.declared.tally.Tally.{Tally}
 use Rattle.runs.specs.declared.worker.Worker.{Worker}
@@ -18,16 +20,17 @@ use Rattle.lines.proofs.Laws.Shape.{Good}
 use Rattle.lines.proofs.Laws.Steal.{steal-good}
 use Rattle.plan.specs.Rules.{Accepted}
 use Rattle.courses.proofs.Laws.PlanShape.{shape, shape-valid}
-use Rattle.runs.proofs.Laws.Lined.{lineIn, lineOf, Sound, line-of}
+use Rattle.runs.proofs.Laws.Lined.{lineIn, lineOf, Sound, line-of, held-or-empty}
+use Rattle.runs.proofs.Laws.Stores.{victimOf}
 
 -- the state with other workers
-abbrev pub withWorkers : State → List Worker → Tally → State
+abbrev withWorkers : State → List Worker → Tally → State
 withWorkers s ws t = record { next = s .next; workers = ws; deques = s .deques; rows = s .rows; tally = t }
 
 -- a worker that holds nothing may change to another that holds nothing
-pub free-sound : (p : Plan) (n : ℕ) → n ≤ 16 → (s : State) → Sound p n s → (w : ℕ) → w < n → lineOf s w ≡ [] → (k : Worker)
+free-sound : {p : Plan} {n : ℕ} → n ≤ 16 → {s : State} → Sound p n s → {w : ℕ} → w < n → lineOf s w ≡ [] → (k : Worker)
     → ((d : List ℕ) → lineIn k d ≡ []) → (t : Tally) → Sound p n (withWorkers s (set (s .workers) w k) t)
-free-sound p n most s sound w b free k is t =
+free-sound {p} {n} most {s} sound {w} b free k is t =
     record {
       nexts = sound .nexts;
       workers = length-set (s .workers) w k ∙ sound .workers;
@@ -41,47 +44,34 @@ free-sound p n most s sound w b free k is t =
     same : (v : ℕ) → lineOf (withWorkers s (set (s .workers) w k) t) v ≡ lineOf s v
     same v =
         by-cases (ℕ-discrete v w)
-        (λ q. rw q (ap (λ x. lineIn x (dequeOf s w)) (getD-set-same (s .workers) w k Idle (omega (arith, sound .workers))) ∙ is (dequeOf s w) ∙ sym free))
+        (λ q. rw q (
+        ap (λ x. lineIn x (dequeOf s w)) (getD-set-same (s .workers) w k Idle (omega (arith, sound .workers)))
+        ∙ is (dequeOf s w) ∙ sym free
+        ))
         (λ f. ap (λ x. lineIn x (dequeOf s v)) (getD-set-other (s .workers) w v k Idle f))
 
-pub lay-sound : (p : Plan) (n : ℕ) → n ≤ 16 → (S : Setting) (r w : ℕ) (k : Worker) (s : State) → w < n
-    → (k ≡ Idle → workerOf s w ≡ Idle) → Sound p n s → Sound p n (lay S r w k s)
+pub lay-sound : {p : Plan} {n : ℕ} → n ≤ 16 → {s : State} → Sound p n s → (S : Setting) (r : ℕ) {w : ℕ} → w < n → (k : Worker)
+    → (k ≡ Idle → workerOf s w ≡ Idle) → Sound p n (lay S r w k s)
 unfolding lay
-lay-sound p n most S r w Idle s b i sound =
-    free-sound p n most s sound w b (line-of s w Idle (i refl)) (Waiting (getD (S .choices) (s .tally .requests % length (S .choices)) 0) r) (λ d. refl)
-    (laid S r w s .tally)
-lay-sound p n most S r w (Holding j) s b i sound = sound
-lay-sound p n most S r w (Waiting v l) s b i sound = sound
+lay-sound most {s} sound S r {w} b Idle i =
+    free-sound most sound b (line-of s w (i refl)) (Waiting (victimOf S s) r) (λ d. refl) (laid S r w s .tally)
+lay-sound most sound S r b (Holding j) i = sound
+lay-sound most sound S r b (Waiting v l) i = sound
 
--- a request changes no other worker
-pub lay-others : (S : Setting) (r w : ℕ) (k : Worker) (s : State) (v : ℕ) → v ≢ w → workerOf (lay S r w k s) v ≡ workerOf s v
-unfolding lay
-lay-others S r w Idle s v f = getD-set-other (s .workers) w v _ Idle f
-lay-others S r w (Holding j) s v f = refl
-lay-others S r w (Waiting u l) s v f = refl
-
-pub top-split : (x : ℕ) (d : List ℕ) → x ∷ d ≡ dropTop (x ∷ d) ++ (topOf x d ∷ [])
+top-split : (x : ℕ) (d : List ℕ) → x ∷ d ≡ dropTop (x ∷ d) ++ (topOf x d ∷ [])
 top-split x [] = refl
 top-split x (y ∷ d) = ap (λ l. x ∷ l) (top-split y d)
 
-module _ (p : Plan) (ok : Accepted p) (n : ℕ) (most : n ≤ 16) (s : State) (sound : Sound p n s) (v : ℕ) (b : v < n) where
+module _ {p : Plan} (ok : Accepted p) {n : ℕ} (most : n ≤ 16) {s : State} (sound : Sound p n s) {v : ℕ} (b : v < n) where
   -- a worker with something on its deque holds a job
-  pub victim-holds : (x : ℕ) (d : List ℕ) → dequeOf s v ≡ x ∷ d → (j : ℕ) × (workerOf s v ≡ Holding j)
-  victim-holds x d q = go (workerOf s v) refl
-    where
-      none : lineOf s v ≡ [] → (j : ℕ) × (workerOf s v ≡ Holding j)
-      none e = let f = sound .empty v e in let z : _≡_ {A = ℕ} 0 1 = cc in absurd (omega arith)
+  victim-holds : {x : ℕ} {d : List ℕ} → dequeOf s v ≡ x ∷ d → (j : ℕ) × (workerOf s v ≡ Holding j)
+  victim-holds q = ⊎-elim (λ h. h) (λ e. let z : _≡_ {A = ℕ} 0 1 = cc in absurd (omega arith)) (held-or-empty sound v)
 
-      go : (k : Worker) → workerOf s v ≡ k → (j : ℕ) × (workerOf s v ≡ Holding j)
-      go Idle e = none (line-of s v Idle e)
-      go (Holding j) e = (j, e)
-      go (Waiting u l) e = none (line-of s v (Waiting u l) e)
-
-  module _ (w : ℕ) (c : w < n) (l : ℕ) (waits : workerOf s w ≡ Waiting v l) where
+  module _ {w : ℕ} (c : w < n) {l : ℕ} (waits : workerOf s w ≡ Waiting v l) where
     idle : lineOf s w ≡ []
-    idle = line-of s w (Waiting v l) waits
+    idle = line-of s w waits
 
-    module _ (x : ℕ) (d : List ℕ) (q : dequeOf s v ≡ x ∷ d) (j : ℕ) (holds : workerOf s v ≡ Holding j) where
+    module _ {x : ℕ} {d : List ℕ} (q : dequeOf s v ≡ x ∷ d) {j : ℕ} (holds : workerOf s v ≡ Holding j) where
       apart : v ≢ w
       apart e = let h = ap (workerOf s) e in let z : _≡_ {A = ℕ} 0 1 = cc in omega arith
 
@@ -109,7 +99,7 @@ module _ (p : Plan) (ok : Accepted p) (n : ℕ) (most : n ≤ 16) (s : State) (s
           }
         where
           is : lineOf s v ≡ (j ∷ dropTop (x ∷ d)) ++ (topOf x d ∷ [])
-          is = line-of s v (Holding j) holds ∙ ap (λ r. j ∷ r) (q ∙ top-split x d)
+          is = line-of s v holds ∙ ap (λ r. j ∷ r) (q ∙ top-split x d)
 
           stolen : dequeOf (given v w (x ∷ d) s) v ≡ dropTop (x ∷ d)
           stolen = getD-set-same (s .deques) v (dropTop (x ∷ d)) [] (omega (arith, sound .deques))
@@ -138,11 +128,10 @@ module _ (p : Plan) (ok : Accepted p) (n : ℕ) (most : n ≤ 16) (s : State) (s
 
     given-sound : (d : List ℕ) → dequeOf s v ≡ d → Sound p n (given v w d s)
     unfolding given
-    given-sound [] q = free-sound p n most s sound w c idle Idle (λ d. refl) (given v w [] s .tally)
-    given-sound (x ∷ d) q = let (j, h) = victim-holds x d q in steal-sound x d q j h
+    given-sound [] q = free-sound most sound c idle Idle (λ d. refl) (given v w [] s .tally)
+    given-sound (x ∷ d) q = let (j, h) = victim-holds q in steal-sound q h
 
-  -- whoever is served, if it waits on the victim
   pub serve-sound : (who : ℕ) → ((w : ℕ) → who ≡ suc w → (w < n) × (l : ℕ) × (workerOf s w ≡ Waiting v l)) → Sound p n (serve v who s)
   unfolding serve
   serve-sound zero waits = sound
-  serve-sound (suc w) waits = let (c, l, h) = waits w refl in given-sound w c l h (dequeOf s v) refl
+  serve-sound (suc w) waits = let (c, l, h) = waits w refl in given-sound c h (dequeOf s v) refl

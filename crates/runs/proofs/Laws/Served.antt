@@ -3,10 +3,14 @@
 -- one request fewer comes before one that waits, and when it was laid at most n - 1 did.
 --   ahead v a u x    == 1 where the worker u, which is x, waits on v with a request of a rank below a, 0 where it does not
 --   before n v a ws  == how many of the workers below n do
-use Prim.Native.Nat.{ℕ, zero, suc, _+_, _≤_, _<_, _%_, zero-le}
+--   Within v a xs ws == each request on v of a rank below a in xs is in ws too
+--   Roster n ws      == of the workers ws those below n are there: at most sixteen, each with its place, and who waits is one of them
+--   AllDue n r g ws  == at stage g of round r each request in ws can be served in time
+--   waits-served     == so when round r is over no request waits that was laid n - 1 rounds before it or earlier
+use Prim.Native.Nat.{ℕ, suc, _+_, _≤_, _<_, zero-le}
 use mathlib.Core.Path.{_≡_, refl, sym, ap, _∙_}
 use mathlib.Core.Logic.{_≢_, by-cases}
-use mathlib.Core.List.{List, [], _∷_}
+use mathlib.Core.List.{List}
 use native.Mathlib.Nat.{not-suc-le-zero}
 use native.Mathlib.Omega.{arith}
 use native.Mathlib.Decide.{ℕ-discrete, decLt}
@@ -16,16 +20,16 @@ use lib.Seq.{getD-set-same, getD-set-other}
 use Rattle.runs.specs.declared.worker.Worker.{Worker}
 use Rattle.runs.specs.declared.worker.Worker.the-variants.{Idle, Holding, Waiting}
 use Rattle.runs.specs.Setting.{Setting, countIn}
-use Rattle.runs.specs.State.{State, workerOf, dequeOf, start}
-use Rattle.runs.specs.Turn.{turn, idled, turnOf}
-use Rattle.runs.specs.Steal.{laid as laidBy, lay, oldest, topOf, given, serve, waits}
+use Rattle.runs.specs.State.{State, workerOf}
+use Rattle.runs.specs.Steal.{waits}
 use Rattle.runs.specs.Run.{choicesFit}
 use Rattle.lines.proofs.Laws.Sum.{sum, sum-le, sum-less, sum-bound, only, only-yes}
 use Rattle.runs.specs.Trace.{Stage, turning, laying, serving, Trace, begins, turned, goes-on, laid, all-laid, served, next-round}
 use Rattle.runs.proofs.Laws.Fit.{Fit, count-most, count-next}
-use Rattle.runs.proofs.Laws.Sound.{trace-sound}
+use Rattle.runs.proofs.Laws.Lined.{seen-below}
+use Rattle.runs.proofs.Laws.Sound.{trace-sound, workers-length}
 use Rattle.runs.proofs.Laws.Start.{start-calm}
-use Rattle.runs.proofs.Laws.Waits.{seated, seated-waits}
+use Rattle.runs.proofs.Laws.Stores.{victimOf, turned-workers, laid-workers, served-workers}
 use Rattle.runs.proofs.Laws.Victims.{victim-below}
 use Rattle.runs.proofs.Laws.Least.{rank, Best, oldest-best}
 
@@ -34,16 +38,16 @@ ahead v a u Idle = 0
 ahead v a u (Holding j) = 0
 ahead v a u (Waiting y m) = only (ℕ-discrete y v) (only (decLt (rank m u) a) 1)
 
-ahead-one : (v a u m : ℕ) (x : Worker) → x ≡ Waiting v m → rank m u < a → ahead v a u x ≡ 1
+ahead-one : {v a m : ℕ} {x : Worker} (u : ℕ) → x ≡ Waiting v m → rank m u < a → ahead v a u x ≡ 1
 unfolding ahead
-ahead-one v a u m x e h =
+ahead-one {v} {a} {m} u e h =
     ap (ahead v a u) e ∙ (only-yes (ℕ-discrete v v) (only (decLt (rank m u) a) 1) refl ∙ only-yes (decLt (rank m u) a) 1 h)
 
-ahead-most : (v a u : ℕ) (x : Worker) (b : ℕ) → ((m : ℕ) → x ≡ Waiting v m → rank m u < a → 1 ≤ b) → ahead v a u x ≤ b
+ahead-most : (v a u : ℕ) (x : Worker) {b : ℕ} → ((m : ℕ) → x ≡ Waiting v m → rank m u < a → 1 ≤ b) → ahead v a u x ≤ b
 unfolding ahead only
-ahead-most v a u Idle b f = zero-le
-ahead-most v a u (Holding j) b f = zero-le
-ahead-most v a u (Waiting y m) b f = go (ℕ-discrete y v) (decLt (rank m u) a)
+ahead-most v a u Idle f = zero-le
+ahead-most v a u (Holding j) f = zero-le
+ahead-most v a u (Waiting y m) {b} f = go (ℕ-discrete y v) (decLt (rank m u) a)
   where
     go : (d : Dec (y ≡ v)) (e : Dec (rank m u < a)) → only d (only e 1) ≤ b
     go (yes d) (yes e) = f m (ap (λ z. Waiting z m) d) e
@@ -53,32 +57,30 @@ ahead-most v a u (Waiting y m) b f = go (ℕ-discrete y v) (decLt (rank m u) a)
 abbrev before : ℕ → ℕ → ℕ → List Worker → ℕ
 before n v a ws = sum n (λ u. ahead v a u (getD ws u Idle))
 
-module _ (n v a : ℕ) where
-  -- each request of those ranks in xs is in ws too
-  abbrev Within : List Worker → List Worker → Type 0
-  Within xs ws = (u m : ℕ) → getD xs u Idle ≡ Waiting v m → rank m u < a → getD ws u Idle ≡ Waiting v m
+record Within (v a : ℕ) (xs ws : List Worker) : Type 0 where
+  stays : (u m : ℕ) → getD xs u Idle ≡ Waiting v m → rank m u < a → getD ws u Idle ≡ Waiting v m
 
-  module _ (xs ws : List Worker) (h : Within xs ws) where
-    ahead-within : (u : ℕ) → ahead v a u (getD xs u Idle) ≤ ahead v a u (getD ws u Idle)
-    ahead-within u =
-        ahead-most v a u (getD xs u Idle) (ahead v a u (getD ws u Idle)) (λ m e b. omega (arith, ahead-one v a u m (getD ws u Idle) (h u m e b) b))
+module _ (n : ℕ) {v a : ℕ} {xs ws : List Worker} (h : Within v a xs ws) where
+  ahead-within : (u : ℕ) → ahead v a u (getD xs u Idle) ≤ ahead v a u (getD ws u Idle)
+  ahead-within u = ahead-most v a u (getD xs u Idle) (λ m e b. omega (arith, ahead-one u (h .stays u m e b) b))
 
-    before-within : before n v a xs ≤ before n v a ws
-    before-within = sum-le n (λ u. ahead v a u (getD xs u Idle)) (λ u. ahead v a u (getD ws u Idle)) (λ u b. ahead-within u)
+  before-within : before n v a xs ≤ before n v a ws
+  before-within = sum-le n (λ u. ahead v a u (getD xs u Idle)) (λ u. ahead v a u (getD ws u Idle)) (λ u b. ahead-within u)
 
-    -- and one of those in ws is no longer in xs
-    before-less : (u m : ℕ) → u < n → getD ws u Idle ≡ Waiting v m → rank m u < a → waits (getD xs u Idle) ≡ 0 → before n v a xs < before n v a ws
-    before-less u m b e r c =
-        let none = ahead-most v a u (getD xs u Idle) 0 (λ l f q. omega (arith, ap waits f)) in
-        sum-less n (λ u. ahead v a u (getD xs u Idle)) (λ u. ahead v a u (getD ws u Idle)) (λ u b. ahead-within u) u b
-        (omega (arith, ahead-one v a u m (getD ws u Idle) e r))
+  -- and one of those in ws is no longer in xs
+  before-less : (u : ℕ) {m : ℕ} → u < n → getD ws u Idle ≡ Waiting v m → rank m u < a → waits (getD xs u Idle) ≡ 0
+      → before n v a xs < before n v a ws
+  before-less u b e r c =
+      let none = ahead-most v a u (getD xs u Idle) {b = 0} (λ l f q. omega (arith, ap waits f)) in
+      sum-less n (λ u. ahead v a u (getD xs u Idle)) (λ u. ahead v a u (getD ws u Idle)) (λ u b. ahead-within u) u b
+      (omega (arith, ahead-one u e r))
 
 -- no request comes before itself
-before-itself : (n v l w : ℕ) (ws : List Worker) → w < n → getD ws w Idle ≡ Waiting v l → before n v (rank l w) ws < n
-before-itself n v l w ws h e =
+before-itself : {n v l w : ℕ} (ws : List Worker) → w < n → getD ws w Idle ≡ Waiting v l → before n v (rank l w) ws < n
+before-itself {n} {v} {l} {w} ws h e =
     let f : ℕ → ℕ = λ u. ahead v (rank l w) u (getD ws u Idle) in
-    let none : f w ≤ 0 = ahead-most v (rank l w) w (getD ws w Idle) 0 (λ m q r. let s : l ≡ m = cc in omega arith) in
-    let less = sum-less n f (λ u. 1) (λ u b. ahead-most v (rank l w) u (getD ws u Idle) 1 (λ m q r. omega arith)) w h (omega arith) in
+    let none : f w ≤ 0 = ahead-most v (rank l w) w (getD ws w Idle) (λ m q r. let s : l ≡ m = cc in omega arith) in
+    let less = sum-less n f (λ u. 1) (λ u b. ahead-most v (rank l w) u (getD ws u Idle) (λ m q r. omega arith)) w h (omega arith) in
     omega (arith, sum-bound n (λ u. 1) 1 (λ u b. omega arith))
 
 -- a request laid on v in round l, before which c others come, at stage g of round r: one is served in each of the rounds from r on,
@@ -91,132 +93,112 @@ Due n r (serving k) v l c = (c + r < l + n) × (v < k → c + r + 1 < l + n)
 abbrev AllDue : ℕ → ℕ → Stage → List Worker → Type 0
 AllDue n r g ws = (w v l : ℕ) → getD ws w Idle ≡ Waiting v l → Due n r g v l (before n v (rank l w) ws)
 
--- a store of a worker that does not wait
-module _ (ws : List Worker) (k : ℕ) (x : Worker) (h : k < length ws) (calm : waits x ≡ 0) where
-  calm-set : (w v l : ℕ) → getD (set ws k x) w Idle ≡ Waiting v l → (w ≢ k) × (getD ws w Idle ≡ Waiting v l)
-  calm-set w v l e = (other, sym (getD-set-other ws k w x Idle other) ∙ e)
-    where
-      other : w ≢ k
-      other s = omega (arith, ap waits (sym (getD-set-same ws k x Idle h) ∙ (ap (λ z. getD (set ws k x) z Idle) (sym s) ∙ e)))
+record Roster (n : ℕ) (ws : List Worker) : Type 0 where
+  few : n ≤ 16
+  placed : n ≤ length ws
+  below : (w v l : ℕ) → getD ws w Idle ≡ Waiting v l → w < n
 
-  calm-before : (n v a : ℕ) → before n v a (set ws k x) ≤ before n v a ws
-  calm-before n v a = before-within n v a (set ws k x) ws (λ u m e b. calm-set u v m e .1)
+module _ {n : ℕ} {ws : List Worker} (all : Roster n ws) where
+  -- worker k gives way to one that does not wait
+  module _ {k : ℕ} (h : k < n) (x : Worker) (calm : waits x ≡ 0) where
+    here : getD (set ws k x) k Idle ≡ x
+    here = getD-set-same ws k x Idle (omega (arith, all .placed))
 
-  -- its request came before those of greater rank
-  calm-less : (n v a m : ℕ) → k < n → getD ws k Idle ≡ Waiting v m → rank m k < a → before n v a (set ws k x) < before n v a ws
-  calm-less n v a m b e r =
-      before-less n v a (set ws k x) ws (λ u m e b. calm-set u v m e .1) k m b e r (ap waits (getD-set-same ws k x Idle h) ∙ calm)
+    calm-set : (w : ℕ) {v l : ℕ} → getD (set ws k x) w Idle ≡ Waiting v l → (w ≢ k) × (getD ws w Idle ≡ Waiting v l)
+    calm-set w e = (other, sym (getD-set-other ws k w x Idle other) ∙ e)
+      where
+        other : w ≢ k
+        other s = omega (arith, ap waits (sym here ∙ (ap (λ z. getD (set ws k x) z Idle) (sym s) ∙ e)))
 
--- worker k lays a request on y in round r: it comes before none that was laid in an earlier round, and before one that was laid in
--- this round there are fewer than n
-module _ (n r k y : ℕ) (ws : List Worker) (most : n ≤ 16) (h : k < n) (len : k < length ws)
-    (below : (w v l : ℕ) → getD ws w Idle ≡ Waiting v l → w < n) where
-  abbrev after : List Worker
-  after = set ws k (Waiting y r)
+    calm-within : (v a : ℕ) → Within v a (set ws k x) ws
+    calm-within v a = record { stays = λ u m e b. calm-set u e .1 }
 
-  after-other : (w v l : ℕ) → w ≢ k → getD after w Idle ≡ Waiting v l → getD ws w Idle ≡ Waiting v l
-  after-other w v l d e = sym (getD-set-other ws k w (Waiting y r) Idle d) ∙ e
+    calm-before : (v a : ℕ) → before n v a (set ws k x) ≤ before n v a ws
+    calm-before v a = before-within n (calm-within v a)
 
-  after-same : (w v l : ℕ) → w ≡ k → getD after w Idle ≡ Waiting v l → l ≡ r
-  after-same w v l s e = cc (getD-set-same ws k (Waiting y r) Idle len, ap (λ z. getD after z Idle) s)
+    -- its request came before those of greater rank
+    calm-less : {v a m : ℕ} → getD ws k Idle ≡ Waiting v m → rank m k < a → before n v a (set ws k x) < before n v a ws
+    calm-less {v} {a} e r = before-less n (calm-within v a) k h e r (ap waits here ∙ calm)
 
-  laid-due : AllDue n r (laying k) ws → AllDue n r (laying (suc k)) after
-  laid-due i w v l e = by-cases (decLt l r) old (λ f. omega (arith, before-itself n v l w after inside e))
-    where
-      inside : w < n
-      inside = by-cases (ℕ-discrete w k) (λ s. omega arith) (λ d. below w v l (after-other w v l d e))
+  -- worker k lays a request on y in round r: it comes before none that was laid in an earlier round, and before one that was laid in
+  -- this round there are fewer than n
+  module _ {k : ℕ} (h : k < n) (y r : ℕ) where
+    abbrev after : List Worker
+    after = set ws k (Waiting y r)
 
-      old : l < r → before n v (rank l w) after + r < l + n
-      old b =
-          let within = before-within n v (rank l w) after ws (λ u m g c.
-          by-cases (ℕ-discrete u k) (λ s. absurd (omega (arith, after-same u v m s g, inside))) (λ d. after-other u v m d g)) in
-          omega (arith, i w v l (after-other w v l (λ s. omega (arith, after-same w v l s e)) e))
+    after-other : (w : ℕ) {v l : ℕ} → w ≢ k → getD after w Idle ≡ Waiting v l → getD ws w Idle ≡ Waiting v l
+    after-other w d e = sym (getD-set-other ws k w (Waiting y r) Idle d) ∙ e
 
--- victim k finds no request, or serves that of worker x, laid in round m, which came before every other one at k
-module _ (n r k : ℕ) (ws : List Worker) (below : (w v l : ℕ) → getD ws w Idle ≡ Waiting v l → w < n) (i : AllDue n r (serving k) ws) where
-  none-due : Best k n ws 0 0 → AllDue n r (serving (suc k)) ws
-  none-due best w v l e = (
+    after-same : (w : ℕ) {v l : ℕ} → w ≡ k → getD after w Idle ≡ Waiting v l → l ≡ r
+    after-same w s e = cc (getD-set-same ws k (Waiting y r) Idle (omega (arith, all .placed)), ap (λ z. getD after z Idle) s)
+
+    laid-due : AllDue n r (laying k) ws → AllDue n r (laying (suc k)) after
+    laid-due i w v l e = by-cases (decLt l r) old (λ f. omega (arith, before-itself after inside e))
+      where
+        inside : w < n
+        inside = by-cases (ℕ-discrete w k) (λ s. omega arith) (λ d. all .below w v l (after-other w d e))
+
+        earlier : l < r → Within v (rank l w) after ws
+        earlier b = record {
+          stays = λ u m g c. by-cases (ℕ-discrete u k)
+              (λ s. absurd (omega (arith, after-same u s g, inside, all .few))) (λ d. after-other u d g);
+        }
+
+        old : l < r → before n v (rank l w) after + r < l + n
+        old b = omega (arith, before-within n (earlier b), i w v l (after-other w (λ s. omega (arith, after-same w s e)) e))
+
+  -- victim k finds no request
+  none-due : (r : ℕ) {k : ℕ} → AllDue n r (serving k) ws → Best k n ws 0 0 → AllDue n r (serving (suc k)) ws
+  none-due r {k} i best w v l e = (
     i w v l e .0,
-    λ b.
-        by-cases (ℕ-discrete v k) (λ s. absurd (best w l (below w v l e) (e ∙ ap (λ z. Waiting z l) s))) (λ d. i w v l e .1 (omega arith)),
+    λ b. by-cases (ℕ-discrete v k)
+        (λ s. absurd (best w l (all .below w v l e) (e ∙ ap (λ z. Waiting z l) s))) (λ d. i w v l e .1 (omega arith)),
   )
 
-  served-due : (x m : ℕ) → Best k n ws (suc x) m → (y : Worker) → x < length ws → waits y ≡ 0 → AllDue n r (serving (suc k)) (set ws x y)
-  served-due x m best y len calm w v l e =
-      let (d, q) = calm-set ws x y len calm w v l e in
-      let less = calm-before ws x y len calm n v (rank l w) in
+  -- or serves that of worker x, laid in round m, which came before every other one at k
+  served-due : (r : ℕ) {k : ℕ} → AllDue n r (serving k) ws → {x m : ℕ} → Best k n ws (suc x) m → (y : Worker) → waits y ≡ 0
+      → AllDue n r (serving (suc k)) (set ws x y)
+  served-due r {k} i {x} {m} best y calm w v l e =
+      let (d, q) = calm-set (best .0) y calm w e in
+      let less = calm-before (best .0) y calm v (rank l w) in
       let due = i w v l q in (
         omega arith,
-        λ b.
-            by-cases (ℕ-discrete v k)
+        λ b. by-cases (ℕ-discrete v k)
             (λ s.
-            let first = best .2 w l (below w v l q) d (q ∙ ap (λ z. Waiting z l) s) in
-            omega (arith, calm-less ws x y len calm n v (rank l w) m (best .0) (best .1 ∙ ap (λ z. Waiting z m) (sym s)) first))
+            let first = best .2 w l (all .below w v l q) d (q ∙ ap (λ z. Waiting z l) s) in
+            omega (arith, calm-less (best .0) y calm (best .1 ∙ ap (λ z. Waiting z m) (sym s)) first))
             (λ f. omega (arith, due .1 (omega arith))),
       )
 
-module _ (S : Setting) (fit : Fit S) (chosen : T (choicesFit (S .workers) (S .choices))) where
+module _ {S : Setting} (fit : Fit S) (chosen : T (choicesFit (S .workers) (S .choices))) where
   open Setting S using (plan, choices)
 
-  worker-below : {r : ℕ} {b : List Worker} {g : Stage} {s : State} → Trace S r b g s → (w v l : ℕ) → workerOf s w ≡ Waiting v l → w < countIn S r
-  worker-below {r} t w v l e =
-      by-cases (decLt w (countIn S r)) (λ h. h)
-      (λ f. let z : _≡_ {A = ℕ} 0 1 = cc (trace-sound S fit t .absent w (omega arith)) in absurd (omega arith))
-
-  workers-length : {r : ℕ} {b : List Worker} {g : Stage} {s : State} → Trace S r b g s → (k : ℕ) → k < countIn S r → k < length (s .workers)
-  workers-length {r} t k h = omega (arith, trace-sound S fit t .workers, count-most S fit r)
+  roster : {r : ℕ} {b : List Worker} {g : Stage} {s : State} → Trace S r b g s → Roster (countIn S r) (s .workers)
+  roster {r} t = record {
+    few = count-most fit r;
+    placed = workers-length fit t;
+    below = λ w v l e. seen-below (trace-sound fit t) w (λ q. omega (arith, ap waits (sym e ∙ q)));
+  }
 
   all-due : {r : ℕ} {b : List Worker} {g : Stage} {s : State} → Trace S r b g s → AllDue (countIn S r) r g (s .workers)
-  unfolding turnOf turn idled lay laidBy serve given start
   all-due begins = λ w v l e. absurd (omega (arith, start-calm plan w, ap waits e))
-  all-due (turned {r} {k} {b} {s} t h) = go (getD b k Idle) (all-due t)
-    where
-      go : (x : Worker) → AllDue (countIn S r) r (turning k) (s .workers) → AllDue (countIn S r) r (turning (suc k)) (turnOf plan r k x s .workers)
-      go Idle i = i
-      go (Waiting v l) i = i
-      go (Holding j) i = calm (seated plan k j s) (seated-waits plan k j s)
-        where
-          calm : (x : Worker) → waits x ≡ 0 → AllDue (countIn S r) r (turning (suc k)) (set (s .workers) k x)
-          calm x c w v l e =
-              let len = workers-length t k h in
-              omega (arith, calm-before (s .workers) k x len c (countIn S r) v (rank l w), i w v l (calm-set (s .workers) k x len c w v l e .1))
+  all-due (turned {r} {k} t h) =
+      turned-workers (AllDue (countIn S r) r (turning (suc k))) t (all-due t) (λ j y q c w v l e.
+      omega (arith, calm-before (roster t) h y c v (rank l w), all-due t w v l (calm-set (roster t) h y c w e .1)))
   all-due (goes-on t e) = all-due t
-  all-due (laid {r} {k} {b} {s} t h) = go (getD b k Idle) (all-due t)
-    where
-      go : (x : Worker) → AllDue (countIn S r) r (laying k) (s .workers) → AllDue (countIn S r) r (laying (suc k)) (lay S r k x s .workers)
-      go Idle i = laid-due (countIn S r) r k (getD choices (s .tally .requests % length choices) 0) (s .workers) (count-most S fit r) h (workers-length t k h) (worker-below t) i
-      go (Holding j) i = i
-      go (Waiting v l) i = i
+  all-due (laid {r} {k} {s = s} t h) =
+      laid-workers (AllDue (countIn S r) r (laying (suc k))) t (all-due t) (λ e. laid-due (roster t) h (victimOf S s) r (all-due t))
   all-due (all-laid t) = λ w v l e. (all-due t w v l e, λ b. absurd (not-suc-le-zero b))
-  all-due (served {r} {k} {b} {s} t h) =
-      go (oldest k (countIn S r) (s .workers) .who) (oldest k (countIn S r) (s .workers) .laid) (oldest-best k (countIn S r) (s .workers) (count-most S fit r)) (all-due t)
-    where
-      go : (q m : ℕ) → Best k (countIn S r) (s .workers) q m → AllDue (countIn S r) r (serving k) (s .workers) → AllDue (countIn S r) r (serving (suc k)) (serve k q s .workers)
-      go zero m best i = none-due (countIn S r) r k (s .workers) (worker-below t) i best
-      go (suc x) m best i = gives (dequeOf s k)
-        where
-          due : (y : Worker) → waits y ≡ 0 → AllDue (countIn S r) r (serving (suc k)) (set (s .workers) x y)
-          due y = served-due (countIn S r) r k (s .workers) (worker-below t) i x m best y (workers-length t x (best .0))
+  all-due (served {r} {k} {s = s} t h) =
+      let best = oldest-best k (countIn S r) (s .workers) (count-most fit r) in
+      served-workers (AllDue (countIn S r) r (serving (suc k))) t (λ e. none-due (roster t) r (all-due t) (rw e at best))
+      (λ x y e. served-due (roster t) r (all-due t) (rw e at best) y)
+  all-due (next-round {r} t) = rw (count-next S r) λ w v l e. omega (arith, all-due t w v l e .1 (victim-below fit chosen t w v l e .0))
 
-          gives : (d : List ℕ) → AllDue (countIn S r) r (serving (suc k)) (given k x d s .workers)
-          gives [] = due Idle refl
-          gives (y ∷ d) = due (Holding (topOf y d)) refl
-  all-due (next-round {r} t) = rw (count-next S r) λ w v l e. omega (arith, all-due t w v l e .1 (victim-below S fit chosen t w v l e .0))
-
-  -- a request that still waits when round r is over was laid in a round l with r < l + (n - 1): it is served in round l + countIn S r - 1 at the latest
-  pub waits-served : {r : ℕ} {b : List Worker} {s : State} → Trace S r b (serving (countIn S r)) s → (w v l : ℕ) → workerOf s w ≡ Waiting v l
-      → (l ≤ r) × (r + 2 ≤ l + countIn S r)
+  -- a request that still waits when round r is over was laid in a round l with r < l + (n - 1): it is served in round l + n - 1 at
+  -- the latest
+  pub waits-served : {r : ℕ} {b : List Worker} {s : State} → Trace S r b (serving (countIn S r)) s
+      → (w v l : ℕ) → workerOf s w ≡ Waiting v l → (l ≤ r) × (r + 2 ≤ l + countIn S r)
   waits-served t w v l e =
-      let (below, first, round) = victim-below S fit chosen t w v l e in
+      let (below, first, round) = victim-below fit chosen t w v l e in
       (round, omega (arith, all-due t w v l e .1 below))
-
-  -- so no state of a round past that one has it
-  pub waits-late : {r : ℕ} {b : List Worker} {g : Stage} {s : State} → Trace S r b g s → (w v l : ℕ) → workerOf s w ≡ Waiting v l
-      → (l ≤ r) × (r + 1 ≤ l + countIn S r)
-  waits-late {r} {g = g} {s} t w v l e =
-      (victim-below S fit chosen t w v l e .2, go g (before (countIn S r) v (rank l w) (s .workers)) (all-due t w v l e))
-    where
-      go : (g : Stage) (c : ℕ) → Due (countIn S r) r g v l c → r + 1 ≤ l + countIn S r
-      go (turning k) c i = omega arith
-      go (laying k) c i = omega arith
-      go (serving k) c i = omega arith

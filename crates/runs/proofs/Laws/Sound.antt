@@ -1,17 +1,19 @@
--- What holds of every state of a run: its lines are good, and a worker that holds nothing has an empty deque.
+-- Every state of a run is sound, and what follows for a sound state.
+--   trace-sound == every state of a run is sound
+--   space       == the living frames weigh at most the number of workers times the heaviest path
+--   busy        == until job 0 has ended some worker holds a job
+--   all-done    == when job 0 has ended every action is done
 use Prim.Native.Nat.{ℕ, _*_, _≤_, _<_}
-use mathlib.Core.Path.{_≡_, refl, _∙_}
-use mathlib.Core.Logic.{by-cases}
+use mathlib.Core.Path.{_≡_, refl}
 use mathlib.Core.Bool.{true, false}
 use mathlib.Core.List.{List}
 use native.Mathlib.Omega.{arith}
 use native.Mathlib.Nat.{le-refl, le-trans, mul-le-mul}
-use native.Mathlib.Decide.{ℕ-discrete}
 use lib.ListN.{length, getD, length-replicate}
 use lib.Dec.{leb→le, nleb→lt}
 use Rattle.runs.specs.declared.worker.Worker.{Worker}
 use Rattle.runs.specs.declared.worker.Worker.the-variants.{Idle, Holding}
-use Rattle.plan.specs.Plan.{Plan, size, total, parent, spawnAt}
+use Rattle.plan.specs.Plan.{Plan, size, total}
 use Rattle.plan_measure.specs.Measure.{heaviest}
 use Rattle.runs.specs.State.{State, nextOf, workerOf, dequeOf, start}
 use Rattle.courses.specs.Row.{noRow}
@@ -28,105 +30,68 @@ use Rattle.lines.proofs.Laws.Weight.{filled-most}
 use Rattle.courses.proofs.Laws.Space.{leaves-space}
 use Rattle.plan.specs.Rules.{Accepted}
 use Rattle.plan.proofs.Laws.Valid.{jobs-range}
-use Rattle.runs.specs.Trace.{Stage, turning, laying, Trace, begins, turned, goes-on, laid, all-laid, served, next-round}
-use Rattle.courses.proofs.Laws.PlanShape.{shape-valid}
+use Rattle.runs.specs.Trace.{Stage, Trace, begins, turned, goes-on, laid, all-laid, served, next-round}
+use Rattle.courses.proofs.Laws.PlanShape.{shape, shape-valid}
 use Rattle.runs.proofs.Laws.Fit.{Fit, count-some, count-most, count-next}
 use Rattle.runs.proofs.Laws.Start.{none-done, start-idle, start-deque}
 use Rattle.runs.proofs.Laws.Least.{oldest-waits}
-use Rattle.runs.proofs.Laws.Lined.{line-of, held-in, line-held, held-below}
-use Rattle.runs.proofs.Laws.TurnSound.{turn-others, turn-still, turnOf-sound}
-use Rattle.runs.proofs.Laws.ServeSound.{lay-others, lay-sound, serve-sound}
-pub use Rattle.courses.proofs.Laws.PlanShape.{shape}
-pub use Rattle.runs.proofs.Laws.Lined.{lineIn, lineOf, Sound}
+use Rattle.runs.proofs.Laws.Lined.{lineOf, Sound, line-of, line-held, held-below}
+use Rattle.runs.proofs.Laws.Began.{trace-began, laying-idle}
+use Rattle.runs.proofs.Laws.TurnSound.{turnOf-sound}
+use Rattle.runs.proofs.Laws.ServeSound.{lay-sound, serve-sound}
 
-module _ (p : Plan) (ok : Accepted p) (n : ℕ) (some : 1 ≤ n) where
-  pub start-sound : Sound p n (start p)
+module _ {p : Plan} (ok : Accepted p) {n : ℕ} where
+  pub start-sound : 1 ≤ n → Sound p n (start p)
   unfolding start
-  start-sound = record {
+  start-sound some = record {
     nexts = length-replicate (length p) 0;
     workers = refl;
     deques = refl;
     rows = length-replicate (total p) noRow;
     good = start-good (shape p) (shape-valid p ok) (nextOf (start p)) (lineOf (start p)) (none-done p) refl
-        (λ w f. line-of (start p) w Idle (start-idle p w f));
+        (λ w f. line-of (start p) w (start-idle p w f));
     empty = λ w e. start-deque p w;
     absent = λ w h. start-idle p w (λ e. omega arith);
   }
 
-module _ (p : Plan) (ok : Accepted p) (n : ℕ) (s : State) (sound : Sound p n s) where
-  leaves : Leaves (shape p) (nextOf s) (lineOf s)
-  leaves = good-leaves (shape p) (shape-valid p ok) (nextOf s) (lineOf s) (sound .good)
+  module _ {s : State} (sound : Sound p n s) where
+    leaves : Leaves (shape p) (nextOf s) (lineOf s)
+    leaves = good-leaves (shape p) (shape-valid p ok) (nextOf s) (lineOf s) (sound .good)
 
-  -- the living frames weigh at most the number of workers times the heaviest path
-  pub space : weight p (s .next) ≤ n * heaviest p
-  space =
-      le-trans (leaves-space p ok (s .next) (lineOf s) leaves n (λ w h. line-of s w Idle (sound .absent w h)))
-      (mul-le-mul (filled-most n (lineOf s)) (le-refl (heaviest p)))
+    pub space : weight p (s .next) ≤ n * heaviest p
+    space =
+        le-trans (leaves-space p ok (s .next) (lineOf s) leaves n (λ w h. line-of s w (sound .absent w h)))
+        (mul-le-mul (filled-most n (lineOf s)) (le-refl (heaviest p)))
 
-  -- until job 0 has ended some worker holds a job
-  pub busy : ended p s ≡ false → (w : ℕ) × (j : ℕ) × (w < n) × (workerOf s w ≡ Holding j)
-  busy e =
-      let root : Living (shape p) (nextOf s) 0 = record {
-        below = jobs-range p ok .0;
-        begun = λ o. absurd (omega arith);
-        left = nleb→lt (size p 0) (nextOf s 0) (rw e tt);
-      } in
-      let (w, h, l, i) = Cover.busy (shape p) (shape-valid p ok) (nextOf s) (lineOf s) leaves root in
-      let q = line-held (workerOf s w) (dequeOf s w) h l i .0 in
-      (w, h, held-below p n s sound w h q, q)
+    pub busy : ended p s ≡ false → (w : ℕ) × (j : ℕ) × (w < n) × (workerOf s w ≡ Holding j)
+    busy e =
+        let root : Living (shape p) (nextOf s) 0 = record {
+          below = jobs-range p ok .0;
+          begun = λ o. absurd (omega arith);
+          left = nleb→lt (size p 0) (nextOf s 0) (rw e tt);
+        } in
+        let (w, h, l, i) = Cover.busy (shape p) (shape-valid p ok) (nextOf s) (lineOf s) leaves root in
+        let q = line-held (workerOf s w) (dequeOf s w) i .0 in
+        (w, h, held-below sound w q, q)
 
-  -- when job 0 has ended every action is done
-  pub all-done : ended p s ≡ true → (j : ℕ) → j < length p → nextOf s j ≡ size p j
-  all-done e =
-      Progress.all-done (shape p) (shape-valid p ok) (nextOf s) (sound .good .closed) (leb→le (size p 0) (nextOf s 0) (rw e tt))
+    pub all-done : ended p s ≡ true → (j : ℕ) → j < length p → nextOf s j ≡ size p j
+    all-done e =
+        Progress.all-done (shape p) (shape-valid p ok) (nextOf s) (sound .good .closed) (leb→le (size p 0) (nextOf s 0) (rw e tt))
 
-  pub next-bound : (j : ℕ) → j < length p → nextOf s j ≤ size p j
-  next-bound = sound .good .closed .bound
+module _ {S : Setting} (fit : Fit S) where
+  pub trace-sound : {r : ℕ} {b : List Worker} {g : Stage} {s : State} → Trace S r b g s → Sound (S .plan) (countIn S r) s
+  trace-sound begins = start-sound (fit .plan) (count-some fit 1)
+  trace-sound (turned {r} {k} {b} {s} t l) =
+      turnOf-sound (fit .plan) (count-most fit r) (trace-sound t) r k (getD b k Idle) (trace-began t k (le-refl k))
+  trace-sound (goes-on t f) = trace-sound t
+  trace-sound (laid {r} {k} {b} {s} t l) =
+      lay-sound (count-most fit r) (trace-sound t) S r l (getD b k Idle) (laying-idle t k (le-refl k))
+  trace-sound (all-laid t) = trace-sound t
+  trace-sound (served {r} {k} {b} {s} t l) =
+      serve-sound (fit .plan) (count-most fit r) (trace-sound t) l (oldest k (countIn S r) (s .workers) .who)
+      (λ w. oldest-waits k (countIn S r) (s .workers) (count-most fit r))
+  trace-sound (next-round {r} t) = rw (count-next S r) (trace-sound t)
 
-  -- the job that a worker holds: its next action is there, and its spawner is done
-  pub held-job : (w j : ℕ) → workerOf s w ≡ Holding j → (j < length p) × (nextOf s j < size p j) × (1 ≤ j → spawnAt p j < nextOf s (parent p j))
-  held-job w j e = let a = sound .good .here w j (held-in s w j e) .0 in (a .below, a .left, a .begun)
-
-  -- no job is held by two workers
-  pub held-once : (v w j : ℕ) → workerOf s v ≡ Holding j → workerOf s w ≡ Holding j → v ≡ w
-  held-once v w j e f = sound .good .apart v w j (held-in s v j e) (held-in s w j f)
-
-module _ (S : Setting) where
-  -- while the turns of a round are taken, a worker that has not had its turn is as the round began
-  pub trace-began : {r k : ℕ} {b : List Worker} {s : State} → Trace S r b (turning k) s
-      → (w : ℕ) → k ≤ w → workerOf s w ≡ getD b w Idle
-  trace-began begins w h = refl
-  trace-began (next-round t) w h = refl
-  trace-began (turned {r} {k} {b} {s} t l) w h =
-      turn-others (S .plan) r k (getD b k Idle) s w (λ e. omega arith) ∙ trace-began t w (omega arith)
-
-  -- a worker that was idle as the round began is so after the turns
-  pub trace-idle : {r k : ℕ} {b : List Worker} {s : State} → Trace S r b (turning k) s
-      → (w : ℕ) → getD b w Idle ≡ Idle → workerOf s w ≡ Idle
-  trace-idle begins w e = e
-  trace-idle (next-round t) w e = e
-  trace-idle (turned {r} {k} {b} {s} t l) w e =
-      by-cases (ℕ-discrete w k) (λ q. turn-still (S .plan) r k (getD b k Idle) s w (rw q at e)) (turn-others (S .plan) r k (getD b k Idle) s w)
-      ∙ trace-idle t w e
-
-  -- and until it lays a request
-  pub laying-idle : {r k : ℕ} {b : List Worker} {s : State} → Trace S r b (laying k) s
-      → (w : ℕ) → k ≤ w → getD b w Idle ≡ Idle → workerOf s w ≡ Idle
-  laying-idle (goes-on t f) w h e = trace-idle t w e
-  laying-idle (laid {r} {k} {b} {s} t l) w h e =
-      lay-others S r k (getD b k Idle) s w (λ q. omega arith) ∙ laying-idle t w (omega arith) e
-
-  module _ (fit : Fit S) where
-    -- the state of every stage of a run is sound
-    pub trace-sound : {r : ℕ} {b : List Worker} {g : Stage} {s : State} → Trace S r b g s → Sound (S .plan) (countIn S r) s
-    trace-sound begins = start-sound (S .plan) (fit .plan) (countIn S 1) (count-some S fit 1)
-    trace-sound (turned {r} {k} {b} {s} t l) =
-        turnOf-sound (S .plan) (fit .plan) (countIn S r) (count-most S fit r) r k (getD b k Idle) s (trace-began t k (le-refl k)) (trace-sound t)
-    trace-sound (goes-on t f) = trace-sound t
-    trace-sound (laid {r} {k} {b} {s} t l) =
-        lay-sound (S .plan) (countIn S r) (count-most S fit r) S r k (getD b k Idle) s l (laying-idle t k (le-refl k)) (trace-sound t)
-    trace-sound (all-laid t) = trace-sound t
-    trace-sound (served {r} {k} {b} {s} t l) =
-        serve-sound (S .plan) (fit .plan) (countIn S r) (count-most S fit r) s (trace-sound t) k l (oldest k (countIn S r) (s .workers) .who)
-        (oldest-waits k (countIn S r) (s .workers) (count-most S fit r))
-    trace-sound (next-round {r} t) = rw (count-next S r) (trace-sound t)
+  -- each worker that there is has its place
+  pub workers-length : {r : ℕ} {b : List Worker} {g : Stage} {s : State} → Trace S r b g s → countIn S r ≤ length (s .workers)
+  workers-length {r} t = omega (arith, trace-sound t .workers, count-most fit r)

@@ -1,4 +1,6 @@
 -- How a run begins: nothing is done, worker 0 holds job 0, no other worker holds a job or waits, and every deque is empty.
+--   none-done, start-idle, start-calm, start-deque == these, in this order
+--   start-turns, start-peak                        == no turn is counted, and the peak is job 0's frame
 use Prim.Native.Nat.{ℕ, zero, suc}
 use mathlib.Core.Path.{_≡_, refl, ap}
 use mathlib.Core.Logic.{_≢_}

@@ -1,5 +1,8 @@
 -- The counts of turns and requests in every state of a run: each worker has one turn in a round, and lays at most one request.
---   counts S r == how many turns the rounds up to round r have
+--   counts S r                == how many turns the rounds up to round r have
+--   turns-sum                 == when every worker has had its turn in round r, the tally has as many
+--   turns-most, requests-most == before that no more turns, and never more requests
+--   lone-holds, lone-idle     == a worker that is alone holds a job as each round begins, so it never idles
 use Prim.Native.Nat.{ℕ, zero, suc, _+_, _*_, _≤_, _<_}
 use mathlib.Core.Path.{_≡_, refl, ap, _∙_}
 use mathlib.Core.List.{List, [], _∷_}
@@ -9,25 +12,23 @@ use lib.ListN.{getD}
 use Rattle.runs.specs.declared.tally.Tally.{Tally}
 use Rattle.runs.specs.declared.worker.Worker.{Worker}
 use Rattle.runs.specs.declared.worker.Worker.the-variants.{Idle, Holding, Waiting}
-use Rattle.plan.specs.Plan.{Plan}
 use Rattle.runs.specs.Setting.{Setting, countIn}
 use Rattle.runs.specs.State.{State, dequeOf, start}
-use Rattle.runs.specs.Turn.{turn, idled, turnOf}
+use Rattle.runs.specs.Turn.{turn, turnOf}
 use Rattle.runs.specs.Steal.{laid as laidBy, lay, oldest, given, serve}
 use Rattle.runs.specs.Trace.{Stage, turning, laying, serving, Trace, begins, turned, goes-on, laid, all-laid, served, next-round}
 use Rattle.runs.proofs.Laws.Fit.{Fit, count-most, count-within, count-is}
-use Rattle.runs.proofs.Laws.Rests.{lay-rests, serve-rests}
+use Rattle.runs.proofs.Laws.Rests.{turned-took, laid-rests, served-rests}
 use Rattle.runs.proofs.Laws.Rounds.{began-busy}
 
--- how many turns the rounds up to round r have
 unfoldable pub counts : Setting → ℕ → ℕ
 counts S zero = 0
 counts S (suc r) = counts S r + countIn S (suc r)
 
-pub counts-most : (S : Setting) → Fit S → (r : ℕ) → counts S r ≤ 16 * r
+pub counts-most : {S : Setting} → Fit S → (r : ℕ) → counts S r ≤ 16 * r
 unfolding counts
-counts-most S fit zero = omega arith
-counts-most S fit (suc r) = omega (arith, counts-most S fit r, count-most S fit (suc r))
+counts-most fit zero = omega arith
+counts-most fit (suc r) = omega (arith, counts-most fit r, count-most fit (suc r))
 
 -- each round has the same number of workers
 pub counts-same : (S : Setting) (r : ℕ) → counts S r ≡ S .workers * r
@@ -36,22 +37,16 @@ counts-same S zero = omega (arith, mul-zero (S .workers))
 counts-same S (suc r) = omega (arith, counts-same S r, count-is S (suc r), mul-suc (S .workers) r)
 
 -- the turns of the rounds before, and of the workers below k in this one
-abbrev pub Turned : Setting → Stage → ℕ → Tally → Type 0
+abbrev Turned : Setting → Stage → ℕ → Tally → Type 0
 Turned S (turning k) r t = (k ≤ countIn S r) × (counts S r + k ≡ countIn S r + (t .actions + t .idle))
 Turned S (laying k) r t = counts S r ≡ t .actions + t .idle
 Turned S (serving k) r t = counts S r ≡ t .actions + t .idle
 
 -- no more requests than turns in the rounds before, and in this one of the workers below k
-abbrev pub Requested : Setting → Stage → ℕ → ℕ → Type 0
+abbrev Requested : Setting → Stage → ℕ → ℕ → Type 0
 Requested S (turning k) r q = q + countIn S r ≤ counts S r
 Requested S (laying k) r q = (k ≤ countIn S r) × (q + countIn S r ≤ counts S r + k)
 Requested S (serving k) r q = q ≤ counts S r
-
-pub turn-requests : (p : Plan) (r w : ℕ) (x : Worker) (s : State) → turnOf p r w x s .tally .requests ≡ s .tally .requests
-unfolding turnOf turn idled
-turn-requests p r w Idle s = refl
-turn-requests p r w (Holding j) s = refl
-turn-requests p r w (Waiting v l) s = refl
 
 pub serve-requests : (v who : ℕ) (s : State) → serve v who s .tally .requests ≡ s .tally .requests
 unfolding serve given
@@ -62,36 +57,29 @@ serve-requests v (suc w) s = go (dequeOf s v)
     go [] = refl
     go (x ∷ d) = refl
 
-pub lay-requests : (S : Setting) (r w : ℕ) (x : Worker) (s : State) → lay S r w x s .tally .requests ≤ suc (s .tally .requests)
+lay-requests : (S : Setting) (r w : ℕ) (x : Worker) (s : State) → lay S r w x s .tally .requests ≤ suc (s .tally .requests)
 unfolding lay laidBy
 lay-requests S r w Idle s = omega arith
 lay-requests S r w (Holding j) s = omega arith
 lay-requests S r w (Waiting v l) s = omega arith
 
-module _ (S : Setting) (fit : Fit S) where
+module _ {S : Setting} (fit : Fit S) where
   open Setting S using (plan)
 
-  pub turns-counted : {r : ℕ} {b : List Worker} {g : Stage} {s : State} → Trace S r b g s → Turned S g r (s .tally)
-  unfolding turnOf turn idled start counts
+  turns-counted : {r : ℕ} {b : List Worker} {g : Stage} {s : State} → Trace S r b g s → Turned S g r (s .tally)
+  unfolding start counts
   turns-counted begins = (omega arith, omega arith)
-  turns-counted (turned {r} {k} {b} {s} t h) = go (getD b k Idle) (turns-counted t)
-    where
-      go : (x : Worker) → Turned S (turning k) r (s .tally) → Turned S (turning (suc k)) r (turnOf plan r k x s .tally)
-      go Idle i = (h, omega (arith, i .1))
-      go (Holding j) i = (h, omega (arith, i .1))
-      go (Waiting v l) i = (h, omega (arith, i .1))
+  turns-counted (turned t h) = (h, omega (arith, turns-counted t, turned-took t .turns))
   turns-counted (goes-on t e) = omega (arith, turns-counted t)
-  turns-counted (laid {r} {k} {b} {s} t h) = let q = lay-rests S r k (getD b k Idle) s in omega (arith, turns-counted t, q .actions, q .idle)
+  turns-counted (laid t h) = let q = laid-rests t in omega (arith, turns-counted t, q .actions, q .idle)
   turns-counted (all-laid t) = turns-counted t
-  turns-counted (served {r} {k} {b} {s} t h) =
-      let q = serve-rests k (oldest k (countIn S r) (s .workers) .who) s in omega (arith, turns-counted t, q .actions, q .idle)
+  turns-counted (served t h) = let q = served-rests t in omega (arith, turns-counted t, q .actions, q .idle)
   turns-counted (next-round {r} t) = (omega arith, omega (arith, turns-counted t))
 
-  -- when every worker has had its turn in round r
-  pub turns-sum : {r : ℕ} {b : List Worker} {s : State} → Trace S r b (turning (countIn S r)) s → counts S r ≡ s .tally .actions + s .tally .idle
+  pub turns-sum : {r : ℕ} {b : List Worker} {s : State} → Trace S r b (turning (countIn S r)) s
+      → counts S r ≡ s .tally .actions + s .tally .idle
   turns-sum t = omega (arith, turns-counted t)
 
-  -- no more turns than workers in the rounds up to the present one
   pub turns-most : {r : ℕ} {b : List Worker} {g : Stage} {s : State} → Trace S r b g s → s .tally .actions + s .tally .idle ≤ counts S r
   turns-most {r} {g = g} {s} t = go g (s .tally) (turns-counted t)
     where
@@ -100,17 +88,16 @@ module _ (S : Setting) (fit : Fit S) where
       go (laying k) t i = omega arith
       go (serving k) t i = omega arith
 
-  pub requests-counted : {r : ℕ} {b : List Worker} {g : Stage} {s : State} → Trace S r b g s → Requested S g r (s .tally .requests)
+  requests-counted : {r : ℕ} {b : List Worker} {g : Stage} {s : State} → Trace S r b g s → Requested S g r (s .tally .requests)
   unfolding start counts
   requests-counted begins = omega arith
-  requests-counted (turned {r} {k} {b} {s} t h) = rw (turn-requests plan r k (getD b k Idle) s) (requests-counted t)
+  requests-counted (turned t h) = rw (turned-took t .requests) (requests-counted t)
   requests-counted (goes-on t e) = (omega arith, omega (arith, requests-counted t))
   requests-counted (laid {r} {k} {b} {s} t h) = (h, omega (arith, requests-counted t, lay-requests S r k (getD b k Idle) s))
   requests-counted (all-laid t) = omega (arith, requests-counted t)
   requests-counted (served {r} {k} {b} {s} t h) = rw (serve-requests k (oldest k (countIn S r) (s .workers) .who) s) (requests-counted t)
   requests-counted (next-round {r} t) = omega (arith, requests-counted t)
 
-  -- no more requests than turns up to the present round
   pub requests-most : {r : ℕ} {b : List Worker} {g : Stage} {s : State} → Trace S r b g s → s .tally .requests ≤ counts S r
   requests-most {r} {g = g} {s} t = go g (s .tally .requests) (requests-counted t)
     where
@@ -120,32 +107,19 @@ module _ (S : Setting) (fit : Fit S) where
       go (serving k) q i = i
 
   module _ (lone : S .workers ≡ 1) where
-    -- a worker that is alone holds a job as each round begins
     pub lone-holds : {r : ℕ} {b : List Worker} {g : Stage} {s : State} → Trace S r b g s → (k : ℕ) → k < countIn S r
         → (j : ℕ) × (getD b k Idle ≡ Holding j)
     lone-holds {r} {b} t k h =
-        let (w, j, l, f) = began-busy S fit t in
+        let (w, j, l, f) = began-busy fit t in
         let e : k ≡ w = omega (arith, count-within S r) in
         (j, ap (λ v. getD b v Idle) e ∙ f)
 
-    -- so it never idles
     pub lone-idle : {r : ℕ} {b : List Worker} {g : Stage} {s : State} → Trace S r b g s → s .tally .idle ≡ 0
     unfolding turnOf turn start
     lone-idle begins = refl
     lone-idle (turned {r} {k} {b} {s} t h) = rw (lone-holds t k h .1) (lone-idle t)
     lone-idle (goes-on t e) = lone-idle t
-    lone-idle (laid {r} {k} {b} {s} t h) = lay-rests S r k (getD b k Idle) s .idle ∙ lone-idle t
+    lone-idle (laid t h) = laid-rests t .idle ∙ lone-idle t
     lone-idle (all-laid t) = lone-idle t
-    lone-idle (served {r} {k} {b} {s} t h) = serve-rests k (oldest k (countIn S r) (s .workers) .who) s .idle ∙ lone-idle t
+    lone-idle (served t h) = served-rests t .idle ∙ lone-idle t
     lone-idle (next-round t) = lone-idle t
-
-    -- and lays no request
-    pub lone-requests : {r : ℕ} {b : List Worker} {g : Stage} {s : State} → Trace S r b g s → s .tally .requests ≡ 0
-    unfolding lay start
-    lone-requests begins = refl
-    lone-requests (turned {r} {k} {b} {s} t h) = turn-requests plan r k (getD b k Idle) s ∙ lone-requests t
-    lone-requests (goes-on t e) = lone-requests t
-    lone-requests (laid {r} {k} {b} {s} t h) = rw (lone-holds t k h .1) (lone-requests t)
-    lone-requests (all-laid t) = lone-requests t
-    lone-requests (served {r} {k} {b} {s} t h) = serve-requests k (oldest k (countIn S r) (s .workers) .who) s ∙ lone-requests t
-    lone-requests (next-round t) = lone-requests t

@@ -1,5 +1,8 @@
 -- A turn keeps a state sound: the worker's line becomes the one that the theory of lines gives it, and no other changes.
---   seatOf p s w j == worker w and its deque after that action
+--   seatOf p s w j                  == worker w, which holds job j, and its deque after its turn
+--   wakes-is, wakes-by, wakes-empty == rule 1's test is that of the theory, and a parent that is woken finds an empty deque
+--   seat-spawn, seat-none           == rules 2 and 3; `stay` is the latter
+--   turnOf-sound                    == a turn keeps a state sound
 use Prim.Native.Nat.{ℕ, zero, suc, _≤_, _<_}
 use mathlib.Core.Path.{_≡_, refl, ap, sym, _∙_}
 use mathlib.Core.Logic.{inl, inr, _≢_, by-cases}
@@ -17,7 +20,7 @@ use Rattle.plan.specs.Plan.{Plan, size, action, parent}
 use Rattle.runs.specs.State.{State, nextOf, workerOf, dequeOf}
 use Rattle.courses.specs.Ready.{ready}
 use Rattle.runs.specs.Turn.{wakes, woken, Seat, takeBottom, seatAfter, turn, idled, turnOf}
-pub use Rattle.runs.specs.Parts.{afterOf, aboveOf}
+use Rattle.runs.specs.Parts.{afterOf, aboveOf}
 use Rattle.lines.proofs.Laws.Shape.{Living, Ready, Chain}
 use Rattle.lines.proofs.Laws.Member.{put}
 use Rattle.lines.proofs.Laws.Act.{Goes, goes?, Wakes, wakes?, Act, wakes-iff, stalled, sender}
@@ -29,10 +32,10 @@ use Rattle.courses.proofs.Laws.PlanShape.{shape, shape-valid, ready-is, ready-b
 use Rattle.runs.proofs.Laws.Lined.{lineIn, lineOf, Sound, line-of, held-in, held-below, line-stored, line-other}
 
 -- a test and a decision of one thing
-module _ {A : Type 0} (b : Bool) (d : Dec A) (f : T b → A) (g : A → T b) (q : ℕ) (l : List ℕ) where
-  to-put : (h : Bool → List ℕ) → h true ≡ q ∷ l → h false ≡ l → h b ≡ put d q l
+module _ {A : Type 0} (b : Bool) (d : Dec A) (f : T b → A) (g : A → T b) where
+  to-put : {q : ℕ} {l : List ℕ} (h : Bool → List ℕ) → h true ≡ q ∷ l → h false ≡ l → h b ≡ put d q l
   unfolding put
-  to-put h yes-is no-is = go b d f g
+  to-put {q} {l} h yes-is no-is = go b d f g
     where
       go : (b : Bool) (d : Dec A) → (T b → A) → (A → T b) → h b ≡ put d q l
       go true (yes a) f g = yes-is
@@ -40,16 +43,12 @@ module _ {A : Type 0} (b : Bool) (d : Dec A) (f : T b → A) (g : A → T b) (q 
       go false (yes a) f g = absurd (g a)
       go false (no n) f g = no-is
 
-abbrev pub lineAt : Seat → List ℕ
+abbrev lineAt : Seat → List ℕ
 lineAt t = lineIn (t .worker) (t .deque)
 
 bottom-line : (d : List ℕ) → lineAt (takeBottom d) ≡ d
 bottom-line [] = refl
 bottom-line (j ∷ d) = refl
-
-bottom-empty : (d : List ℕ) → lineAt (takeBottom d) ≡ [] → takeBottom d .deque ≡ []
-bottom-empty [] e = refl
-bottom-empty (j ∷ d) e = absurd (cons-ne-nil j d e)
 
 -- rule 3
 abbrev pub stay : Bool → ℕ → List ℕ → Seat
@@ -58,12 +57,13 @@ stay false j d = takeBottom d
 
 stay-empty : (b : Bool) (j : ℕ) (d : List ℕ) → lineAt (stay b j d) ≡ [] → stay b j d .deque ≡ []
 stay-empty true j d e = absurd (cons-ne-nil j d e)
-stay-empty false j d e = bottom-empty d e
+stay-empty false j [] e = refl
+stay-empty false j (x ∷ d) e = absurd (cons-ne-nil x d e)
 
 module _ (p : Plan) (after : List ℕ) (j i : ℕ) (d : List ℕ) where
-  pub seat-spawn : (c : ℕ) → action p j i .spawn ≡ suc c → seatAfter p after j i d ≡ record { worker = Holding c; deque = j ∷ d }
+  pub seat-spawn : {c : ℕ} → action p j i .spawn ≡ suc c → seatAfter p after j i d ≡ record { worker = Holding c; deque = j ∷ d }
   unfolding seatAfter
-  seat-spawn c e = rw (seatAfter, e)
+  seat-spawn e = rw (seatAfter, e)
 
   pub seat-none : action p j i .spawn ≡ 0 → seatAfter p after j i d ≡ stay (both (ltb (suc i) (size p j)) (ready p after j)) j d
   unfolding seatAfter
@@ -73,41 +73,40 @@ module _ (p : Plan) (after : List ℕ) (j i : ℕ) (d : List ℕ) where
       go true = refl
       go false = refl
 
-  pub seat-empty : lineAt (seatAfter p after j i d) ≡ [] → seatAfter p after j i d .deque ≡ []
+  seat-empty : lineAt (seatAfter p after j i d) ≡ [] → seatAfter p after j i d .deque ≡ []
   seat-empty = go (action p j i .spawn) refl
     where
       go : (x : ℕ) → action p j i .spawn ≡ x → lineAt (seatAfter p after j i d) ≡ [] → seatAfter p after j i d .deque ≡ []
-      go (suc c) e = rw (seat-spawn c e) (λ q. absurd (cons-ne-nil c (j ∷ d) q))
+      go (suc c) e = rw (seat-spawn e) (λ q. absurd (cons-ne-nil c (j ∷ d) q))
       go zero e = rw (seat-none e) (stay-empty (both (ltb (suc i) (size p j)) (ready p after j)) j d)
 
 abbrev pub seatOf : Plan → State → ℕ → ℕ → Seat
 seatOf p s w j = seatAfter p (afterOf s j) j (nextOf s j) (aboveOf p s w j)
 
-module _ (p : Plan) (ok : Accepted p) (n : ℕ) (most : n ≤ 16) (s : State) (sound : Sound p n s) (w j : ℕ)
-    (holds : workerOf s w ≡ Holding j) where
-  abbrev pub next′ : ℕ → ℕ
+pub others : (s : State) (j k : ℕ) → k ≢ j → getD (afterOf s j) k 0 ≡ nextOf s k
+others s j k f = getD-set-other (s .next) j k (suc (nextOf s j)) 0 f
+
+module _ {p : Plan} (ok : Accepted p) {n : ℕ} {s : State} (sound : Sound p n s) (w : ℕ) {j : ℕ} (holds : workerOf s w ≡ Holding j) where
+  abbrev next′ : ℕ → ℕ
   next′ k = getD (afterOf s j) k 0
 
   me : Living (shape p) (nextOf s) j × Ready (shape p) (nextOf s) j
-  me = sound .good .here w j (held-in s w j holds)
+  me = sound .good .here w j (held-in s w holds)
 
   pub acted : next′ j ≡ suc (nextOf s j)
   acted = getD-set-same (s .next) j (suc (nextOf s j)) 0 (omega (arith, sound .nexts, me .0 .below))
 
-  pub others : (k : ℕ) → k ≢ j → next′ k ≡ nextOf s k
-  others k f = getD-set-other (s .next) j k (suc (nextOf s j)) 0 f
-
   action-of : Act (shape p) (nextOf s) next′ j
-  action-of = record { closed = sound .good .closed; lives = me .0; ready = me .1; acts = acted; others = others }
+  action-of = record { closed = sound .good .closed; lives = me .0; ready = me .1; acts = acted; others = others s j }
 
   is : lineOf s w ≡ j ∷ dequeOf s w
-  is = line-of s w (Holding j) holds
+  is = line-of s w holds
 
   -- the parent has begun, before and after
   parent-begun : 1 ≤ j → (0 < nextOf s (parent p j)) × (0 < next′ (parent p j))
   parent-begun o =
       let b = me .0 .begun o in
-      omega (arith, others (parent p j) (λ e. omega (arith, older p ok j o (me .0 .below))))
+      omega (arith, others s j (parent p j) (λ e. omega (arith, older p ok j o (me .0 .below))))
 
   pub wakes-is : T (wakes p (s .next) (afterOf s j) j (nextOf s j)) → Wakes (shape p) (nextOf s) next′ j
   unfolding wakes
@@ -138,7 +137,6 @@ module _ (p : Plan) (ok : Accepted p) (n : ℕ) (most : n ≤ 16) (s : State) (s
       rw (wakes, k .sends) (both-intro (not before) _ (not-T before (λ x. t .0 (ready-is p (s .next) ok (parent p j) x)))
       (ready-by p (afterOf s j) ok (parent p j) (t .1) (λ z. absurd (omega arith))))
 
-  -- a parent that is woken finds an empty deque
   pub wakes-empty : T (wakes p (s .next) (afterOf s j) j (nextOf s j)) → dequeOf s w ≡ []
   wakes-empty t = go (dequeOf s w) refl
     where
@@ -161,7 +159,7 @@ module _ (p : Plan) (ok : Accepted p) (n : ℕ) (most : n ≤ 16) (s : State) (s
       both-intro (ltb (suc (nextOf s j)) (size p j)) _ (lt→ltb (suc (nextOf s j)) (size p j) (rw acted at (g .left)))
       (ready-by p (afterOf s j) ok j (g .ready) (λ z. absurd (omega (arith, acted))))
 
-  pub seat-line : lineAt (seatOf p s w j) ≡ turnLine (shape p) (nextOf s) next′ j (dequeOf s w)
+  seat-line : lineAt (seatOf p s w j) ≡ turnLine (shape p) (nextOf s) next′ j (dequeOf s w)
   seat-line = go (action p j (nextOf s j) .spawn) refl
     where
       up : List ℕ
@@ -170,22 +168,22 @@ module _ (p : Plan) (ok : Accepted p) (n : ℕ) (most : n ≤ 16) (s : State) (s
       above : aboveOf p s w j ≡ up
       above =
           to-put (wakes p (s .next) (afterOf s j) j (nextOf s j)) (wakes? (shape p) (nextOf s) next′ j) wakes-is wakes-by
-          (parent p j) (dequeOf s w) (λ b. woken b (parent p j) (dequeOf s w)) refl refl
+          (λ b. woken b (parent p j) (dequeOf s w)) refl refl
 
       go : (x : ℕ) → action p j (nextOf s j) .spawn ≡ x → lineAt (seatOf p s w j) ≡ turnLine (shape p) (nextOf s) next′ j (dequeOf s w)
       go (suc c) e =
-          ap lineAt (seat-spawn p (afterOf s j) j (nextOf s j) (aboveOf p s w j) c e) ∙ ap (λ l. c ∷ (j ∷ l)) above
+          ap lineAt (seat-spawn p (afterOf s j) j (nextOf s j) (aboveOf p s w j) e) ∙ ap (λ l. c ∷ (j ∷ l)) above
           ∙ sym (turn-spawn (shape p) (nextOf s) next′ j (dequeOf s w) c e)
       go zero e =
           ap lineAt (seat-none p (afterOf s j) j (nextOf s j) (aboveOf p s w j) e)
           ∙ to-put (both (ltb (suc (nextOf s j)) (size p j)) (ready p (afterOf s j) j)) (goes? (shape p) next′ j) goes-is goes-by
-          j (aboveOf p s w j) (λ b. lineAt (stay b j (aboveOf p s w j))) refl (bottom-line (aboveOf p s w j))
+          (λ b. lineAt (stay b j (aboveOf p s w j))) refl (bottom-line (aboveOf p s w j))
           ∙ ap (put (goes? (shape p) next′ j) j) above ∙ sym (turn-none (shape p) (nextOf s) next′ j (dequeOf s w) e)
 
-  pub turn-sound : (r : ℕ) → Sound p n (turn p r w j s)
+  turn-sound : n ≤ 16 → (r : ℕ) → Sound p n (turn p r w j s)
   unfolding turn
-  turn-sound r =
-      let b = held-below p n s sound w j holds in
+  turn-sound most r =
+      let b = held-below sound w holds in
       let hw : w < length (s .workers) = omega (arith, sound .workers) in
       let hd : w < length (s .deques) = omega (arith, sound .deques) in
       let seat = seatOf p s w j in
@@ -205,35 +203,23 @@ module _ (p : Plan) (ok : Accepted p) (n : ℕ) (most : n ≤ 16) (s : State) (s
         absent = λ v h. getD-set-other (s .workers) w v (seat .worker) Idle (λ q. omega arith) ∙ sound .absent v h;
       }
 
-pub idled-sound : (p : Plan) (n r : ℕ) (s : State) → Sound p n s → Sound p n (idled r s)
-unfolding idled
-idled-sound p n r s sound = record {
-  nexts = sound .nexts;
-  workers = sound .workers;
-  deques = sound .deques;
-  rows = sound .rows;
-  good = sound .good;
-  empty = sound .empty;
-  absent = sound .absent;
-}
-
--- a turn changes no other worker
-pub turn-others : (p : Plan) (r w : ℕ) (k : Worker) (s : State) (v : ℕ) → v ≢ w → workerOf (turnOf p r w k s) v ≡ workerOf s v
-unfolding turnOf
-turn-others p r w Idle s v f = refl
-turn-others p r w (Holding j) s v f = getD-set-other (s .workers) w v (seatOf p s w j .worker) Idle f
-turn-others p r w (Waiting u l) s v f = refl
-
--- and none if the worker was idle
-pub turn-still : (p : Plan) (r w : ℕ) (k : Worker) (s : State) (v : ℕ) → k ≡ Idle → workerOf (turnOf p r w k s) v ≡ workerOf s v
-unfolding turnOf
-turn-still p r w Idle s v e = refl
-turn-still p r w (Holding j) s v e = let z : _≡_ {A = ℕ} 0 1 = cc in absurd (omega arith)
-turn-still p r w (Waiting u l) s v e = refl
-
-pub turnOf-sound : (p : Plan) → Accepted p → (n : ℕ) → n ≤ 16 → (r w : ℕ) (k : Worker) (s : State) → workerOf s w ≡ k → Sound p n s
+pub turnOf-sound : {p : Plan} → Accepted p → {n : ℕ} → n ≤ 16 → {s : State} → Sound p n s → (r w : ℕ) (k : Worker) → workerOf s w ≡ k
     → Sound p n (turnOf p r w k s)
-unfolding turnOf
-turnOf-sound p ok n most r w Idle s e sound = idled-sound p n r s sound
-turnOf-sound p ok n most r w (Holding j) s e sound = turn-sound p ok n most s sound w j e r
-turnOf-sound p ok n most r w (Waiting u l) s e sound = idled-sound p n r s sound
+unfolding turnOf idled
+turnOf-sound {p} ok {n} most {s} sound r w k e = go k e
+  where
+    idle : Sound p n (idled r s)
+    idle = record {
+      nexts = sound .nexts;
+      workers = sound .workers;
+      deques = sound .deques;
+      rows = sound .rows;
+      good = sound .good;
+      empty = sound .empty;
+      absent = sound .absent;
+    }
+
+    go : (k : Worker) → workerOf s w ≡ k → Sound p n (turnOf p r w k s)
+    go Idle e = idle
+    go (Holding j) e = turn-sound ok sound w e most r
+    go (Waiting v l) e = idle

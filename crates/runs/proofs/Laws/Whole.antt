@@ -1,5 +1,8 @@
 -- The whole run: its fuel is enough, it ends in at most T1 rounds and has done every action once.
 --   Finished S s == s is the state in which a run ends: all turns of a round are taken, and job 0 has ended
+--   run-trace    == a run ends in such a state: T1 rounds are enough
+--   rounds-most, run-done, run-actions, run-turns, run-requests, lone-rounds == so of its rounds, its actions and its counts
+--   turns-trace, lays-trace, serves-trace, round-last, round-on, rounds-stop, rounds-on == its rounds and halves, as steps
 use Prim.Native.Nat.{ℕ, zero, suc, _+_, _*_, _≤_, _<_}
 use mathlib.Core.Path.{_≡_, refl, ap, sym, _∙_}
 use mathlib.Core.Bool.{Bool, true, false}
@@ -20,8 +23,7 @@ use Rattle.runs.specs.Trace.{Stage, turning, laying, serving, Trace, beg
 use Rattle.runs.proofs.Laws.Fit.{Fit, count-some, count-is}
 use Rattle.runs.proofs.Laws.Sound.{trace-sound, all-done}
 use Rattle.runs.proofs.Laws.Rounds.{rounds-known, numbered-late, numbered-most, not-ended}
-use Rattle.runs.proofs.Laws.Coursed.{actions-most, actions-all}
-pub use Rattle.runs.proofs.Laws.Coursed.{round-most}
+use Rattle.runs.proofs.Laws.Coursed.{round-most, actions-most, actions-all}
 use Rattle.runs.proofs.Laws.Tallies.{counts-most, counts-same, turns-sum, turns-most, requests-most, lone-idle}
 use Rattle.runs.proofs.Laws.Waiting.{requests-sum}
 
@@ -29,10 +31,9 @@ abbrev pub Finished : Setting → State → Type 0
 Finished S s =
     (r : ℕ) × (b : List Worker) × Trace S r b (turning (countIn S r)) s × (ended (S .plan) s ≡ true) × (s .tally .rounds ≡ r)
 
-module _ (S : Setting) where
+module _ {S : Setting} where
   open Setting S using (plan)
 
-  -- the halves of a round, as steps
   pub turns-trace : {r : ℕ} {b : List Worker} {s : State} → Trace S r b (turning 0) s → (k : ℕ) → k ≤ countIn S r
       → Trace S r b (turning k) (turns plan r k b s)
   unfolding turns
@@ -50,6 +51,9 @@ module _ (S : Setting) where
   unfolding serves
   serves-trace t zero h = t
   serves-trace t (suc k) h = served (serves-trace t k (omega arith)) h
+
+module _ (S : Setting) where
+  open Setting S using (plan)
 
   -- a round with and without a second half
   module _ (r : ℕ) (s : State) (e : suc (s .tally .rounds) ≡ r) where
@@ -75,7 +79,7 @@ module _ (S : Setting) where
   unfolding rounds
   rounds-on k s e = rw (rounds, e)
 
-module _ (S : Setting) (fit : Fit S) where
+module _ {S : Setting} (fit : Fit S) where
   open Setting S using (plan)
 
   -- so every count but the peak stays small
@@ -83,75 +87,77 @@ module _ (S : Setting) (fit : Fit S) where
       → (r ≤ 2048) × (s .tally .rounds ≤ r) × (s .tally .actions ≤ 2048) × (s .tally .idle ≤ 32768) × (s .tally .requests ≤ 32768)
       × (s .tally .steals ≤ 32768) × (s .tally .misses ≤ 32768)
   counts-small {r} {g = g} {s} t =
-      let few : r ≤ 2048 = omega (arith, round-most S fit t, work-range plan (fit .plan)) in
-      let all = counts-most S fit r in
-      let requests : s .tally .requests ≤ 32768 = omega (arith, requests-most S fit t) in
-      let settled = requests-sum S fit t in (
+      let few : r ≤ 2048 = omega (arith, round-most fit t, work-range plan (fit .plan)) in
+      let all = counts-most fit r in
+      let requests : s .tally .requests ≤ 32768 = omega (arith, requests-most fit t) in
+      let settled = requests-sum fit t in (
         few,
-        numbered-most g r (s .tally .rounds) (rounds-known S fit t),
-        omega (arith, actions-most S fit t, work-range plan (fit .plan)),
-        omega (arith, turns-most S fit t),
+        numbered-most g (rounds-known fit t),
+        omega (arith, actions-most fit t, work-range plan (fit .plan)),
+        omega (arith, turns-most fit t),
         requests,
         omega arith,
         omega arith,
       )
 
   -- fuel for the rounds that are left of T1 is enough
-  pub rounds-finish : (k r : ℕ) (s : State) → Trace S r (s .workers) (turning 0) s → work plan < k + r → Finished S (rounds k S s)
-  rounds-finish zero r s t h = absurd (omega (arith, round-most S fit t))
-  rounds-finish (suc k) r s t h = rw (rounds-on S k s (not-ended S fit t)) (go (ended plan half) refl (rounds-finish k))
+  rounds-finish : (k r : ℕ) (s : State) → Trace S r (s .workers) (turning 0) s → work plan < k + r → Finished S (rounds k S s)
+  rounds-finish zero r s t h = absurd (omega (arith, round-most fit t))
+  rounds-finish (suc k) r s t h = rw (rounds-on S k s (not-ended fit t)) (go (ended plan half) refl (rounds-finish k))
     where
+      n : ℕ
+      n = countIn S r
+
       half : State
-      half = turns plan r (countIn S r) (s .workers) s
+      half = turns plan r n (s .workers) s
 
       known : suc (s .tally .rounds) ≡ r
-      known = rounds-known S fit t
+      known = rounds-known fit t
 
-      taken : Trace S r (s .workers) (turning (countIn S r)) half
-      taken = turns-trace S t (countIn S r) (le-refl (countIn S r))
+      taken : Trace S r (s .workers) (turning n) half
+      taken = turns-trace t n (le-refl n)
 
       go : (x : Bool) → ended plan half ≡ x
           → ((r : ℕ) (s : State) → Trace S r (s .workers) (turning 0) s → work plan < k + r → Finished S (rounds k S s))
           → Finished S (rounds k S (round S s))
       go true f rec =
           rw (round-last S r s known f, rounds-stop S k half f)
-          (r, s .workers, taken, f, numbered-late (countIn S r) r (half .tally .rounds) (count-some S fit r) (rounds-known S fit taken))
+          (r, s .workers, taken, f, numbered-late (count-some fit r) (rounds-known fit taken))
       go false f rec =
           rw (round-on S r s known f)
-          (rec (suc r) _ (next-round (serves-trace S (all-laid (lays-trace S (goes-on taken f) (countIn S r) (le-refl (countIn S r)))) (countIn S r) (le-refl (countIn S r)))) (omega arith))
+          (rec (suc r) _ (next-round (serves-trace (all-laid (lays-trace (goes-on taken f) n (le-refl n))) n (le-refl n))) (omega arith))
 
-  -- T1 rounds are enough
   pub run-trace : Finished S (run S)
   unfolding run
   run-trace = rounds-finish (work plan) 1 (start plan) begins (omega arith)
 
   pub rounds-most : run S .tally .rounds ≤ work plan
-  rounds-most = let (r, b, t, e, q) = run-trace in omega (arith, round-most S fit t)
+  rounds-most = let (r, b, t, e, q) = run-trace in omega (arith, round-most fit t)
 
   -- every action is done
   pub run-done : (j : ℕ) → j < length plan → nextOf (run S) j ≡ size plan j
-  run-done = let (r, b, t, e, q) = run-trace in all-done plan (fit .plan) (countIn S r) (run S) (trace-sound S fit t) e
+  run-done = let (r, b, t, e, q) = run-trace in all-done (fit .plan) (trace-sound fit t) e
 
   -- and each once
   pub run-actions : run S .tally .actions ≡ work plan
   run-actions =
       let (r, b, t, e, q) = run-trace in
-      actions-all S fit t e
+      actions-all fit t e
 
   -- each worker has a turn in each round
   pub run-turns : S .workers * run S .tally .rounds ≡ run S .tally .actions + run S .tally .idle
-  run-turns = let (r, b, t, e, q) = run-trace in rw q (sym (counts-same S r) ∙ turns-sum S fit t)
+  run-turns = let (r, b, t, e, q) = run-trace in rw q (sym (counts-same S r) ∙ turns-sum fit t)
 
   -- each request was a steal or a miss, or its worker still waits
   pub run-requests : run S .tally .requests
       ≡ run S .tally .steals + run S .tally .misses + waiting (S .workers) (run S .workers)
   run-requests =
       let (r, b, t, e, q) = run-trace in
-      requests-sum S fit t ∙ ap (λ k. run S .tally .steals + run S .tally .misses + waiting k (run S .workers)) (count-is S r)
+      requests-sum fit t ∙ ap (λ k. run S .tally .steals + run S .tally .misses + waiting k (run S .workers)) (count-is S r)
 
   -- a worker that is alone does one action in each round
   pub lone-rounds : S .workers ≡ 1 → run S .tally .rounds ≡ work plan
   lone-rounds lone =
       let (r, b, t, e, q) = run-trace in
       let m = run S .tally .rounds in
-      omega (arith, run-turns, run-actions, ap (λ k. k * m) lone, one-mul m, lone-idle S fit lone t)
+      omega (arith, run-turns, run-actions, ap (λ k. k * m) lone, one-mul m, lone-idle fit lone t)

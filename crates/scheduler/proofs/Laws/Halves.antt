@@ -25,8 +25,8 @@ use Rattle.runs.specs.Trace.{Stage, turning, laying, goes-on}
 use Rattle.scheduler.specs.Requests.{Pointed, Queued}
 use Rattle.scheduler.specs.Machine.{Planned, Progressed, Dequed, Manned, InRun, Machine}
 use Rattle.runs.proofs.Laws.Rounds.{rounds-known}
-use Rattle.runs.proofs.Laws.Rests.{lay-rests, serve-rests}
-use Rattle.runs.proofs.Laws.Tallies.{turn-requests, serve-requests}
+use Rattle.runs.proofs.Laws.Rests.{lay-rests, serve-rests, turn-took}
+use Rattle.runs.proofs.Laws.Tallies.{serve-requests}
 use Rattle.runs.proofs.Laws.Whole.{round-last, round-on}
 use Rattle.scheduler.proofs.Laws.Running.{run-fit, run-sound, run-at, run-turns}
 use Rattle.scheduler.proofs.Laws.Picks.{turns-queued}
@@ -53,7 +53,7 @@ serves-still S r (suc k) s =
 pub turns-requests : (p : Plan) (r k : ℕ) (b : List Worker) (s : State) → turns p r k b s .tally .requests ≡ s .tally .requests
 unfolding turns
 turns-requests p r zero b s = refl
-turns-requests p r (suc k) b s = turn-requests p r k (getD b k Idle) (turns p r k b s) ∙ turns-requests p r k b s
+turns-requests p r (suc k) b s = turn-took p r k (getD b k Idle) (turns p r k b s) .requests ∙ turns-requests p r k b s
 
 pub serves-requests : (S : Setting) (r k : ℕ) (s : State) → serves S r k s .tally .requests ≡ s .tally .requests
 unfolding serves
@@ -123,7 +123,7 @@ module _ {p : Plan} {n : ℕ} {choices : List ℕ} {r : ℕ} {s : State} {c : Ac
   round-counted = omega (arith, ap (λ t. t .rounds) (manned .counts))
 
   pub round-known : c .tally .rounds + 1 ≡ r
-  round-known = omega (arith, round-counted, rounds-known (setting p n choices) (run-fit run) (run .trace))
+  round-known = omega (arith, round-counted, rounds-known (run-fit run) (run .trace))
 
   -- the round that begins is the one after those that the tally counts
   pub round-now : InRun p n choices (c .tally .rounds + 1) (s .workers) (turning 0) s

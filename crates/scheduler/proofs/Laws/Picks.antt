@@ -1,27 +1,27 @@
 -- The lines of requests from state to state: turns leave them, a request lengthens one, a service shortens one, and the first of a line
 -- is the request that its victim serves.
 -- Assumes nothing.
-use Prim.Native.Nat.{ℕ, zero, suc, _+_, _%_, _≤_, _<_}
+use Prim.Native.Nat.{ℕ, zero, suc, _+_, _≤_, _<_}
 use mathlib.Core.Path.{_≡_, refl, sym, ap, _∙_}
 use mathlib.Core.List.{List, [], _∷_}
 use native.Mathlib.Nat.{le-refl}
 use native.Mathlib.Omega.{arith}
-use lib.ListN.{length, getD, set, replicate, getD-replicate}
+use lib.ListN.{getD, set, replicate, getD-replicate}
 use Rattle.plan.specs.Plan.{Plan}
 use Rattle.scheduler.specs.declared.account.Account.{Account}
-use Rattle.runs.specs.Setting.{Setting, setting}
+use Rattle.runs.specs.Setting.{Setting}
 use Rattle.runs.specs.declared.worker.Worker.{Worker}
 use Rattle.runs.specs.declared.worker.Worker.the-variants.{Idle, Holding, Waiting}
 use Rattle.runs.specs.State.{State, workerOf, dequeOf, start}
-use Rattle.runs.specs.Turn.{turn, idled, turnOf, turns}
-use Rattle.runs.specs.Steal.{laid, lay, oldest, topOf, given, serve, waits}
+use Rattle.runs.specs.Turn.{turns}
+use Rattle.runs.specs.Steal.{laid, lay, oldest, serve, waits}
 use Rattle.runs.specs.Trace.{turning, laying, serving}
 use Rattle.scheduler.specs.Machine.{InRun}
 use Rattle.scheduler.specs.Requests.{Calm, Queued, Serving}
 use Rattle.runs.proofs.Laws.Least.{oldest-waits}
-use Rattle.runs.proofs.Laws.Sound.{trace-began, laying-idle}
+use Rattle.runs.proofs.Laws.Began.{trace-began, laying-idle}
 use Rattle.runs.proofs.Laws.Start.{start-calm}
-use Rattle.runs.proofs.Laws.Waits.{seated, seated-waits}
+use Rattle.runs.proofs.Laws.Stores.{victimOf, turned-workers, given-workers}
 use Rattle.scheduler.proofs.Laws.Running.{run-sound, run-turns}
 use Rattle.scheduler.proofs.Laws.Queues.{queue-first, queued-calm}
 
@@ -37,33 +37,24 @@ calm-waits x c v l f = omega (arith, ap waits f)
 -- turns leave the lines
 pub turns-queued : {p : Plan} {n : ℕ} {choices : List ℕ} {r : ℕ} {b : List Worker} {s : State} {hi : ℕ} {after last : List ℕ}
     → InRun p n choices r b (turning 0) s → (k : ℕ) → k ≤ n → Queued hi (s .workers) after last → Queued hi (turns p r k b s .workers) after last
-unfolding turns turnOf turn idled
+unfolding turns
 turns-queued run zero h q = q
-turns-queued {p} {n} {choices} {r} {b} {s} {hi} {after} {last} run (suc k) h q = go (turns-queued run k (omega arith) q) (getD b k Idle) refl
-  where
-    t : State
-    t = turns p r k b s
-
-    here : InRun p n choices r b (turning k) t
-    here = run-turns run k (omega arith)
-
-    go : Queued hi (t .workers) after last → (x : Worker) → getD b k Idle ≡ x → Queued hi (turnOf p r k x t .workers) after last
-    go rest Idle e = rest
-    go rest (Waiting v l) e = rest
-    go rest (Holding j) e =
-        queued-calm rest (run-sound here .workers) k (omega (arith, run .most)) (seated p k j t)
-        (calm-held (workerOf t k) j
-        (trace-began (setting p n choices) (here .trace) k (le-refl k) ∙ e))
-        (calm-waits (seated p k j t) (seated-waits p k j t))
+turns-queued {p} {n} {choices} {r} {b} {s} {hi} {after} {last} run (suc k) h q =
+    let t = turns p r k b s in
+    let here : InRun p n choices r b (turning k) t = run-turns run k (omega arith) in
+    let rest = turns-queued run k (omega arith) q in
+    turned-workers (λ ws. Queued hi ws after last) (here .trace) rest (λ j y e c.
+    queued-calm rest (run-sound here .workers) k (omega (arith, run .most)) y
+    (calm-held (workerOf t k) j (trace-began (here .trace) k (le-refl k) ∙ e)) (calm-waits y c))
 
 -- a worker that was idle as the round began does not wait when it lays
 pub laying-calm : {p : Plan} {n : ℕ} {choices : List ℕ} {r : ℕ} {b : List Worker} {s : State} (w : ℕ)
     → InRun p n choices r b (laying w) s → getD b w Idle ≡ Idle → Calm (workerOf s w)
 laying-calm {p} {n} {choices} {s = s} w run e =
-    calm-idle (workerOf s w) (laying-idle (setting p n choices) (run .trace) w (le-refl w) e)
+    calm-idle (workerOf s w) (laying-idle (run .trace) w (le-refl w) e)
 
 pub lay-queued : (S : Setting) (r w hi : ℕ) (s : State) (after last : List ℕ)
-    → Queued hi (set (s .workers) w (Waiting (getD (S .choices) (s .tally .requests % length (S .choices)) 0) r)) after last
+    → Queued hi (set (s .workers) w (Waiting (victimOf S s) r)) after last
     → Queued hi (lay S r w Idle s .workers) after last
 unfolding lay laid
 lay-queued S r w hi s after last q = q
@@ -76,18 +67,15 @@ first-oldest {n = n} {v = v} run k q = queue-first (q .queues v (omega (arith, r
 -- the worker that is served waits no longer
 pub serve-queued : {hi : ℕ} {after last : List ℕ} (v w : ℕ) (s : State) → ((x : Worker) → Calm x → Queued hi (set (s .workers) w x) after last)
     → Queued hi (serve v (suc w) s .workers) after last
-unfolding serve given
-serve-queued {hi} {after} {last} v w s q = go (dequeOf s v)
-  where
-    go : (d : List ℕ) → Queued hi (given v w d s .workers) after last
-    go [] = q Idle (calm-idle Idle refl)
-    go (x ∷ d) = q (Holding (topOf x d)) (calm-held (Holding (topOf x d)) (topOf x d) refl)
+unfolding serve
+serve-queued {hi} {after} {last} v w s q =
+    given-workers (λ ws. Queued hi ws after last) v w (dequeOf s v) s (λ y c. q y (calm-waits y c))
 
 -- the worker that is served is one of the sixteen
 pub served-below : {p : Plan} {n : ℕ} {choices : List ℕ} {r : ℕ} {b : List Worker} {s : State} {v w : ℕ} {c : Account} {seats slots top len : List ℕ}
     → Serving p n choices r b s v (suc w) c seats slots top len → w < 16
 served-below {n = n} {s = s} {v = v} {w = w} g =
-    omega (arith, g .run .most, oldest-waits v n (s .workers) (g .run .most) w (sym (g .picked)) .0)
+    omega (arith, g .run .most, oldest-waits v n (s .workers) (g .run .most) (sym (g .picked)) .0)
 
 -- the lines as a run begins
 abbrev pub firstEnds : List ℕ

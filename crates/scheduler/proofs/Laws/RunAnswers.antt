@@ -158,5 +158,5 @@ module _ (p : Plan) (actions : ℕ) (frame first spawn join parent missing : Lis
               ap₂ _++_ (ap (take 4) e) (ap (λ l. rows ++ l) behind ∙ append-nil rows)
               ∙ (ap (λ a. headerBytes n a ++ rows) (g .all) ∙ run-written p n choices going schedule rows printed (rw part at kept)) in (
                 rw (q, x, ran, resulted, le-leb _ _ fit),
-                λ u v. let same : u ≡ s .tally = cc in rw (same, x) (run-bounded (setting p n choices) going (drop (length out) schedule)),
+                λ u v. let same : u ≡ s .tally = cc in rw (same, x) (run-bounded going (drop (length out) schedule)),
               )

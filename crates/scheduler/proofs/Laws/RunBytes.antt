@@ -18,9 +18,9 @@ use Rattle.courses.specs.Schedule.{scheduleBytes}
 use Rattle.scheduler.specs.Machine.{Printed, Kept}
 use Rattle.scheduler.specs.Header.{headerBytes}
 use Rattle.runs.proofs.Laws.Fit.{Fit}
-use Rattle.runs.proofs.Laws.Coursed.{rows-length, run-row}
+use Rattle.runs.proofs.Laws.Coursed.{rows-length, round-most, run-row}
 use Rattle.courses.proofs.Laws.ScheduleBytes.{schedule-length}
-use Rattle.runs.proofs.Laws.Whole.{run-trace, round-most, run-done}
+use Rattle.runs.proofs.Laws.Whole.{run-trace, run-done}
 use Rattle.scheduler.proofs.Laws.ScheduleBytes.{rowBytes, Narrow, schedule-bytes}
 
 -- bytes that hold each row at its place begin with the rows' bytes
@@ -47,19 +47,19 @@ module _ (p : Plan) (n : ℕ) (choices : List ℕ) (fit : Fit (setting p n choic
   rows = run (setting p n choices) .rows
 
   pub run-long : length rows ≡ total p
-  run-long = let (r, b, t, e, q) = run-trace (setting p n choices) fit in rows-length (setting p n choices) fit t
+  run-long = let (r, b, t, e, q) = run-trace fit in rows-length fit t
 
   run-narrow : Narrow rows
   run-narrow k h =
-      let (r, b, t, e, q) = run-trace (setting p n choices) fit in
-      let d = run-row (setting p n choices) fit t e k (omega (arith, run-long)) in
-      (omega (arith, d .latest, round-most (setting p n choices) fit t, work-range p (fit .plan)), omega (arith, d .known))
+      let (r, b, t, e, q) = run-trace fit in
+      let d = run-row fit t e k (omega (arith, run-long)) in
+      (omega (arith, d .latest, round-most fit t, work-range p (fit .plan)), omega (arith, d .known))
 
   run-printed : (bytes : List ℕ) → Printed p (run (setting p n choices)) bytes → take (2 * total p) bytes ≡ rowBytes rows
   run-printed bytes q =
       rw (← run-long) (rows-written rows bytes (omega (arith, run-long, q .room)) (λ k h.
       let l = locate p k (omega (arith, run-long)) in
-      let i : l .position < nextOf (run (setting p n choices)) (l .job) = omega (arith, run-done (setting p n choices) fit (l .job) (l .known), l .within) in
+      let i : l .position < nextOf (run (setting p n choices)) (l .job) = omega (arith, run-done fit (l .job) (l .known), l .within) in
       (rw (l .place) (q .high (l .job) (l .position) (l .known) i), rw (l .place) (q .down (l .job) (l .position) (l .known) i))))
 
   pub run-bytes : scheduleBytes n rows ≡ headerBytes n (total p) ++ rowBytes rows

@@ -17,13 +17,13 @@ use Rattle.runs.specs.declared.worker.Worker.the-variants.{Idle, Holding, Waiti
 use Rattle.runs.specs.State.{State, workerOf}
 use Rattle.runs.specs.Turn.{turns}
 use Rattle.runs.specs.Steal.{lays, serves}
-use Rattle.runs.specs.Trace.{Stage, turning, laying, serving, Trace, begins, turned, goes-on, laid, all-laid, served, next-round}
+use Rattle.runs.specs.Trace.{Stage, turning, laying, serving, Trace}
 use Rattle.scheduler.specs.Machine.{InRun, Fitting}
 use Rattle.scheduler.specs.Requests.{Fits}
 use Rattle.runs.proofs.Laws.Fit.{Fit}
-use Rattle.runs.proofs.Laws.Lined.{Sound}
-use Rattle.runs.proofs.Laws.Sound.{trace-sound, held-job}
-use Rattle.runs.proofs.Laws.Waiting.{idle-unheld}
+use Rattle.runs.proofs.Laws.Lined.{Sound, held-job}
+use Rattle.runs.proofs.Laws.Sound.{trace-sound}
+use Rattle.runs.proofs.Laws.Began.{idle-unheld, round-began}
 use Rattle.runs.proofs.Laws.Victims.{victim-below, laid-choices}
 use Rattle.runs.proofs.Laws.Whole.{counts-small, turns-trace, lays-trace, serves-trace}
 
@@ -33,17 +33,17 @@ module _ {p : Plan} {n : ℕ} {choices : List ℕ} {r : ℕ} {b : List Worker} {
 
   pub run-sound : Sound p n s
   unfolding countIn
-  run-sound = trace-sound (setting p n choices) run-fit (run .trace)
+  run-sound = trace-sound run-fit (run .trace)
 
   pub run-counts : (r ≤ 2048) × (s .tally .rounds ≤ r) × (s .tally .actions ≤ 2048) × (s .tally .idle ≤ 32768)
       × (s .tally .requests ≤ 32768) × (s .tally .steals ≤ 32768) × (s .tally .misses ≤ 32768)
-  run-counts = counts-small (setting p n choices) run-fit (run .trace)
+  run-counts = counts-small run-fit (run .trace)
 
   -- a worker that was idle as the round began can choose
   pub run-choices : (w : ℕ) → w < n → getD b w Idle ≡ Idle → 1 ≤ length choices
   unfolding countIn
   run-choices w h e =
-      laid-choices (setting p n choices) run-fit (run .fit) (run .trace) w h (rw e idle-unheld)
+      laid-choices run-fit (run .fit) (run .trace) w h (rw e idle-unheld)
 
   pub run-few : length choices ≤ 4096
   unfolding choicesFit
@@ -65,9 +65,9 @@ module _ {p : Plan} {n : ℕ} {choices : List ℕ} {r : ℕ} {b : List Worker} {
       go : (x : Worker) → workerOf s w ≡ x → Fitting x
       go Idle e = omega arith
       go (Holding j) e =
-          omega (arith, held-job p (run .accepted) n s run-sound w j e .0, jobs-range p (run .accepted) .1)
+          omega (arith, held-job run-sound w e .0, jobs-range p (run .accepted) .1)
       go (Waiting v l) e =
-          let q = victim-below (setting p n choices) run-fit (run .fit) (run .trace) w v l e in
+          let q = victim-below run-fit (run .fit) (run .trace) w v l e in
           (omega (arith, run .most, q), omega (arith, run-counts .0, q))
 
 -- the same run at another stage
@@ -77,26 +77,17 @@ run-at run t = record { accepted = run .accepted; some = run .some; most = run .
 
 -- the workers as the round began were those of a state too
 pub run-began : {p : Plan} {n : ℕ} {choices : List ℕ} {r : ℕ} {b : List Worker} {g : Stage} {s : State} → InRun p n choices r b g s → Fits b
-run-began {p} {n} {choices} run = go (run .trace)
-  where
-    go : {r : ℕ} {b : List Worker} {g : Stage} {s : State} → Trace (setting p n choices) r b g s → Fits b
-    go begins = run-seats (run-at run begins)
-    go (turned t h) = go t
-    go (goes-on t e) = go t
-    go (laid t h) = go t
-    go (all-laid t) = go t
-    go (served t h) = go t
-    go (next-round t) = run-seats (run-at run t)
+run-began run = let (u, t, e) = round-began (run .trace) in rw e (run-seats (run-at run t))
 
 module _ {p : Plan} {n : ℕ} {choices : List ℕ} {r : ℕ} {b : List Worker} {s : State} where
   pub run-turns : InRun p n choices r b (turning 0) s → (k : ℕ) → k ≤ n → InRun p n choices r b (turning k) (turns p r k b s)
   unfolding countIn
-  run-turns run k h = run-at run (turns-trace (setting p n choices) (run .trace) k h)
+  run-turns run k h = run-at run (turns-trace (run .trace) k h)
 
   pub run-lays : InRun p n choices r b (laying 0) s → (k : ℕ) → k ≤ n → InRun p n choices r b (laying k) (lays (setting p n choices) r k b s)
   unfolding countIn
-  run-lays run k h = run-at run (lays-trace (setting p n choices) (run .trace) k h)
+  run-lays run k h = run-at run (lays-trace (run .trace) k h)
 
   pub run-serves : InRun p n choices r b (serving 0) s → (k : ℕ) → k ≤ n → InRun p n choices r b (serving k) (serves (setting p n choices) r k s)
   unfolding countIn
-  run-serves run k h = run-at run (serves-trace (setting p n choices) (run .trace) k h)
+  run-serves run k h = run-at run (serves-trace (run .trace) k h)

@@ -14,7 +14,6 @@ use Rattle.plan.specs.Rules.{Accepted}
 use Rattle.plan.proofs.Laws.Lists.{true-of, false-of}
 use Rattle.plan.proofs.Laws.Placed.{placed-at, place-below, first-at, join-at, spawn-at}
 use Rattle.plan.proofs.Laws.Valid.{jobs-range, size-range, total-range, older, join-target}
-use Rattle.runs.specs.Setting.{setting}
 use Rattle.runs.specs.declared.worker.Worker.{Worker}
 use Rattle.runs.specs.State.{State, nextOf, dequeOf}
 use Rattle.courses.specs.Row.{place}
@@ -26,7 +25,7 @@ use Rattle.courses.proofs.Laws.PlanShape.{shape}
 use Rattle.scheduler.proofs.Laws.Running.{run-sound}
 use Rattle.scheduler.proofs.Laws.Missing.{missing-none, missing-no, missing-sent, missing-kept}
 use Rattle.courses.proofs.Laws.Course.{place-apart}
-use Rattle.runs.proofs.Laws.Sound.{Sound, held-job}
+use Rattle.runs.proofs.Laws.Lined.{Sound, held-job}
 use Rattle.runs.proofs.Laws.TurnSound.{acted, others, wakes-is, wakes-by, wakes-empty}
 
 module _ {p : Plan} {n : ℕ} {choices : List ℕ} {r : ℕ} {b : List Worker} {s : State} {k j w weighs : ℕ}
@@ -39,7 +38,7 @@ module _ {p : Plan} {n : ℕ} {choices : List ℕ} {r : ℕ} {b : List Worker} {
   acting-sound = run-sound (a .run)
 
   pub acting-job : (j < length p) × (nextOf s j < size p j) × (1 ≤ j → spawnAt p j < nextOf s (parentOf p j))
-  acting-job = held-job p ok n s acting-sound w j (a .holding)
+  acting-job = held-job acting-sound w (a .holding)
 
   pub acting-room : (j < 256) × (k < total p) × (k < 2048) × (nextOf s j < 255) × (w < 16)
   acting-room =
@@ -64,10 +63,10 @@ module _ {p : Plan} {n : ℕ} {choices : List ℕ} {r : ℕ} {b : List Worker} {
 
   -- how many actions are done after it
   pub acting-next : getD (afterOf s j) j 0 ≡ suc (nextOf s j)
-  acting-next = acted p ok n (a .run .most) s acting-sound w j (a .holding)
+  acting-next = acted ok acting-sound w (a .holding)
 
   pub acting-others : (h : ℕ) → h ≢ j → getD (afterOf s j) h 0 ≡ nextOf s h
-  acting-others = others p ok n (a .run .most) s acting-sound w j (a .holding)
+  acting-others = others s j
 
   pub acting-counted : (h : ℕ) → h < length p → getD (set next j (suc (nextOf s j))) h 0 ≡ getD (afterOf s j) h 0
   acting-counted h l =
@@ -100,7 +99,7 @@ module _ {p : Plan} {n : ℕ} {choices : List ℕ} {r : ℕ} {b : List Worker} {
   unfolding Woken
   still f =
       let e : wakes p (s .next) (afterOf s j) j (nextOf s j) ≡ _ = false-of _
-      (λ t. f (wakes-is p ok′ n (g .acting .run .most) s (acting-sound (g .acting)) w j (g .acting .holding) t)) in
+      (λ t. f (wakes-is ok′ (acting-sound (g .acting)) w (g .acting .holding) t)) in
       rw (e, set-getD (s .deques) w []) (g .acting .dequed)
 
   -- the action sends no join
@@ -197,14 +196,14 @@ module _ {p : Plan} {n : ℕ} {choices : List ℕ} {r : ℕ} {b : List Worker} {
       wakes-it : T (wakes p (s .next) (afterOf s j) j (nextOf s j))
       wakes-it =
           let x : nextOf s (parentOf p j) ≡ sent - 1 = sym is-next ∙ y in
-          wakes-by p ok′ n (g .acting .run .most) s (acting-sound (g .acting)) w j (g .acting .holding) (record {
+          wakes-by ok′ (acting-sound (g .acting)) w (g .acting .holding) (record {
             sends = omega (arith, sends);
             ready = missing-none p ok′ (afterOf s j) (parentOf p j) (getD (afterOf s j) (parentOf p j) 0)
                 (rw (parent-next, x) (omega (arith, send-misses)));
           })
 
       pub send-empty : dequeOf s w ≡ []
-      send-empty = wakes-empty p ok′ n (g .acting .run .most) s (acting-sound (g .acting)) w j (g .acting .holding) wakes-it
+      send-empty = wakes-empty ok′ (acting-sound (g .acting)) w (g .acting .holding) wakes-it
 
       pub send-wakes : (slots′ top′ len′ : List ℕ) → Dequed (set (s .deques) w (getD parent j 0 ∷ dequeOf s w)) slots′ top′ len′
           → Sent p s j w next (set missing (f + (sent - 1)) (getD missing (f + (sent - 1)) 0 - 1)) slots′ top′ len′

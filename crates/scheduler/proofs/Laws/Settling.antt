@@ -58,7 +58,7 @@ module _ {p : Plan} {n : ℕ} {choices : List ℕ} {r : ℕ} {b : List Worker} {
   -- the bottom job of the worker's deque is of smaller number than the job that acts
   pub found-low : (x : ℕ) (d : List ℕ) → dequeOf s w ≡ x ∷ d → x < j
   found-low x d e =
-      let c : Chain (shape p) (j ∷ (x ∷ d)) = rw e at (sound-chain p ok n s (acting-sound a) w j (a .holding)) in
+      let c : Chain (shape p) (j ∷ (x ∷ d)) = rw e at (sound-chain (acting-sound a) w (a .holding)) in
       omega (arith, c .1, older p ok j (c .0) (acting-job a .0))
 
   -- and after rule 1 too
@@ -67,7 +67,7 @@ module _ {p : Plan} {n : ℕ} {choices : List ℕ} {r : ℕ} {b : List Worker} {
     where
       go : (v : Bool) → wakes p (s .next) (afterOf s j) j (nextOf s j) ≡ v → woken v (parentOf p j) (dequeOf s w) ≡ x ∷ d → x < j
       go true y q =
-          let k = wakes-is p ok n (a .run .most) s (acting-sound a) w j (a .holding) (rw y tt) in
+          let k = wakes-is ok (acting-sound a) w (a .holding) (rw y tt) in
           let o = join-target p ok j (nextOf s j) (nextOf s (parentOf p j)) (acting-job a .0) (acting-job a .1) (k .sends) .0 in
           let e : parentOf p j ≡ x = cc in
           omega (arith, older p ok j o (acting-job a .0))
@@ -118,7 +118,7 @@ module _ {p : Plan} {n : ℕ} {choices : List ℕ} {r : ℕ} {b : List Worker} {
         → Acted p (turn p r w j s) w t next′ missing′ slots′ top′ len′
     acting-spawns t h z g d =
         seated (record { worker = Holding c; deque = j ∷ aboveOf p s w j })
-        (seat-spawn p (afterOf s j) j (nextOf s j) (aboveOf p s w j) c spawns) t h
+        (seat-spawn p (afterOf s j) j (nextOf s j) (aboveOf p s w j) spawns) t h
         (omega (
           arith,
           a .weighed,

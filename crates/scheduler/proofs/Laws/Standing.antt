@@ -80,7 +80,7 @@ module _ (p : Plan) (n : ℕ) (choices frame first spawn join parent entering : 
       h = goes-on test
 
       known : (r : ℕ) → InRun p n choices r (s .workers) (turning 0) s → suc (s .tally .rounds) ≡ r
-      known r i = rounds-known (setting p n choices) (run-fit i) (i .trace)
+      known r i = rounds-known (run-fit i) (i .trace)
 
       in-run : (r : ℕ) × InRun p n choices r (s .workers) (turning 0) s
       in-run =

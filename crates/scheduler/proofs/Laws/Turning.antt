@@ -21,13 +21,12 @@ use Rattle.runs.specs.declared.worker.Worker.{Worker}
 use Rattle.runs.specs.declared.worker.Worker.the-variants.{Idle, Holding, Waiting}
 use Rattle.runs.specs.State.{State, nextOf, workerOf}
 use Rattle.courses.specs.Row.{place}
-use Rattle.runs.specs.Turn.{turn, idled, turnOf, turns}
+use Rattle.runs.specs.Turn.{turn, idled, turnOf}
 use Rattle.runs.specs.Trace.{turning, Trace, turned}
 use Rattle.scheduler.specs.Machine.{InRun, codeOf, Fitting, Planned, Machine, Manned, Printed, Kept, Acting, Acted}
-use Rattle.runs.proofs.Laws.Sound.{trace-began, next-bound}
+use Rattle.runs.proofs.Laws.Began.{trace-began}
 use Rattle.courses.proofs.Laws.Course.{place-apart, Acts, acted}
 use Rattle.runs.proofs.Laws.Coursed.{core, turn-ends}
-use Rattle.runs.proofs.Laws.Whole.{counts-small, turns-trace}
 use Rattle.scheduler.proofs.Laws.Codes.{seated-set}
 use Rattle.scheduler.proofs.Laws.Running.{run-sound, run-counts, run-seats, run-at}
 
@@ -105,21 +104,21 @@ module _ (p : Plan) (n : ℕ) (choices : List ℕ) (r w : ℕ) (b : List Worker)
 
   -- what stands in the seat of a worker whose turn comes stood there as the round began
   pub turning-seat : {x : Worker} → w < n → workerOf s w ≡ x → getD b w Idle ≡ x
-  turning-seat below e = sym (trace-began (setting p n choices) (run .trace) w (le-refl w)) ∙ e
+  turning-seat below e = sym (trace-began (run .trace) w (le-refl w)) ∙ e
 
   module _ (j : ℕ) (holding : workerOf s w ≡ Holding j) where
     pub turning-ahead : Ahead p r w j s
     turning-ahead =
         let ok = run .accepted in
         let sound = run-sound run in
-        let acts = turn-ends p ok n s sound r w j holding .acts in
+        let acts = turn-ends sound r w holding .acts in
         record {
           known = acts .known;
           small = omega (arith, acts .known, jobs-range p ok);
           within = place-below p j (nextOf s j) (acts .known) (acts .left);
           early = turning-small .0;
           few = turning-small .1;
-          bound = next-bound p ok n s sound;
+          bound = sound .good .closed .bound;
           acts = acts;
         }
 

@@ -17,7 +17,8 @@ use Rattle.runs.specs.Run.{ended, round, rounds, run}
 use Rattle.runs.specs.Trace.{turning, Trace, begins, goes-on, all-laid, next-round}
 use Rattle.runs.proofs.Laws.Fit.{Fit}
 use Rattle.runs.proofs.Laws.Rounds.{rounds-known, numbered-late}
-use Rattle.runs.proofs.Laws.Whole.{turns-trace, lays-trace, serves-trace, round-last, round-on, rounds-stop, rounds-on, round-most}
+use Rattle.runs.proofs.Laws.Whole.{turns-trace, lays-trace, serves-trace, round-last, round-on, rounds-stop, rounds-on}
+use Rattle.runs.proofs.Laws.Coursed.{round-most}
 
 pub data Underway (p : Plan) (n : ℕ) (choices : List ℕ) (s : State) : Type 0 where
   begun : (r k : ℕ) → Trace (setting p n choices) r (s .workers) (turning 0) s → run (setting p n choices) ≡ rounds k (setting p n choices) s → work p < k + r
@@ -47,20 +48,20 @@ module _ (p : Plan) (n : ℕ) (choices : List ℕ) (fit : Fit (setting p n choic
   pub underway-round : (s : State) → Underway p n choices s → ended p s ≡ false → Rounded p n choices s
   unfolding countIn
   underway-round s (over e q) f = absurd (let y : _≡_ {A = ℕ} 0 1 = cc in omega arith)
-  underway-round s (begun r zero t q h) f = absurd (omega (arith, round-most (setting p n choices) fit t))
+  underway-round s (begun r zero t q h) f = absurd (omega (arith, round-most fit t))
   underway-round s (begun r (suc k) t q h) f = go (ended p half) refl
     where
       half : State
       half = turns p r n (s .workers) s
 
       known : suc (s .tally .rounds) ≡ r
-      known = rounds-known (setting p n choices) fit t
+      known = rounds-known fit t
 
       low : r ≤ 2048
-      low = omega (arith, round-most (setting p n choices) fit t, work-range p (fit .plan))
+      low = omega (arith, round-most fit t, work-range p (fit .plan))
 
       taken : Trace (setting p n choices) r (s .workers) (turning n) half
-      taken = turns-trace (setting p n choices) t n (le-refl n)
+      taken = turns-trace t n (le-refl n)
 
       left : run (setting p n choices) ≡ rounds k (setting p n choices) (round (setting p n choices) s)
       left = q ∙ rounds-on (setting p n choices) k s f
@@ -68,7 +69,7 @@ module _ (p : Plan) (n : ℕ) (choices : List ℕ) (fit : Fit (setting p n choic
       go : (x : Bool) → ended p half ≡ x → Rounded p n choices s
       go true g =
           let e = round-last (setting p n choices) r s known g in
-          let c : half .tally .rounds ≡ r = numbered-late n r (half .tally .rounds) (fit .some) (rounds-known (setting p n choices) fit taken) in
+          let c : half .tally .rounds ≡ r = numbered-late (fit .some) (rounds-known fit taken) in
           record {
             underway = rw e (over g (rw e at left ∙ rounds-stop (setting p n choices) k half g));
             counted = rw e (omega (arith, known));
@@ -76,8 +77,8 @@ module _ (p : Plan) (n : ℕ) (choices : List ℕ) (fit : Fit (setting p n choic
           }
       go false g =
           let e = round-on (setting p n choices) r s known g in
-          let t′ = next-round (serves-trace (setting p n choices) (all-laid (lays-trace (setting p n choices) (goes-on taken g) n (le-refl n))) n (le-refl n)) in
-          let c = rounds-known (setting p n choices) fit t′ in
+          let t′ = next-round (serves-trace (all-laid (lays-trace (goes-on taken g) n (le-refl n))) n (le-refl n)) in
+          let c = rounds-known fit t′ in
           record {
             underway = rw e (begun (suc r) k t′ (rw e at left) (omega arith));
             counted = rw e (omega (arith, c, known));

@@ -13,7 +13,6 @@ use lib.Seq.{getD-set-same, getD-set-other}
 use Rattle.plan.specs.Plan.{Plan, job, size, action, parent, spawnAt}
 use Rattle.plan.specs.Rules.{Accepted}
 use Rattle.plan.proofs.Laws.Valid.{jobs-range, size-range, frame-range, older, spawned-there, spawned-once, join-target, last-sends}
-use Rattle.runs.specs.Setting.{setting}
 use Rattle.runs.specs.declared.worker.Worker.{Worker}
 use Rattle.runs.specs.declared.worker.Worker.the-variants.{Holding}
 use Rattle.runs.specs.State.{State, nextOf, workerOf}
@@ -24,7 +23,7 @@ use Rattle.lines.proofs.Laws.Shape.{Living, living?}
 use Rattle.lines.proofs.Laws.Sum.{sum, only, only-yes, only-no, sum-bound}
 use Rattle.lines.proofs.Laws.Weight.{held}
 use Rattle.courses.proofs.Laws.PlanShape.{shape, weight-held}
-use Rattle.runs.proofs.Laws.Sound.{Sound, held-job}
+use Rattle.runs.proofs.Laws.Lined.{Sound, held-job}
 use Rattle.scheduler.proofs.Laws.Running.{run-sound}
 
 -- no term of a sum changes
@@ -85,7 +84,7 @@ module _ {p : Plan} {n : ℕ} {choices : List ℕ} {r : ℕ} {began : List Worke
   sound = run-sound run
 
   known : (j < length p) × (nextOf s j < size p j) × (1 ≤ j → spawnAt p j < nextOf s (parent p j))
-  known = held-job p (run .accepted) n s sound w j holding
+  known = held-job sound w holding
 
   after : ℕ → ℕ
   after k = getD (set (s .next) j (suc (nextOf s j))) k 0

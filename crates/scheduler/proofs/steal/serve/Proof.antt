@@ -49,7 +49,7 @@ step-up-requires c κs =
     let (p, n, choices, r, b, hi, s, run, known, manned, queued, dequed) = c .before .before .before .before .before .pre in
     let e = picks (c .before .before) p n choices r b hi s run known queued in (
       omega (arith, run .most),
-      omega (arith, run .most, oldest-waits (c .before .before .before .before .before .args .v) n (s .workers) (run .most) _ (sym e) .0),
+      omega (arith, run .most, oldest-waits (c .before .before .before .before .before .args .v) n (s .workers) (run .most) (sym e) .0),
       queued .long .0,
       queued .long .1,
     )
@@ -80,7 +80,7 @@ returns-2 c = (
   λ p n choices r b hi s run known manned queued dequed.
       let e = picks (c .before .before .before .before .before .before .before) p n choices r b hi s run known queued in
       let (m, d) = c .give .ensures p n choices r b s (record { run = run; known = known; manned = manned; dequed = dequed; picked = e }) in
-      let (h, l, w) = oldest-waits (c .before .before .before .before .before .before .before .before .before .before .args .v) n (s .workers) (run .most) _ (sym e) in
+      let (h, l, w) = oldest-waits (c .before .before .before .before .before .before .before .before .before .before .args .v) n (s .workers) (run .most) (sym e) in
       rw (sym e) (
         m,
         serve-queued (c .before .before .before .before .before .before .before .before .before .before .args .v) _ s

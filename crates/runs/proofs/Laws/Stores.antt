@@ -1,0 +1,85 @@
+-- What a turn, a request and a service store of the workers: at most one of them changes. After its turn, or once it is served, a
+-- worker does not wait; with its request it waits on the victim that the choices name.
+--   victimOf S s   == the victim of the next request
+--   turned-workers == what holds of the workers, and of those with one that does not wait in place of a worker k that held a job as
+--                     the round began, holds after k's turn
+--   laid-workers   == what holds of the workers, and of those with one that waits in place of a worker k that was idle as the round
+--                     began, holds after k's request
+--   served-workers == what holds of the workers if none is served, and of those with one that does not wait in place of the one that
+--                     is, holds after the service
+use Prim.Native.Nat.{ℕ, zero, suc, _%_}
+use mathlib.Core.Path.{_≡_, refl}
+use mathlib.Core.Bool.{Bool, true, false}
+use mathlib.Core.List.{List, [], _∷_}
+use lib.Dec.{ltb}
+use lib.ListN.{length, getD, set}
+use Rattle.plan.specs.Test.{both}
+use Rattle.plan.specs.Plan.{Plan, size, action}
+use Rattle.courses.specs.Ready.{ready}
+use Rattle.runs.specs.declared.worker.Worker.{Worker}
+use Rattle.runs.specs.declared.worker.Worker.the-variants.{Idle, Holding, Waiting}
+use Rattle.runs.specs.Setting.{Setting, countIn}
+use Rattle.runs.specs.State.{State, nextOf, dequeOf}
+use Rattle.runs.specs.Turn.{seatAfter, turn, idled, turnOf}
+use Rattle.runs.specs.Parts.{afterOf, aboveOf}
+use Rattle.runs.specs.Trace.{turning, laying, serving, Trace}
+use Rattle.runs.proofs.Laws.TurnSound.{stay, seat-spawn, seat-none}
+use Rattle.runs.specs.Steal.{laid, lay, oldest, topOf, given, serve, waits}
+
+abbrev pub victimOf : Setting → State → ℕ
+victimOf S s = getD (S .choices) (s .tally .requests % length (S .choices)) 0
+
+stay-waits : (b : Bool) (j : ℕ) (d : List ℕ) → waits (stay b j d .worker) ≡ 0
+stay-waits true j d = refl
+stay-waits false j [] = refl
+stay-waits false j (x ∷ d) = refl
+
+seat-waits : (p : Plan) (after : List ℕ) (j i : ℕ) (d : List ℕ) → waits (seatAfter p after j i d .worker) ≡ 0
+seat-waits p after j i d = go (action p j i .spawn) refl
+  where
+    go : (c : ℕ) → action p j i .spawn ≡ c → waits (seatAfter p after j i d .worker) ≡ 0
+    go (suc c) e = rw (seat-spawn p after j i d e)
+    go zero e = rw (seat-none p after j i d e) (stay-waits (both (ltb (suc i) (size p j)) (ready p after j)) j d)
+
+module _ (P : List Worker → Type 0) where
+  turn-workers : (p : Plan) (r k : ℕ) (x : Worker) (s : State) → P (s .workers)
+      → ((j : ℕ) (y : Worker) → x ≡ Holding j → waits y ≡ 0 → P (set (s .workers) k y)) → P (turnOf p r k x s .workers)
+  unfolding turnOf turn idled
+  turn-workers p r k Idle s i f = i
+  turn-workers p r k (Holding j) s i f = f j _ refl (seat-waits p (afterOf s j) j (nextOf s j) (aboveOf p s k j))
+  turn-workers p r k (Waiting v l) s i f = i
+
+  lay-workers : (S : Setting) (r k : ℕ) (x : Worker) (s : State) → P (s .workers)
+      → (x ≡ Idle → P (set (s .workers) k (Waiting (victimOf S s) r))) → P (lay S r k x s .workers)
+  unfolding lay laid
+  lay-workers S r k Idle s i f = f refl
+  lay-workers S r k (Holding j) s i f = i
+  lay-workers S r k (Waiting v l) s i f = i
+
+  pub given-workers : (v w : ℕ) (d : List ℕ) (s : State) → ((y : Worker) → waits y ≡ 0 → P (set (s .workers) w y))
+      → P (given v w d s .workers)
+  unfolding given
+  given-workers v w [] s f = f Idle refl
+  given-workers v w (x ∷ d) s f = f (Holding (topOf x d)) refl
+
+  serve-workers : (v who : ℕ) (s : State) → (who ≡ 0 → P (s .workers))
+      → ((w : ℕ) (y : Worker) → who ≡ suc w → waits y ≡ 0 → P (set (s .workers) w y)) → P (serve v who s .workers)
+  unfolding serve
+  serve-workers v zero s i f = i refl
+  serve-workers v (suc w) s i f = given-workers v w (dequeOf s v) s (λ y. f w y refl)
+
+  -- the same at the steps of a run
+  module _ {S : Setting} {r k : ℕ} {b : List Worker} {s : State} where
+    pub turned-workers : Trace S r b (turning k) s → P (s .workers)
+        → ((j : ℕ) (y : Worker) → getD b k Idle ≡ Holding j → waits y ≡ 0 → P (set (s .workers) k y))
+        → P (turnOf (S .plan) r k (getD b k Idle) s .workers)
+    turned-workers t = turn-workers (S .plan) r k (getD b k Idle) s
+
+    pub laid-workers : Trace S r b (laying k) s → P (s .workers)
+        → (getD b k Idle ≡ Idle → P (set (s .workers) k (Waiting (victimOf S s) r))) → P (lay S r k (getD b k Idle) s .workers)
+    laid-workers t = lay-workers S r k (getD b k Idle) s
+
+    pub served-workers : Trace S r b (serving k) s → let who = oldest k (countIn S r) (s .workers) .who in
+        (who ≡ 0 → P (s .workers)) → ((w : ℕ) (y : Worker) → who ≡ suc w → waits y ≡ 0 → P (set (s .workers) w y))
+        → P (serve k who s .workers)
+    served-workers t = serve-workers k (oldest k (countIn S r) (s .workers) .who) s
