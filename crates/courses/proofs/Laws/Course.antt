@@ -9,7 +9,7 @@
 --   Begins p c         == c is how a course begins
 --   Hands e k b b′ c   == a round begins with the hands b′ after one with the hands b in which the workers below k had their turns;
 --                         b w is suc j where worker w has job j, and 0 where it has none
---   Paced e m m′ b     == some worker has a job by the hands b and m′ is m, or m′ is one more
+--   Paced m m′ b       == some worker has a job by the hands b and m′ is m, or none has and m′ is one more
 --   Works p j c c′     == c′ is c after a turn with job j that does not finish its next action
 --   Ends p r w j c c′  == c′ is c after worker w finished the next action of job j in round r
 --   Acts p r w j c c′  == what Ends says of the counts of done actions and of the rows
@@ -64,6 +64,10 @@ pub record Terms : Type 0 where
   pub workers : ℕ
   pub bound : ℕ → ℕ
   pub steady : Bool
+
+-- some worker has a job in a round, or it is one more round in which none has
+abbrev pub Paced : ℕ → ℕ → (ℕ → ℕ) → Type 0
+Paced m m′ b = ((m ≡ m′) × ((w : ℕ) × (j : ℕ) × (b w ≡ suc j))) ⊎ ((suc m ≡ m′) × ((w : ℕ) → b w ≡ 0))
 
 -- it is the action that job j does next
 abbrev pub New : ℕ → Core → ℕ → ℕ → Type 0
@@ -142,10 +146,6 @@ module _ (e : Terms) where
     pub once : (v w j : ℕ) → b′ v ≡ suc j → b′ w ≡ suc j → v ≡ w
     -- a job that was begun is with the worker that had it in the last round
     pub stays : T steady → (w j : ℕ) → b′ w ≡ suc j → 1 ≤ spentIn c j → b w ≡ suc j
-
-  -- some worker has a job in a round, or it is one more round in which none has
-  abbrev pub Paced : ℕ → ℕ → (ℕ → ℕ) → Type 0
-  Paced m m′ b = ((m ≡ m′) × ((w : ℕ) × (j : ℕ) × (b w ≡ suc j))) ⊎ (suc m ≡ m′)
 
   pub data Course : ℕ → ℕ → ℕ → (ℕ → ℕ) → Core → Type 0 where
     begins : {b : ℕ → ℕ} {c : Core} → ((w : ℕ) → b w ≡ 0) → Begins plan c → weight plan (c .next) ≤ bound 0 → Course 0 0 0 b c

@@ -1,4 +1,5 @@
--- A central pool is a course, whatever the rule by which idle workers take jobs that are ready and that nobody has.
+-- A central pool is a course, whatever the rule by which idle workers take jobs that are ready and that nobody has: after its turn a
+-- worker has the job that was spawned, or its own if it goes on, or the parent of its own once that has ended and no child keeps it.
 --   lineOf h w             == the job that worker w has, as a line; h w is suc j where it has job j, and 0 where it has none
 --   Takes p n h h′ c       == before a round workers that have no job take living, ready jobs that nobody has
 --   Has p j c c′ h x       == why a worker has job x after it finished an action of job j: the action spawned it, or it is j and goes
@@ -253,7 +254,7 @@ module _ (p : Plan) where
           none w l (suc j) e = absurd (omega (arith, o .known w j e))
 
       -- some job is in hand while job 0 lives
-      busy : {k : ℕ} {b h : ℕ → ℕ} {c : Core} → Manned k b h c → nextIn c 0 < size p 0 → Paced terms 0 0 h
+      busy : {k : ℕ} {b h : ℕ → ℕ} {c : Core} → Manned k b h c → nextIn c 0 < size p 0 → Paced 0 0 h
       busy {h = h} {c = c} o l =
           let (w, x, r, e) = Cover.busy (shape p) (shape-valid p ok) (nextIn c) (lineOf h) (o .leaves)
           (record { below = jobs-range p ok .0; begun = λ z. absurd (omega arith); left = l }) in

@@ -1,4 +1,4 @@
--- How many turns all actions take, by T1.
+-- How many turns all actions take: T1, where each takes one.
 --   sizes-sum  == the sizes of a plan's jobs add up to its number of actions
 --   price-work == where every action takes one turn, all of them take T1
 use Prim.Native.Nat.{ℕ, zero, suc, _≤_}

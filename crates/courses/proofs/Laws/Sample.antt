@@ -99,7 +99,7 @@ round-1 =
     refl (omega arith) (worked-works samplePlan 0 unbegun (omega arith))
 
 round-2 : Course sampleTerms 2 1 0 nobody half
-round-2 = next-round round-1 (hands half refl (λ w j q. omega (arith, with-just 0 w j q)) 0 (omega arith) (nobody-just 0)) (inr refl)
+round-2 = next-round round-1 (hands half refl (λ w j q. omega (arith, with-just 0 w j q)) 0 (omega arith) (nobody-just 0)) (inr (refl, λ w. refl))
 
 round-3 : Course sampleTerms 3 1 0 (with 1) half
 round-3 = next-round round-2 (hands half refl (λ w j q. absurd (omega arith)) 1 (omega arith) (with-just 1)) (inl (refl, (1, 0, refl)))

@@ -97,7 +97,7 @@ module _ (e : Terms) where
     course-turned : {r m k : ℕ} {b : ℕ → ℕ} {c : Core} → Course e r m k b c
         → (r ≤ suc (c .turns + m)) × (((w j : ℕ) → b w ≡ suc j → w < k) → r ≤ c .turns + m)
     course-turned (begins idle s h) = (omega arith, λ f. omega arith)
-    course-turned (next-round t s (inr h)) = let i = course-turned t .1 (s .over) in (omega arith, λ f. omega arith)
+    course-turned (next-round t s (inr (h, none))) = let i = course-turned t .1 (s .over) in (omega arith, λ f. omega arith)
     course-turned (next-round t s (inl (h, (w, j, q)))) =
         let i = course-turned t .1 (s .over) in
         (omega arith, λ f. absurd (not-suc-le-zero (f w j q)))
@@ -114,7 +114,7 @@ module _ (e : Terms) where
     course-most positive {r} {m} {k} {b} {c} t =
         go (find (λ w. (k ≤ w) × (1 ≤ b w)) (λ w. Dec·and (decLe k w) (decLe 1 (b w))) workers)
       where
-        -- a job that is in hand has a turn before it
+        -- a job that is in hand has a turn still to come
         more : (w j : ℕ) → k ≤ w → b w ≡ suc j → c .turns < price
         more w j l q =
             let a = course-kept e ok t .lives w j l q in

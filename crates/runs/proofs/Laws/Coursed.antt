@@ -1,7 +1,7 @@
 -- A run is a course of turns, so that all that holds of courses holds of its rows and its peak.
 --   core s       == the state as a course has it
 --   handsOf b    == which job each worker has in a round that begins with the workers b: its number plus 1, or 0
---   terms S      == what the course of a run is of
+--   terms S      == the plan, the turns of an action, the workers and the bounds of a run's course
 --   passed S r g == how many workers have had their turns at stage g of round r
 --   trace-course == every state of a run is one of a course
 --   run-row, run-keeps, least-rounds, last-round, run-space, run-peak, lone-peak == so of the end of a run: its rows, rounds and peak
@@ -115,8 +115,8 @@ module _ {S : Setting} (fit : Fit S) where
         stays = λ z w j q l. absurd (omega arith);
       }
 
-  -- some job is
-  held-some : {r : ℕ} {b : List Worker} {s : State} → Trace S r b (turning 0) s → Paced (terms S) 0 0 (handsOf (s .workers))
+  -- some worker holds a job as a round begins
+  held-some : {r : ℕ} {b : List Worker} {s : State} → Trace S r b (turning 0) s → Paced 0 0 (handsOf (s .workers))
   held-some t = let (w, j, l, q) = busy (fit .plan) (trace-sound fit t) (not-ended fit t) in inl (refl, (w, j, ap handsIn q))
 
   -- all actions take T1 turns
