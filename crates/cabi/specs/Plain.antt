@@ -2,7 +2,6 @@
 --   countOf, measuresOf, tallyOf == the numbers of an outcome
 --   checkOf                      == the number of a judgement
 --   Claimed plan n r schedule    == demand 3's claim, of what was returned and written
--- Assumes nothing.
 use Prim.Native.Nat.{ℕ}
 use mathlib.Core.Path.{_≡_}
 use mathlib.Core.List.{List}

@@ -1,6 +1,5 @@
 -- What the checker's answer stands for.
 --   judgedOf r == the number of the refusal, or 0, which stands for accepted
--- Assumes nothing.
 use Prim.Native.Nat.{ℕ}
 use Rattle.plan.specs.Refusal.{Outcome, refused, accepted, numberOf}
 use Rattle.checker.specs.declared.Judged.{Judged}

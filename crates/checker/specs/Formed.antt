@@ -4,7 +4,6 @@
 --   Headed s n r     == the answer r tells whether the header is well formed, and then its worker count
 --   word s i         == the bytes at i and i + 1 as a number of 16 bits
 --   RoundsTold s n r == the answer r tells whether each of the n rows has a round that is not 0
--- Assumes nothing.
 use Prim.Native.Nat.{ℕ, suc, _+_, _*_, _≤_, _<_}
 use mathlib.Core.Path.{_≡_}
 use mathlib.Core.Bool.{Bool}

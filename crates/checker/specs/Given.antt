@@ -1,6 +1,5 @@
 -- What the test of a schedule's rules is given. Private functions alone cite it.
 --   RulesGiven p rows .. == the bytes hold the rows of a schedule for the plan p, and the arrays hold the plan
--- Assumes nothing.
 use Prim.Native.Nat.{ℕ, _≤_, _<_}
 use mathlib.Core.Path.{_≡_}
 use mathlib.Core.List.{List}

@@ -12,7 +12,6 @@
 --                          the first a are of one round and one worker
 --   Looking p m k at row .. == row k was entered, the first k are apart, and it is none of them from place `at` on: there its
 --                          bucket's chain goes on
--- Assumes nothing.
 use Prim.Native.Nat.{ℕ, suc, _+_, _*_, _/_, _%_, _≤_, _<_}
 use mathlib.Core.Path.{_≡_}
 use mathlib.Core.Bool.{Bool}

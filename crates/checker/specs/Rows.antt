@@ -1,6 +1,5 @@
 -- What a schedule's rows are in its bytes. Private functions alone cite it.
 --   RowsAt rows s == the bytes s, behind the header, hold the rows: each row's round and worker are 16 bits
--- Assumes nothing.
 use Prim.Native.Nat.{ℕ, _+_, _*_, _<_}
 use mathlib.Core.Path.{_≡_}
 use mathlib.Core.List.{List}

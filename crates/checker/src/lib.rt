@@ -1,5 +1,5 @@
 // The checker (document 01, "Schedule"): whether a schedule's bytes are well formed for a plan and keep the rules of a run.
-// It relies on what the crates below promise, and cites their laws only. It assumes nothing.
+// It relies on what the crates below promise, and cites their laws only.
 ghost use mathlib.Core.Path.{_≡_};
 ghost use Rattle.courses.specs.Schedule.{checked};
 ghost use Rattle.checker.specs.Answer.{judgedOf};

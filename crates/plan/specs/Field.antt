@@ -6,7 +6,6 @@
 --   Step A           == what was read and the next place, or the number of the refusal
 --   fieldAt s w at   == the field of w bits at place at of the bytes s, or that the bits ran out
 --   stepOf f         == the step that the field reader's answer stands for
--- Assumes nothing.
 use Prim.Native.Nat.{ℕ, zero, suc, _+_, _*_, _/_, _%_, _^_, _<_}
 use mathlib.Core.Path.{_≡_}
 use mathlib.Core.Bool.{true, false}

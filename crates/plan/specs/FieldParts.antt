@@ -1,7 +1,6 @@
 -- What the steps of the field reader and of the field writer do. Private functions alone cite this.
 --   windowOf s    == the first 32 bits of the bytes s, zero past their end
 --   Loose out k   == k is a sink that holds up to 31 bits, for which the buffer out has room
--- Assumes nothing.
 use Prim.Native.Nat.{ℕ, _+_, _*_, _-_, _^_, _≤_, _<_}
 use mathlib.Core.Path.{_≡_}
 use mathlib.Core.List.{List, _++_}

@@ -12,7 +12,6 @@
 --   Blank f           == f are arrays to read into: of full length, with no spawn and no join noted; 255 stands for no spawn
 --   ReadInto s r f    == what reading the bytes s into the arrays f answers: the refusal, or that they hold the plan
 --   jobsIn, actionsIn == the counts that such an answer gives
--- Assumes nothing.
 use Prim.Native.Nat.{ℕ, zero, suc, _+_, _≤_, _<_}
 use mathlib.Core.Path.{_≡_}
 use mathlib.Core.List.{List, [], _∷_, map}

@@ -3,7 +3,6 @@
 --   Unspawned ..     == the arrays for parents and spawn positions are those before the first action
 --   JoinsGiven p ..  == the same for the join rules: the spawn rules hold, and parents and spawn positions are known
 --   Unentered l      == the array that counts joins is that before the first action
--- Assumes nothing.
 use Prim.Native.Nat.{ℕ}
 use mathlib.Core.Path.{_≡_}
 use mathlib.Core.List.{List}

@@ -7,7 +7,6 @@
 --   Counted p k l    == the first k actions keep the rules of their own joins, and the array holds how many of their joins
 --                       enter each action: at most 8
 --   JoinTold p k r l == the answer r tells whether that is so, or the join rules are broken
--- Assumes nothing.
 use Prim.Native.Nat.{ℕ, suc, _+_, _≤_, _<_}
 use mathlib.Core.Path.{_≡_}
 use mathlib.Core.Bool.{Bool}

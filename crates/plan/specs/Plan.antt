@@ -7,7 +7,6 @@
 --   Placed       == an action with its job and position; placed p == all of them, in job then position order
 --   spawner p c  == the first action that spawns job c; parent p c and spawnAt p c == its job and position
 --   entering p q t == how many joins enter the action at position t of job q
--- Assumes nothing.
 use Prim.Native.Nat.{ℕ, zero, suc, _+_}
 use mathlib.Core.Bool.{Bool, true, false}
 use mathlib.Core.List.{List, [], _∷_, _++_}

@@ -7,7 +7,6 @@
 --   headerAt s k at  == a job's frame and action count, where k actions were read before
 --   jobAt s k at     == a job, where k actions were read before
 --   Held p .. a      == the arrays have the jobs and actions of p
--- Assumes nothing.
 use Prim.Native.Nat.{ℕ, _+_}
 use mathlib.Core.Path.{_≡_}
 use mathlib.Core.Bool.{true, false}

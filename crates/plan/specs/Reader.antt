@@ -7,7 +7,6 @@
 --   planAt s           == "form 8 bits (1); jobs 9; then per job ..", up to its last action
 --   fills s at         == "Zero bits fill the last byte; nothing follows"
 --   readPlan s         == the plan that the bytes s hold, or the refusal
--- Assumes nothing.
 use Prim.Native.Nat.{ℕ, zero, suc, _+_, _*_}
 use mathlib.Core.Bool.{Bool, true, false}
 use mathlib.Core.List.{List, [], _∷_}

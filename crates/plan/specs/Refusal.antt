@@ -1,7 +1,6 @@
 -- Why an input is turned down (document 01, "Turned down"), and what an entry answers.
 --   numberOf cause == the number of a cause, as document 01's table has it
 --   Outcome A      == the number of a refusal, or what was asked for
--- Assumes nothing.
 use Prim.Native.Nat.{ℕ}
 use Rattle.plan.specs.declared.refusal.Refusal.{Refusal}
 use Rattle.plan.specs.declared.refusal.Refusal.the-variants.{

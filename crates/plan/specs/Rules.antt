@@ -3,7 +3,6 @@
 --   spawnRules p == refusal 4 does not apply
 --   joinRules p  == refusal 5 does not apply
 --   Accepted p   == none of 3, 4 and 5 applies
--- Assumes nothing.
 use Prim.Native.Nat.{ℕ, zero, suc, _-_}
 use mathlib.Core.Bool.{Bool, true, false}
 use mathlib.Core.List.{List}

@@ -3,7 +3,6 @@
 --   Sound out k        == k is a sink over the buffer out
 --   Put out k bs o k′  == from out and k to o and k′ the bits bs were written behind the others, and nothing else changed
 --   Done out k o n     == from out and k to o the last byte was filled with zero bits; n bytes are written in all
--- Assumes nothing.
 use Prim.Native.Nat.{ℕ, _+_, _-_, _/_, _^_, _≤_, _<_}
 use mathlib.Core.Path.{_≡_}
 use mathlib.Core.List.{List, _++_}

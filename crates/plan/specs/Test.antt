@@ -5,7 +5,6 @@
 --   count f l     == how many members of l f holds of
 --   largest f l   == the largest f x over the members x of l, 0 where l is empty
 --   below n       == the numbers 0 to n - 1
--- Assumes nothing.
 use Prim.Native.Nat.{ℕ, zero, suc, max}
 use mathlib.Core.Bool.{Bool, true, false}
 use mathlib.Core.List.{List, [], _∷_, _++_}

@@ -3,7 +3,6 @@
 --   planBits p    == all bits of a plan; its fields in order, each most significant first
 --   pack n bs     == the first n bytes that the bits bs fill, with zero bits behind them
 --   planBytes p   == the plan's bytes: "Zero bits fill the last byte; nothing follows"
--- Assumes nothing.
 use Prim.Native.Nat.{ℕ, zero, suc, _+_, _/_}
 use mathlib.Core.List.{List, [], _∷_, _++_}
 use lib.ListN.{length, take, drop, replicate}

@@ -1,5 +1,5 @@
 // The lower library of the build runner: bit fields, the rules of a plan, and the reader of plan bytes.
-// It assumes nothing. Every entry says for all inputs, refusals with them, what it answers.
+// Every entry says for all inputs, refusals with them, what it answers.
 pub mod field;
 pub mod flat;
 pub mod reader;

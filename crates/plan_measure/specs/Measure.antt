@@ -9,7 +9,6 @@
 --   path p j         == the path weight of job j: "its own frame plus its parent's path weight"
 --   heaviest p       == S1, the largest path weight
 --   measures s       == T1, T∞ and S1 of the plan that the bytes s hold, or the refusal
--- Assumes nothing.
 use Prim.Native.Nat.{ℕ, zero, suc, _+_, _≤_}
 use mathlib.Core.Path.{_≡_}
 use mathlib.Core.Logic.{_⊎_}
@@ -73,7 +72,7 @@ unfolding path
 heaviest p = largest (path p) (below (length p))
 
 unfoldable pub measured : Outcome Plan → Outcome Measures
-unfolding work longest heaviest
+unfolding longest heaviest
 measured (refused n) = refused n
 measured (accepted p) = accepted (record { actions = work p; longest = longest p; path = heaviest p })
 

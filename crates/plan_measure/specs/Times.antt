@@ -11,7 +11,6 @@
 --                        is too late
 --   SendGiven, Sent   == what sending the joins of the actions at a row of places is given, and what it tells
 --   PassGiven, Passed == the same for the joins of the child that the action at place k spawns, if it spawns one
--- Assumes nothing.
 use Prim.Native.Nat.{ℕ, suc, _+_, _≤_, _<_}
 use mathlib.Core.Path.{_≡_}
 use mathlib.Core.Logic.{_⊎_}

@@ -2,7 +2,6 @@
 --   openingBits ..     == the frame and the size of job j, if its first action stands at place k
 --   actionBits .. k    == those, then what the action at place k spawns and where it sends a join
 --   Writable .. k      == the numbers at place k fit their fields
--- Assumes nothing.
 use Prim.Native.Nat.{ℕ, _+_, _-_, _≤_, _<_}
 use mathlib.Core.Bool.{true, false}
 use mathlib.Core.List.{List, [], _++_}

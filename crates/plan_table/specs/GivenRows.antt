@@ -6,7 +6,6 @@
 --   BitsGiven p .., WriterGiven p .. == the arrays that the plan's bytes are written from hold the plan p
 --   TakeGiven t ..   == the table t keeps its row rules, and the arrays are ready to take its rows
 --   Taken rows r ..  == what taking rows over into the arrays answers: they hold the rows' plan, or a number is out of range
--- Assumes nothing.
 use Prim.Native.Nat.{ℕ, _+_, _-_, _*_, _≤_}
 use mathlib.Core.Path.{_≡_}
 use mathlib.Core.Bool.{Bool, true, false}

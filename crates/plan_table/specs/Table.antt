@@ -6,7 +6,6 @@
 --   planOf rows  == the plan whose table the rows are
 --   readTable t  == the plan that a table holds, or the refusal: 10, 3, 4, 5
 --   toTable, toPlan == what the two entries answer and leave in the lent buffer
--- Assumes nothing.
 use Prim.Native.Nat.{ℕ, zero, suc, _*_, _/_, _%_}
 use mathlib.Core.Bool.{Bool, true, false}
 use mathlib.Core.List.{List, [], _∷_, _++_}

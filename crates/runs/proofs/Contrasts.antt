@@ -15,7 +15,8 @@ use Rattle.plan.specs.Plan.{Plan, spawnAt, entering}
 use Rattle.plan.specs.Rules.{inRange, spawnRules, joinRules, Accepted}
 use Rattle.courses.specs.Row.{Row, noRow, place}
 use Rattle.runs.specs.State.{State}
-use Rattle.runs.specs.Setting.{setting}
+use Rattle.plan_measure.specs.Measure.{work}
+use Rattle.runs.specs.Setting.{setting, countIn}
 use Rattle.runs.specs.Run.{run}
 use Rattle.runs.specs.Cases.{row}
 use Rattle.courses.proofs.Contrasts.{plain, spawns, joins, of, G}
@@ -68,41 +69,41 @@ done p s j i = getD (s .rows) (place p j i) noRow
 
 -- worker 1 steals job 0 in round 1 and does its next action in round 2
 pub thief-waits : done G G-run 0 1 ≡ row 2 1
-unfolding run
+unfolding run countIn work
 thief-waits = refl
 
 -- as round 2 ends worker 0's deque has job 1 at the bottom and job 0 at the top: worker 1 steals job 0
 pub top-stolen : done H H-run 0 1 ≡ row 3 1
-unfolding run
+unfolding run countIn work
 top-stolen = refl
 
 -- job 0 stalls on worker 1 in round 5; worker 0 sends the last join to it in round 7, and does its next action
 pub parent-to-sender : done H H-run 0 3 ≡ row 8 0
-unfolding run
+unfolding run countIn work
 parent-to-sender = refl
 
 -- in round 2 worker 0 sends the join into job 0's action 2 before worker 1 does action 1: job 0 does not stall
 pub join-in-time : done G G-run 0 2 ≡ row 3 1
-unfolding run
+unfolding run countIn work
 join-in-time = refl
 
 -- worker 0 loses its job in round 2, and the run ends before it lays a request
 pub request-waits : G-run .tally .requests ≡ 1
-unfolding run
+unfolding run countIn work
 request-waits = refl
 
 -- in round 4 worker 0 spawns job 4, and then job 3 ends on worker 1: jobs 0, 1, 3 and 4 live between the two turns
 pub peak-each-turn : H-run .tally .peak ≡ 4
-unfolding run
+unfolding run countIn work
 peak-each-turn = refl
 
 -- job 0 stalls on worker 1 in round 2. In round 3 worker 0's action sends it its join and spawns: job 0 goes on the bottom of
 -- worker 0's deque, then job 1, so that job 0 is at the top and worker 1 steals it
 pub parent-above-spawner : done K K-run 0 2 ≡ row 4 1
-unfolding run
+unfolding run countIn work
 parent-above-spawner = refl
 
 -- workers 1 and 2 ask worker 0 in round 1, worker 1 misses and asks again in round 2: worker 2's request is the older one
 pub oldest-served : done L L-run 0 2 ≡ row 3 2
-unfolding run
+unfolding run countIn work
 oldest-served = refl

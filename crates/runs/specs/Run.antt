@@ -24,7 +24,7 @@ ended p s = leb (size p 0) (nextOf s 0)
 
 -- "The round in which job 0 ends is the last and has no second half."
 unfoldable pub round : Setting → State → State
-unfolding turns lays serves countIn
+unfolding turns lays serves
 round S s =
     let p = S .plan in
     let r = suc (s .tally .rounds) in
@@ -38,7 +38,7 @@ rounds zero S s = s
 rounds (suc k) S s = elim (ended (S .plan) s) [ true ↦ s | false ↦ rounds k S (round S s) ]
 
 unfoldable pub run : Setting → State
-unfolding rounds start work
+unfolding rounds start
 run S = rounds (work (S .plan)) S (start (S .plan))
 
 -- "worker count 0 or above 16"
@@ -54,7 +54,10 @@ unfoldable pub admitted : Outcome Plan → ℕ → List ℕ → Outcome State
 unfolding run workersFit choicesFit
 admitted (refused k) n choices = refused k
 admitted (accepted p) n choices =
-    elim (workersFit n) [ false ↦ refused 7 | true ↦ elim (choicesFit n choices) [ false ↦ refused 8 | true ↦ accepted (run (setting p n choices)) ] ]
+    elim (workersFit n) [
+      | false ↦ refused 7
+      | true ↦ elim (choicesFit n choices) [ false ↦ refused 8 | true ↦ accepted (run (setting p n choices)) ]
+    ]
 
 unfoldable pub runOf : List ℕ → ℕ → List ℕ → Outcome State
 unfolding admitted readPlan

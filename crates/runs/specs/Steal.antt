@@ -1,9 +1,9 @@
 -- Requests and services, the second half of a round (document 01, "Worker and round").
---   lay S r w, lays S r k == worker w lays a request in round r, if it held nothing when the round began and has none; the workers below k
---   oldest v k ws   == which of the workers below k has the request that victim v serves: the worker's number plus 1, or 0
---   serve v, serves S r k == victim v serves one request; the victims below k in round r
---   waits x         == 1 where the worker x waits with a request, or 0
---   waiting k ws    == how many requests wait, of the workers below k
+--   lay S r w x s  == in round r worker w, which was x when it began, lays a request if x is idle; lays S r k b s == those below k
+--   oldest v k ws  == which of the workers below k has the request that victim v serves: the worker's number plus 1, or 0
+--   serve v q s    == victim v serves the worker of number q - 1, or none if q is 0; serves S r k s == the victims below k
+--   waits x        == 1 where the worker x waits with a request, or 0
+--   waiting k ws   == how many requests wait, of the workers below k
 use Prim.Native.Nat.{ℕ, zero, suc, _+_, _%_}
 use mathlib.Core.Bool.{true, false}
 use mathlib.Core.List.{List, [], _∷_}
@@ -123,7 +123,7 @@ serve v (suc w) s = given v w (dequeOf s v) s
 
 -- "every victim, in rising number, serves one request"
 unfoldable pub serves : Setting → ℕ → ℕ → State → State
-unfolding serve oldest countIn
+unfolding serve oldest
 serves S r zero s = s
 serves S r (suc k) s = let t = serves S r k s in serve k (oldest k (countIn S r) (t .workers) .who) t
 

@@ -4,7 +4,6 @@
 --   buildOf input          == "Before the plan is looked at, in this order: P or the count missing prints `refused 1`, a count
 --                             above 4,096 `refused 8` even if choices are missing too, missing choices `refused 1`."
 --   builtOf r              == the outcome that an answer stands for
--- Assumes nothing.
 use Prim.Native.Nat.{ℕ, _+_, _*_, _-_}
 use mathlib.Core.Bool.{true, false}
 use mathlib.Core.List.{List}

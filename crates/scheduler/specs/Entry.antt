@@ -2,7 +2,6 @@
 --   runInto plan n choices schedule == the tally and the schedule's bytes, or the refusal: 1 to 6, then 7, 8, 9
 --   Claimed plan n r schedule       == demand 3's claim, of what was returned and written
 --   ranOf r                         == the outcome that an answer stands for
--- Assumes nothing.
 use Prim.Native.Nat.{ℕ}
 use mathlib.Core.Path.{_≡_}
 use mathlib.Core.Bool.{Bool, true, false}

@@ -1,6 +1,5 @@
 -- The bytes of a schedule's header. Private functions alone cite this file; a public entry's promise cites the meaning itself.
 --   headerBytes n a == the four bytes of the header of n workers and a actions
--- Assumes nothing.
 use Prim.Native.Nat.{ℕ, _+_, _*_, _/_, _%_}
 use mathlib.Core.List.{List, [], _∷_}
 

@@ -3,7 +3,6 @@
 --   Loaded p ..                        == the arrays hold the accepted plan p; no join into an action is sent yet
 --   Answered p n choices before r after == the answer r and the schedule `after` are those of a run of p, and the claim of
 --                                        demand 3 holds of them
--- Assumes nothing.
 use Prim.Native.Nat.{ℕ}
 use mathlib.Core.Path.{_≡_}
 use mathlib.Core.List.{List}

@@ -13,7 +13,6 @@
 --   Manned           == the workers, the weight of the living frames and the counts
 --   InRun            == s is the state of a run of n workers at a stage of round r
 --   Acting, Acted, Machine, Moved == what a turn is given and leaves
--- Assumes nothing.
 use Prim.Native.Nat.{ℕ, zero, suc, _+_, _*_, _/_, _%_, _≤_, _<_}
 use mathlib.Core.Path.{_≡_}
 use mathlib.Core.Bool.{Bool, true, false}

@@ -6,7 +6,6 @@
 --   Queue, Queued    == the line of the requests at a victim, and the sixteen lines, in the order in which they are served: by the
 --                       round they were laid in, then by the worker. The line of victim v begins behind place 16 + v.
 --   Serving          == victim v is about to serve: `who` is the worker that its oldest request is of, plus 1, or 0
--- Assumes nothing.
 use Prim.Native.Nat.{ℕ, zero, suc, _+_, _*_, _≤_, _<_, _%_}
 use mathlib.Core.Path.{_≡_}
 use mathlib.Core.Bool.{Bool, true, false}

@@ -2,7 +2,6 @@
 --   Sending         == worker w is about to follow rule 1; the action is counted in next already
 --   Sent            == it has followed rule 1
 --   Settling        == it is about to follow rule 3: the action spawned none
--- Assumes nothing.
 use Prim.Native.Nat.{ℕ, suc}
 use mathlib.Core.Path.{_≡_}
 use mathlib.Core.List.{List}

@@ -1,6 +1,5 @@
 -- The plain numbers that an entry's answer stands for, refused or not.
 --   number-some == the number of a cause is not 0, so 0 stands for no refusal
--- Assumes nothing.
 use Prim.Native.Nat.{ℕ}
 use native.Mathlib.Omega.{arith}
 use mathlib.Core.Path.{_≡_, refl}

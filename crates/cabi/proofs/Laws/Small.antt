@@ -1,6 +1,5 @@
 -- What the table's two entries count is small: at most 2,048 rows, and at most 5,379 bytes.
 --   planBytes-few == the longest that the format allows: 256 jobs and 2,048 actions, each with a child and a target
--- Assumes nothing.
 use Prim.Native.Nat.{ℕ, _+_, _*_, _≤_}
 use native.Mathlib.Omega.{arith}
 use mathlib.Core.Path.{_≡_}

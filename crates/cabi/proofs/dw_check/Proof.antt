@@ -1,4 +1,4 @@
--- `dw_check` meets its contract: the number of the cause, or 0. Assumes nothing.
+-- `dw_check` meets its contract: the number of the cause, or 0.
 use Rattle.cabi.proofs.Laws.Numbers.{check-refused, check-accepted}
 use borrow.Author.Needs.{needs}
 use Rattle.cabi.proofs.dw_check.Statement.{statement}

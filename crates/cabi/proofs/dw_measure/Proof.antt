@@ -1,4 +1,4 @@
--- `dw_measure` meets its contract: the number of the cause, or the measures. Assumes nothing.
+-- `dw_measure` meets its contract: the number of the cause, or the measures.
 use Rattle.cabi.proofs.Laws.Numbers.{measures-refused, measures-accepted}
 use borrow.Author.Needs.{needs}
 use Rattle.cabi.proofs.dw_measure.Statement.{statement}

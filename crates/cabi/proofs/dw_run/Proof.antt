@@ -1,4 +1,4 @@
--- `dw_run` meets its contract: the number of the cause, or the tally, with demand 3's claim of it. Assumes nothing.
+-- `dw_run` meets its contract: the number of the cause, or the tally, with demand 3's claim of it.
 use Rattle.cabi.proofs.Laws.Numbers.{tally-refused, tally-accepted}
 use borrow.Author.Needs.{needs}
 use Rattle.cabi.proofs.dw_run.Statement.{statement}

@@ -1,4 +1,4 @@
--- `dw_table_to_plan` meets its contract: the number of the cause, or a count that fits. Assumes nothing.
+-- `dw_table_to_plan` meets its contract: the number of the cause, or a count that fits.
 use native.Mathlib.Omega.{arith}
 use Rattle.cabi.proofs.Laws.Numbers.{count-refused, count-accepted, answer-count}
 use Rattle.cabi.proofs.Laws.Small.{toPlan-few}

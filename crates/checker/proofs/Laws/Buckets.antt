@@ -1,6 +1,5 @@
 -- Chains of rows in buckets: a row that is entered stands first in its bucket's chain, and every earlier row that equals it is
 -- met on the way back along the chain.
--- Assumes nothing.
 use Prim.Native.Nat.{ℕ, zero, suc, _+_, _-_, _%_, _≤_, _<_}
 use mathlib.Core.Path.{_≡_, refl, ap, sym, _∙_}
 use mathlib.Core.Logic.{_≢_, by-cases}

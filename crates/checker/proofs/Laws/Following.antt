@@ -1,6 +1,5 @@
 -- What must follow an action: the next of its job, the first of the job that it spawns, and the one that its join enters;
 -- and what a test of the three tells.
--- Assumes nothing.
 use Prim.Native.Nat.{ℕ, suc, _+_, _-_, _*_, _/_, _≤_, _<_}
 use mathlib.Core.Path.{_≡_, refl, ap, sym, _∙_}
 use mathlib.Core.Logic.{_≢_}

@@ -1,5 +1,5 @@
 -- The answers of the test of a schedule's form: at a wrong length, a header that is not well formed, a round of 0, and where
--- the schedule is well formed. Assumes nothing.
+-- the schedule is well formed.
 use Prim.Native.Nat.{ℕ, _+_, _*_, _≤_, _<_}
 use mathlib.Core.Path.{_≡_, refl}
 use mathlib.Core.Bool.{true}

@@ -1,5 +1,4 @@
 -- The header of a schedule, field by field: what is read where a field is missing, where a test fails, and where all hold.
--- Assumes nothing.
 use Prim.Native.Nat.{ℕ, _≤_}
 use mathlib.Core.Path.{_≡_, refl}
 use mathlib.Core.Bool.{Bool, true, false}

@@ -1,5 +1,4 @@
 -- What the checker answers, by what was read of the plan and of the schedule.
--- Assumes nothing.
 use Prim.Native.Nat.{ℕ}
 use mathlib.Core.Path.{_≡_, sym, ap, _∙_}
 use mathlib.Core.Bool.{Bool, true, false}

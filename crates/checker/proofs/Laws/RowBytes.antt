@@ -1,6 +1,5 @@
 -- The rows of a schedule, read off its bytes: two bytes to a row.
 --   rowsFrom s i n == the n rows from byte i on
--- Assumes nothing.
 use Prim.Native.Nat.{ℕ, zero, suc, _+_, _*_, _/_, _%_, _^_, _≤_, _<_}
 use mathlib.Core.Path.{_≡_, refl, sym, ap, _∙_}
 use mathlib.Core.Bool.{true, false}

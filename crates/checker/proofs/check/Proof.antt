@@ -1,5 +1,4 @@
 -- `check` meets its contract: each answer by what reading the plan, the schedule's form and its rules tell.
--- Assumes nothing.
 use native.Mathlib.Omega.{arith}
 use borrow.Author.Needs.{needs}
 use Rattle.plan.specs.Flat.{FlatPlan}

@@ -43,6 +43,6 @@ module _ (P : Shape) where
     pub cover : (x : ℕ) → Living P next x → Covered x
     cover x l = cover-below jobs x (omega arith) l
 
-    -- some worker holds a job as long as the root lives
+    -- some line is not empty as long as the root lives
     pub busy : Living P next 0 → (w : ℕ) × (h : ℕ) × (l : List ℕ) × (line w ≡ h ∷ l)
     busy l = let (w, h, r, e, a) = cover 0 l in (w, h, r, e)

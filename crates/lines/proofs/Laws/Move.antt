@@ -1,6 +1,5 @@
--- Lines that are handed on whole, to whoever had none: the state stays good, and no more lines are filled.
---   Moved line line′ from == line v of line′, if it is not empty, is line from v of line; no two are the same, and none that is not
---                            empty is lost
+-- Lines that are handed on whole: the state stays good, and no more lines are filled.
+--   Moved line line′ from == line′ v, if it is not empty, is line (from v); no two come from one, and none that is not empty is lost
 use mathlib.Core.Path.{_≡_, refl, sym, ap, _∙_}
 use mathlib.Core.Logic.{_⊎_, inl, inr, _≢_, by-cases, Dec·and}
 use mathlib.Core.List.{List, [], _∷_, cons-ne-nil}

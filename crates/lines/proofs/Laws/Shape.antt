@@ -90,7 +90,7 @@ module _ (P : Shape) where
     pub known : (w x : ℕ) (l : List ℕ) → line w ≡ x ∷ l → x < jobs
     pub leaf : (x : ℕ) → Living next x → Lone next x → Leads line x
 
-  -- `line w` is the job that worker w holds, and then its deque from the bottom up
+  -- in a stealing run `line w` is the job that worker w holds, and then its deque from the bottom up
   pub record Good (next : ℕ → ℕ) (line : ℕ → List ℕ) : Type 0 where
     pub closed : Closed next
     pub chain : (w : ℕ) → Chain (line w)

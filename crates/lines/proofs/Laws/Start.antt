@@ -1,4 +1,4 @@
--- The first state is good: nothing is done, and worker 0 holds the root.
+-- The first state is good: nothing is done, line 0 is the root alone, and the others are empty.
 --   none-closed == what is done is closed where nothing is done
 --   start-good  == the first state is good
 use mathlib.Core.Path.{_≡_}

@@ -1,4 +1,4 @@
--- `main` ends: it reads at most 65,535 runs. Assumes nothing.
+-- `main` ends: it reads at most 65,535 runs.
 use Prim.Native.Nat.{_-_, _≤_}
 use native.Mathlib.Omega.{arith}
 use borrow.Author.Needs.{needs}

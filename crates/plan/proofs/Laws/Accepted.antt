@@ -1,5 +1,4 @@
 -- What reading gives at each outcome of its tests, and what an accepted plan satisfies.
--- Assumes nothing.
 use Prim.Native.Nat.{ℕ}
 use native.Mathlib.Omega.{arith}
 use mathlib.Core.Path.{_≡_}

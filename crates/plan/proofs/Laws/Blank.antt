@@ -1,5 +1,4 @@
 -- Arrays as a caller makes them, `[0; n]` and for the spawn positions `[255; 256]`, are those to read into.
--- Assumes nothing.
 use mathlib.Core.Path.{refl}
 use lib.ListN.{replicate}
 use Rattle.plan.specs.Flat.{Blank}

@@ -1,5 +1,4 @@
 -- The numbers of a plan that keeps the rules fit the fields of its bytes and the columns of its table.
--- Assumes nothing.
 use Prim.Native.Nat.{ℕ, zero, suc, _-_, _≤_, _<_}
 use native.Mathlib.Omega.{arith}
 use mathlib.Core.Bool.{Bool, true}

@@ -1,5 +1,4 @@
 -- What reading into arrays gives where it finds a plan: that they hold it, and that it keeps every rule.
--- Assumes nothing.
 use Prim.Native.Nat.{ℕ, _≤_}
 use mathlib.Core.Path.{_≡_}
 use mathlib.Core.List.{List}

@@ -1,5 +1,4 @@
 -- What one more action does to the count of joins that enter each action, and what the whole count says of the join rules.
--- Assumes nothing.
 use Prim.Native.Nat.{ℕ, suc, _+_, _-_, _≤_, _<_}
 use mathlib.Core.Path.{_≡_, refl, ap, sym, _∙_}
 use mathlib.Core.Logic.{_≢_}

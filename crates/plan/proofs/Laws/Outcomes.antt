@@ -1,5 +1,4 @@
 -- Outcomes: a refusal is no acceptance, and three tests in order, of which the last two answer refusals 4 and 5.
--- Assumes nothing.
 use Prim.Native.Nat.{ℕ}
 use native.Mathlib.Omega.{arith}
 use mathlib.Core.Path.{_≡_, refl}

@@ -1,5 +1,4 @@
 -- Where an action stands in plan order: action i of job j at place `start p j + i`, and no two at one place.
--- Assumes nothing.
 use Prim.Native.Nat.{ℕ, zero, suc, _+_, _-_, _≤_, _<_}
 use mathlib.Core.Path.{_≡_, refl, ap, sym, _∙_}
 use mathlib.Core.List.{List, [], _∷_, _++_, map}

@@ -1,5 +1,4 @@
 -- A plan's bytes: a plan that is read and written again has the same bytes, and a plan that is written and read again is the same.
--- Assumes nothing.
 use Prim.Native.Nat.{ℕ, zero, suc, _+_, _*_, _-_, _/_, _^_, _≤_, _<_}
 use native.Mathlib.Omega.{arith}
 use native.Mathlib.Nat.{zero-mul, zero-div}

@@ -1,5 +1,4 @@
 -- A table in which each entry is twice the one before holds the powers of two: a table is compared with `doubles` once, by computing.
--- Assumes nothing.
 use mathlib.Core.Path.{_≡_, sym, _∙_}
 use mathlib.Core.List.{List, [], _∷_}
 use Prim.Native.Nat.{ℕ, zero, suc, _*_, _^_, _<_}

@@ -1,5 +1,4 @@
 -- Steps of a reading that goes on: what was read first, what was tested, and what was read then.
--- Assumes nothing.
 use Prim.Native.Nat.{ℕ}
 use native.Mathlib.Omega.{arith}
 use mathlib.Core.Path.{_≡_, refl, ap, _∙_}

@@ -1,5 +1,4 @@
 -- What one more action does to the record of what the first k actions spawn, and what the whole record says of the spawn rules.
--- Assumes nothing.
 use Prim.Native.Nat.{ℕ, zero, suc, _-_, _≤_, _<_}
 use mathlib.Core.Path.{_≡_, refl, ap, sym, _∙_}
 use mathlib.Core.Logic.{_≢_}

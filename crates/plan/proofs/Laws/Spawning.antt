@@ -1,5 +1,4 @@
 -- The numbers of a plan in range, and the parents of a plan that keeps the spawn rules.
--- Assumes nothing.
 use Prim.Native.Nat.{ℕ, suc, _+_, _≤_, _<_}
 use mathlib.Core.Path.{_≡_, ap, sym, _∙_}
 use mathlib.Core.Bool.{Bool, true, false}

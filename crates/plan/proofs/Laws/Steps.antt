@@ -1,5 +1,4 @@
 -- What the steps of the reader give: their bounds, and what was read of a list of actions or jobs in turn.
--- Assumes nothing.
 use Prim.Native.Nat.{ℕ, zero, suc, _+_, _*_, _^_, _≤_, _<_}
 use native.Mathlib.Omega.{arith}
 use mathlib.Core.Path.{_≡_, refl, ap, sym}

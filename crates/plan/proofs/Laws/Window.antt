@@ -1,5 +1,4 @@
 -- A field is cut out of the whole bytes that it lies in, at the top of 32 bits, by two products with powers of two.
--- Assumes nothing.
 use mathlib.Core.Path.{_≡_, refl, sym, ap, _∙_}
 use mathlib.Core.List.{List, [], _∷_, _++_}
 use Prim.Native.Nat.{ℕ, _+_, _*_, _/_, _%_, _^_, _≤_, _<_}

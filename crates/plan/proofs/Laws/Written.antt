@@ -1,5 +1,4 @@
 -- Arrays that are filled in turn: what was written before stays, and what is written next stands behind it.
--- Assumes nothing.
 use Prim.Native.Nat.{ℕ, suc, _+_, _<_}
 use native.Mathlib.Nat.{add-zero}
 use native.Mathlib.Numerals.{add-one}

@@ -1,6 +1,5 @@
 -- T∞ is the largest length of a chain: the time of an action is one more than the largest time of what it must follow, and
 -- whatever has that property tells the length of a longest chain that ends in the action.
--- Assumes nothing.
 use Prim.Native.Nat.{ℕ, zero, suc, _+_, _≤_, _<_, min}
 use mathlib.Core.Path.{_≡_, refl, ap, sym, _∙_}
 use mathlib.Core.Bool.{Bool, true, false}

@@ -1,5 +1,4 @@
 -- What is measured of a plan that was read, and what the entry then answers.
--- Assumes nothing.
 use Prim.Native.Nat.{ℕ, _≤_}
 use mathlib.Core.Path.{_≡_, sym, ap, _∙_}
 use mathlib.Core.List.{List}

@@ -1,5 +1,4 @@
 -- Weights along the path from a job up to the root: a job's is its own and its parent's, whatever the fuel.
--- Assumes nothing.
 use Prim.Native.Nat.{ℕ, zero, suc, _+_, _*_, _≤_, _<_, max}
 use mathlib.Core.Path.{_≡_, refl, ap, sym, _∙_}
 use mathlib.Core.Bool.{true, false}

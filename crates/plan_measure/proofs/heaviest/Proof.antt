@@ -1,5 +1,4 @@
 -- `measure::heaviest` meets its contract: path weights are filled in from the root on, since parents are below children.
--- Assumes nothing.
 use Prim.Native.Nat.{_-_, _≤_, _<_}
 use mathlib.Core.Path.{_≡_, refl, ap, _∙_}
 use native.Mathlib.Omega.{arith}

@@ -1,5 +1,4 @@
 -- `measure::longest` meets its contract: jobs are timed from the highest down, and the root's time is T∞.
--- Assumes nothing.
 use Prim.Native.Nat.{suc, _+_, _-_, _≤_}
 use mathlib.Core.Path.{_≡_, refl, _∙_}
 use native.Mathlib.Omega.{arith}

@@ -1,5 +1,4 @@
 -- `measure::measure` meets its contract.
--- Assumes nothing.
 use mathlib.Core.Path.{sym}
 use Rattle.plan.specs.Flat.{FlatPlan}
 use Rattle.plan.proofs.Laws.Blank.{blank}

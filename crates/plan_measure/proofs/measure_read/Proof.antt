@@ -1,5 +1,4 @@
 -- `measure_read` meets its contract, by what its two parts tell.
--- Assumes nothing.
 use native.Mathlib.Omega.{arith}
 use Rattle.plan_measure.proofs.Laws.Measuring.{measured-few, measured-by}
 use Rattle.plan_measure.proofs.measure_read.Statement.{statement}

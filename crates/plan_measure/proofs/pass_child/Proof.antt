@@ -1,5 +1,4 @@
 -- `measure::pass_child` meets its contract.
--- Assumes nothing.
 use mathlib.Core.Path.{refl, sym, _∙_}
 use native.Mathlib.Omega.{arith}
 use Rattle.plan_measure.proofs.Laws.Sends.{passed-none, pass-send, passed-child}

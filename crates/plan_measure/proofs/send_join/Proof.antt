@@ -1,5 +1,4 @@
 -- `measure::send_join` meets its contract.
--- Assumes nothing.
 use Prim.Native.Nat.{_+_, _-_, _<_}
 use mathlib.Core.Path.{sym, _∙_}
 use native.Mathlib.Omega.{arith}

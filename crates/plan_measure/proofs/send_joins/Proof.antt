@@ -1,5 +1,4 @@
 -- `measure::send_joins` meets its contract: the joins are sent one after the other.
--- Assumes nothing.
 use Prim.Native.Nat.{_≤_, _-_}
 use mathlib.Core.Path.{_≡_}
 use native.Mathlib.Numerals.{add-one}

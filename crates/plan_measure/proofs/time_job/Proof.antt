@@ -1,5 +1,4 @@
 -- `measure::time_job` meets its contract: before each action the times of those before it and when joins came are known.
--- Assumes nothing.
 use Prim.Native.Nat.{ℕ, suc, _-_, _≤_, _<_}
 use mathlib.Core.Path.{_≡_}
 use native.Mathlib.Omega.{arith}

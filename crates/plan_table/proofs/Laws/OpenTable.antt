@@ -1,5 +1,4 @@
 -- The open table: a table that is read and written again has the same rows, and a plan whose table is read again is the same.
--- Assumes nothing.
 use Prim.Native.Nat.{ℕ, suc, _%_, _≤_}
 use native.Mathlib.Omega.{arith}
 use mathlib.Core.Path.{_≡_, refl, sym, ap, ap₂, _∙_}

@@ -1,5 +1,4 @@
 -- The two entries of the open table undo one another: from plan bytes to a table and back, and from a table to plan bytes and back.
--- Assumes nothing.
 use Prim.Native.Nat.{ℕ, _*_, _/_, _≤_}
 use native.Mathlib.Omega.{arith}
 use mathlib.Core.Path.{_≡_, refl, sym, ap, ap₂, _∙_}

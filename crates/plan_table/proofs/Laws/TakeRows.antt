@@ -1,5 +1,4 @@
 -- Taking the rows of a table over into arrays, row by row: what the arrays hold after the first k rows, and after all.
--- Assumes nothing.
 use Prim.Native.Nat.{ℕ, zero, suc, zero-le, _+_, _-_, _*_, _≤_, _<_}
 use mathlib.Core.Path.{_≡_, refl, ap, ap₂, sym, _∙_}
 use mathlib.Core.Logic.{_≢_}

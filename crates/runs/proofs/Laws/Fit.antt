@@ -1,5 +1,5 @@
 -- A setting that is let through, and the number of workers in a round.
---   Fit S == its plan is accepted, and there are 1 to 16 workers; which workers the choices name is not asked, nor how many there are
+--   Fit S == its plan is accepted, and there are 1 to 16 workers; nothing is asked of the choices
 --   count-some, count-most, count-within == in a round there are 1 to 16 workers, and no more than the setting has
 --   count-is, count-next                 == the same number in every round; only the laws that cite these two use that
 use Prim.Native.Nat.{ℕ, suc, _≤_}

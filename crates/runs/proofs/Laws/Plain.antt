@@ -11,7 +11,7 @@ use Rattle.runs.specs.declared.worker.Worker.{Worker}
 use Rattle.runs.specs.declared.worker.Worker.the-variants.{Idle, Holding, Waiting}
 use Rattle.plan.specs.Plan.{Plan, total}
 use Rattle.plan_measure.proofs.Laws.Work.{work-total}
-use Rattle.runs.specs.Setting.{setting}
+use Rattle.runs.specs.Setting.{setting, countIn}
 use Rattle.runs.specs.State.{State, start}
 use Rattle.runs.specs.Turn.{turns}
 use Rattle.runs.specs.Steal.{laid, lay, lays, oldest, serve, serves}
@@ -82,12 +82,12 @@ module _ (p : Plan) (n : ℕ) (choices : List ℕ) where
       lay-plain r k (getD b k Idle) (lays (setting p n choices) r k b s) ∙ ap (plainLay choices r k (getD b k Idle)) (lays-plain r k b s)
 
   serves-plain : (r k : ℕ) (s : State) → serves (setting p n choices) r k s ≡ plainServes n k s
-  unfolding serves plainServes
+  unfolding serves plainServes countIn
   serves-plain r zero s = refl
   serves-plain r (suc k) s = ap (λ t. serve k (oldest k n (t .workers) .who) t) (serves-plain r k s)
 
   round-plain : (s : State) → round (setting p n choices) s ≡ plainRound p n choices s
-  unfolding round plainRound
+  unfolding round plainRound countIn
   round-plain s =
       let r = suc (s .tally .rounds) in
       let half = turns p r n (s .workers) s in

@@ -3,8 +3,10 @@ use mathlib.Core.Path.{_≡_, refl}
 use mathlib.Core.Bool.{true}
 use Rattle.plan.specs.Test.{all}
 use Rattle.plan.specs.Plan.{entering}
+use Rattle.plan_measure.specs.Measure.{work}
+use Rattle.runs.specs.Setting.{countIn}
 use Rattle.runs.specs.Cases.{passes, starred}
 
 pub starred-cases : all passes starred ≡ true
-unfolding starred passes entering
+unfolding starred passes entering countIn work
 starred-cases = refl

@@ -1,6 +1,5 @@
 -- What a run into a schedule of 4,100 bytes tells of the build: the schedule fits, so what was answered is the build's own
 -- outcome. Then what the build's input asks for.
--- Assumes nothing.
 use Prim.Native.Nat.{ℕ, _+_, _-_, _≤_, _<_}
 use mathlib.Core.Path.{_≡_, sym, ap, ap₂, _∙_}
 use mathlib.Core.Logic.{_⊎_, inl, inr}

@@ -1,6 +1,5 @@
 -- Workers as numbers: a number tells which worker it is of, and a store of a number seats that worker. And the place that comes
 -- after a place, where they go round.
--- Assumes nothing.
 use Prim.Native.Nat.{ℕ, suc, _+_, _-_, _/_, _%_, _≤_, _<_}
 use mathlib.Core.Path.{_≡_, refl, sym, ap, ap₂, _∙_}
 use mathlib.Core.Bool.{true, true≢false}

@@ -1,6 +1,5 @@
 -- The halves of a round: the second one leaves the actions and the rows, and whether it comes is one test on the arrays. A round is
 -- its turns, or those and a second half.
--- Assumes nothing.
 use Prim.Native.Nat.{ℕ, zero, suc, _+_, _≤_}
 use mathlib.Core.Path.{_≡_, refl, sym, ap, _∙_}
 use mathlib.Core.Logic.{_≢_}

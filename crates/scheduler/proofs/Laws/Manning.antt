@@ -1,5 +1,4 @@
 -- The account and the seats after a request and after a service.
--- Assumes nothing.
 use Prim.Native.Nat.{ℕ, suc, _%_, _<_}
 use mathlib.Core.Path.{_≡_, refl, sym, _∙_}
 use mathlib.Core.Bool.{false, true≢false}

@@ -1,6 +1,5 @@
 -- How many joins into an action are not sent yet: a job is ready when its next action misses none, and an action that is done
 -- takes one from the action that its join goes to, and from no other.
--- Assumes nothing.
 use Prim.Native.Nat.{ℕ, zero, suc, _+_, _≤_, _<_}
 use mathlib.Core.Path.{_≡_, refl, ap, ap₂, sym, _∙_}
 use mathlib.Core.Logic.{_≢_, by-cases}

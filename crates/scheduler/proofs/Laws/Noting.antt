@@ -1,6 +1,5 @@
 -- A list of the numbers that pass a test, as it grows number by number. The requests of the idle workers are the requests of all, and
 -- the services of the victims that have a request are those of all.
--- Assumes nothing.
 use Prim.Native.Nat.{ℕ, zero, suc, _+_, _*_, _≤_, _<_}
 use mathlib.Core.Path.{_≡_, refl, sym, ap, _∙_}
 use mathlib.Core.Bool.{Bool, true, false}

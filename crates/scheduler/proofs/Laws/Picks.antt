@@ -1,6 +1,5 @@
 -- The lines of requests from state to state: turns leave them, a request lengthens one, a service shortens one, and the first of a line
 -- is the request that its victim serves.
--- Assumes nothing.
 use Prim.Native.Nat.{ℕ, zero, suc, _+_, _≤_, _<_}
 use mathlib.Core.Path.{_≡_, refl, sym, ap, _∙_}
 use mathlib.Core.List.{List, [], _∷_}

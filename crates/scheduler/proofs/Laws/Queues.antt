@@ -1,6 +1,5 @@
 -- The requests at each victim in the order in which they are served, as links from worker to worker: a request that is laid goes
 -- behind the others, one that is served was the first, and the first is the one that `oldest` picks.
--- Assumes nothing.
 use Prim.Native.Nat.{ℕ, zero, suc, _+_, _*_, _≤_, _<_}
 use mathlib.Core.Path.{_≡_, refl, sym, ap, _∙_}
 use mathlib.Core.Logic.{_⊎_, inl, inr, ⊎-elim, _≢_, by-cases}

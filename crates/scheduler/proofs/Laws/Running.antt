@@ -1,5 +1,4 @@
 -- What a state of a run gives at a glance: its sixteen workers, its small counts, and a choice for each request.
--- Assumes nothing.
 use Prim.Native.Nat.{ℕ, _≤_, _<_}
 use mathlib.Core.Path.{_≡_, refl}
 use mathlib.Core.List.{List}

@@ -1,7 +1,6 @@
 -- The bytes of a schedule, one by one: four of the header and two of each row.
 --   rowBytes rows == the bytes of the rows
 --   Narrow rows   == each row has a round below 4096 and a worker below 16
--- Assumes nothing.
 use Prim.Native.Nat.{ℕ, zero, suc, _+_, _*_, _/_, _%_, _^_, _≤_, _<_}
 use mathlib.Core.Path.{_≡_, refl, sym, ap, ap₂, _∙_}
 use mathlib.Core.List.{List, [], _∷_, _++_, append-assoc}

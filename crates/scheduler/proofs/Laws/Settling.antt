@@ -1,5 +1,4 @@
 -- Rules 2 and 3 of a turn over the arrays: what is left of the worker, its deque and the weight of the living frames.
--- Assumes nothing.
 use Prim.Native.Nat.{ℕ, suc, _+_, _*_, _-_, _≤_, _<_}
 use mathlib.Core.Path.{_≡_, refl, ap, sym, _∙_}
 use mathlib.Core.Logic.{_≢_}

@@ -1,6 +1,5 @@
 -- The runner's arrays from round to round.
 --   Standing == the arrays stand for a state of the run as a round begins, or for its end, and the bytes behind the rows are as they were
--- Assumes nothing.
 use Prim.Native.Nat.{ℕ, suc, _-_, _*_, _≤_, _<_}
 use mathlib.Core.Path.{_≡_, refl, sym, ap, _∙_}
 use mathlib.Core.Bool.{true, false}

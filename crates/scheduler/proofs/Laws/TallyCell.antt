@@ -7,7 +7,6 @@
 --   opens-tally   == a tally behind a `&mut` is a cell, and is small
 --   closes-tally  == the borrow is closed at another tally
 --   lends-tally   == a call that is lent the tally in a local, for a lifetime of its own, and leaves it as its contract says
--- Assumes nothing.
 use mathlib.Core.Path.{_≡_, refl, sym, ap, subst}
 use Prim.Native.Nat.{ℕ, _+_, _<_, _^_}
 use native.Mathlib.Omega.{arith}

@@ -1,7 +1,6 @@
 -- What a worker's turn does to the runner's arrays: one row is written, one seat and the counts change.
 --   Ahead p r w j s == what is known where worker w, which holds job j, is about to act in round r
 --   written         == the bytes after the row of the action at place k is written
--- Assumes nothing.
 use Prim.Native.Nat.{ℕ, suc, _+_, _*_, _/_, _%_, _≤_, _<_, max}
 use mathlib.Core.Path.{_≡_, refl, ap, sym, _∙_}
 use mathlib.Core.Logic.{_≢_, ⊎-elim}

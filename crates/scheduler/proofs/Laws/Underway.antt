@@ -1,6 +1,5 @@
 -- A run from round to round: what is left of it, as a loop over its rounds has it.
 --   Underway p n choices s == s is a state of the run as a round begins, or the state in which it ends
--- Assumes nothing.
 use Prim.Native.Nat.{ℕ, zero, suc, _+_, _≤_, _<_}
 use mathlib.Core.Path.{_≡_, refl, _∙_}
 use mathlib.Core.Bool.{Bool, true, false}

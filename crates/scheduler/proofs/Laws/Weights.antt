@@ -1,6 +1,5 @@
 -- How a turn changes the weight of the living frames: an action that spawns adds the child's frame, a job's last action takes its
 -- own away, and any other leaves it as it is.
--- Assumes nothing.
 use Prim.Native.Nat.{ℕ, zero, suc, _+_, _-_, _*_, _≤_, _<_}
 use mathlib.Core.Path.{_≡_, refl, ap, sym, _∙_}
 use mathlib.Core.Logic.{_⊎_, inl, inr, _≢_, by-cases}

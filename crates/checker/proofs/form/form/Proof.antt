@@ -1,5 +1,4 @@
 -- `form::form` meets its contract: each answer by the length, the header and the rounds.
--- Assumes nothing.
 use native.Mathlib.Omega.{arith}
 use borrow.Author.Needs.{needs}
 use Rattle.plan.proofs.Laws.Lists.{of-true}

@@ -1,5 +1,4 @@
 -- `form::header` meets its contract: each field that is missing and each test that fails is one way through `writtenAt`.
--- Assumes nothing.
 use native.Mathlib.Omega.{arith}
 use mathlib.Core.Path.{_≡_, ap, sym, _∙_}
 use borrow.Author.Needs.{needs}

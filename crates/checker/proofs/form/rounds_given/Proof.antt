@@ -1,5 +1,4 @@
 -- `form::rounds_given` meets its contract. The loop's invariant: no row passed has a round of 0. The measure is what is left of the rows.
--- Assumes nothing.
 use Prim.Native.Nat.{ℕ, _+_, _*_, _≤_, _<_, _-_}
 use mathlib.Core.Path.{_≡_, ap}
 use mathlib.Core.List.{List}

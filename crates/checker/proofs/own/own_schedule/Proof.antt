@@ -1,5 +1,4 @@
 -- `own::own_schedule` meets its contract: the schedule lies within what was lent, and the checker does not refuse it.
--- Assumes nothing.
 use mathlib.Core.Path.{refl}
 use borrow.Author.Needs.{needs}
 use Rattle.checker.proofs.Laws.Own.{left-is, left-room, left-accepted}

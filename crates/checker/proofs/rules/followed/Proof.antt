@@ -1,5 +1,4 @@
 -- `checker::rules::followed` meets its contract, by what each of the three tests tells (`Laws.Following`).
--- Assumes nothing.
 use Prim.Native.Nat.{_+_, _-_, _<_}
 use mathlib.Core.Logic.{_≢_, ⊎-elim}
 use native.Mathlib.Omega.{arith}

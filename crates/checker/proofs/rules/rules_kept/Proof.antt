@@ -1,6 +1,5 @@
 -- `checker::rules::rules_kept` meets its contract: before each row those before it keep the rules and lie in the buckets, and the
 -- look along a bucket's chain meets each of them that the row equals (`Laws.Buckets`).
--- Assumes nothing.
 use Prim.Native.Nat.{_+_, _-_, _*_, _%_, _≤_, _<_}
 use mathlib.Core.Path.{_≡_, refl, sym, _∙_}
 use mathlib.Core.Bool.{true}

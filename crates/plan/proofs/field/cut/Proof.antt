@@ -1,5 +1,4 @@
 -- `plan::field::cut` meets its contract.
--- Assumes nothing.
 use mathlib.Core.Path.{sym}
 use Prim.Native.Nat.{_*_, _%_}
 use native.Mathlib.Omega.{arith}

@@ -1,5 +1,4 @@
 -- `plan::field::finish` meets its contract.
--- Assumes nothing.
 use native.Mathlib.Omega.{arith}
 use Rattle.plan.proofs.Laws.Sink.{done-whole, done-filled}
 use borrow.Author.Needs.{needs}

@@ -1,5 +1,4 @@
 -- `plan::field::flush` meets its contract. The loop's invariant: only whole bytes went from the sink to the buffer. The measure is the bits that are held.
--- Assumes nothing.
 use native.Mathlib.Omega.{arith}
 use Rattle.plan.proofs.Laws.Sink.{Moved, moved-none, moved-byte, moved-all}
 use Rattle.plan.proofs.field.flush.Statement.{statement}

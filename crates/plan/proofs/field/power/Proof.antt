@@ -1,5 +1,4 @@
 -- `plan::field::power` meets its contract.
--- Assumes nothing.
 use borrow.Author.Needs.{needs}
 use Rattle.plan.proofs.field.power.Statement.{statement}
 use Rattle.plan.proofs.field.power.Tie as tie

@@ -1,5 +1,4 @@
 -- `plan::field::power_table` meets its contract: the table is compared with the doubled numbers from 1 on.
--- Assumes nothing.
 use mathlib.Core.Path.{_∙_}
 use Prim.Native.Nat.{_^_}
 use native.Mathlib.Nat.{one-mul}

@@ -1,5 +1,4 @@
 -- `plan::field::put` meets its contract.
--- Assumes nothing.
 use Prim.Native.Nat.{_+_, _-_}
 use native.Mathlib.Omega.{arith}
 use lib.Pow.{pow-mono}

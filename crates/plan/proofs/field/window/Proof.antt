@@ -1,5 +1,4 @@
 -- `plan::field::window` meets its contract: at each answer the bytes read, with zeros for the others, are the four bytes of the window.
--- Assumes nothing.
 use Prim.Native.Nat.{ℕ, _+_, _/_, _≤_, _<_}
 use mathlib.Core.Path.{_≡_}
 use mathlib.Core.List.{List}

@@ -1,5 +1,5 @@
 -- `reader::filled` meets its contract: the bits from place `at` to the end of its byte are 0, and that byte is the last,
--- exactly where `fills` holds. Assumes nothing.
+-- exactly where `fills` holds.
 use Prim.Native.Nat.{ℕ, _+_, _*_, _-_, _/_, _%_, _≤_, _<_}
 use native.Mathlib.Decide.{decLt}
 use native.Mathlib.Omega.{arith}

@@ -1,5 +1,4 @@
 -- `reader::number_at` meets its contract: each way through it is one way through `numberAt`.
--- Assumes nothing.
 use Prim.Native.Nat.{ℕ, zero, suc, _<_}
 use native.Mathlib.Numerals.{add-one}
 use native.Mathlib.Omega.{arith}

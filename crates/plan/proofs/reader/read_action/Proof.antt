@@ -1,5 +1,4 @@
 -- `reader::read_action` meets its contract: it reads two numbers, as `actionAt` does, and lays them at place k.
--- Assumes nothing.
 use Prim.Native.Nat.{ℕ}
 use native.Mathlib.Omega.{arith}
 use mathlib.Core.Path.{_≡_, ap, sym, _∙_}

@@ -1,5 +1,5 @@
 -- `reader::read_actions` meets its contract. The loop's invariant: the actions l are read and laid, and what `actionsAt` gives
--- is l and then what it gives of the rest. The measure is how many are left. Assumes nothing.
+-- is l and then what it gives of the rest. The measure is how many are left.
 use Prim.Native.Nat.{ℕ, suc, _+_, _*_, _-_, _≤_}
 use native.Mathlib.Nat.{add-zero}
 use native.Mathlib.Numerals.{add-one}

@@ -1,5 +1,4 @@
 -- `reader::read_header` meets its contract: each way through it is one way through `headerAt`.
--- Assumes nothing.
 use Prim.Native.Nat.{ℕ, _+_, _≤_, _<_}
 use native.Mathlib.Omega.{arith}
 use mathlib.Core.Path.{_≡_, ap, sym, _∙_}

@@ -1,5 +1,4 @@
 -- `reader::read_job` meets its contract: a header and its actions are a job, as `jobAt` reads it.
--- Assumes nothing.
 use Prim.Native.Nat.{ℕ, _+_, _≤_}
 use native.Mathlib.Omega.{arith}
 use mathlib.Core.Path.{_≡_}

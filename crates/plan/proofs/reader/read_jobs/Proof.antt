@@ -1,5 +1,5 @@
 -- `reader::read_jobs` meets its contract. The loop's invariant: the arrays hold the jobs p that are read, and what `jobsAt`
--- gives is p and then what it gives of the rest. The measure is how many jobs are left. Assumes nothing.
+-- gives is p and then what it gives of the rest. The measure is how many jobs are left.
 use Prim.Native.Nat.{ℕ, suc, _+_, _*_, _-_, _≤_, _<_}
 use native.Mathlib.Nat.{sub-zero}
 use native.Mathlib.Numerals.{add-one}

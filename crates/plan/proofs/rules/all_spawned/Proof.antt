@@ -1,5 +1,5 @@
 -- `plan::rules::all_spawned` meets its contract. The loop's invariant: every job passed but 0 has a position other than 255.
--- The measure is what is left of the jobs. Assumes nothing.
+-- The measure is what is left of the jobs.
 use Prim.Native.Nat.{ℕ, _≤_, _<_, _-_}
 use mathlib.Core.Path.{_≡_}
 use native.Mathlib.Omega.{arith}

@@ -1,5 +1,4 @@
 -- `plan::rules::join_rule` meets its contract: each answer is a law of `Laws.Joining`.
--- Assumes nothing.
 use Prim.Native.Nat.{_+_, _-_, _<_}
 use native.Mathlib.Omega.{arith}
 use denote.Ref.{now}

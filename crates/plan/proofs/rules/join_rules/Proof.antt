@@ -1,5 +1,4 @@
 -- `plan::rules::join_rules` meets its contract, by what the loop tells (`Laws.Joining`).
--- Assumes nothing.
 use Rattle.plan.proofs.Laws.Joining.{counted-start, joins-told}
 use Rattle.plan.proofs.rules.join_rules.Statement.{statement}
 use Rattle.plan.proofs.rules.join_rules.Tie as tie

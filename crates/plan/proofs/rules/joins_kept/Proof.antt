@@ -1,5 +1,5 @@
 -- `plan::rules::joins_kept` meets its contract. The loop's invariant: the array counts the joins of the actions passed.
--- The measure is what is left of the actions. Assumes nothing.
+-- The measure is what is left of the actions.
 use Prim.Native.Nat.{_≤_, _-_}
 use mathlib.Core.Path.{_≡_}
 use native.Mathlib.Omega.{arith}

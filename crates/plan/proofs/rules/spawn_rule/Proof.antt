@@ -1,5 +1,4 @@
 -- `plan::rules::spawn_rule` meets its contract: each answer is a law of `Laws.Recording`.
--- Assumes nothing.
 use native.Mathlib.Omega.{arith}
 use borrow.Author.Needs.{needs}
 use Rattle.plan.proofs.Laws.Spawning.{jobs-in-range, total-in-range}

@@ -1,5 +1,4 @@
 -- `plan::rules::spawn_rules` meets its contract, by what the two loops tell (`Laws.Recording`).
--- Assumes nothing.
 use native.Mathlib.Omega.{arith}
 use mathlib.Core.Path.{sym}
 use Rattle.plan.specs.Rules.{spawnRules}

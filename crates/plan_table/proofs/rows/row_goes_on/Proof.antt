@@ -1,4 +1,4 @@
--- `plan::rows::row_goes_on` meets its contract: each answer is what the test computes to. Assumes nothing.
+-- `plan::rows::row_goes_on` meets its contract: each answer is what the test computes to.
 use mathlib.Core.Path.{_≡_}
 use Prim.Native.Nat.{suc, _+_, _-_, _*_, _%_, _^_, _≤_, _<_}
 use lib.ListN.{length, getD}

@@ -1,5 +1,4 @@
 -- `plan::rows::table_rules` meets its contract. The loop's invariant: the row rules of the table are what is left to test.
--- Assumes nothing.
 use Prim.Native.Nat.{_-_, _%_, _≤_, _<_}
 use mathlib.Core.Bool.{true, false}
 use mathlib.Core.Path.{_≡_, refl, sym, _∙_}

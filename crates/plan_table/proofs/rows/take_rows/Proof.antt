@@ -1,5 +1,4 @@
 -- `plan::rows::take_rows` meets its contract. The loop's invariant: the arrays hold what the first k rows put there (`Took`).
--- Assumes nothing.
 use Prim.Native.Nat.{ℕ, _+_, _*_, _-_, _≤_, _<_}
 use mathlib.Core.Path.{_≡_, refl, ap}
 use mathlib.Core.List.{List}

@@ -1,5 +1,5 @@
 -- `plan::rows::write_rows` meets its contract. The loop's invariant: the first k rows of the plan's table are written, and what is
--- behind them is as it was. Assumes nothing.
+-- behind them is as it was.
 use Prim.Native.Nat.{_+_, _*_, _-_, _≤_, _<_}
 use mathlib.Core.Path.{_≡_, refl}
 use mathlib.Core.List.{_++_}

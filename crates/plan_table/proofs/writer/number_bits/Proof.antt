@@ -1,5 +1,4 @@
 -- `plan::writer::number_bits` meets its contract.
--- Assumes nothing.
 use mathlib.Core.Path.{sym}
 use Rattle.plan_table.proofs.Laws.Puts.{number-length}
 use borrow.Author.Needs.{needs}

@@ -1,5 +1,4 @@
 -- `plan::writer::plan_bits` meets its contract. The loop's invariant: the count is that of the headers and of the numbers before place k.
--- Assumes nothing.
 use Prim.Native.Nat.{_+_, _-_, _*_, _≤_}
 use mathlib.Core.Path.{_≡_, sym, _∙_}
 use native.Mathlib.Omega.{arith}

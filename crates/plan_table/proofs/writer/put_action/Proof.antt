@@ -1,5 +1,4 @@
 -- `plan::writer::put_action` meets its contract: a header at the first action of a job, and none at a later one.
--- Assumes nothing.
 use Prim.Native.Nat.{_+_, _-_, _≤_, _<_}
 use mathlib.Core.Path.{_≡_}
 use mathlib.Core.List.{_++_}

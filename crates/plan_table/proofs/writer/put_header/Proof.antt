@@ -1,5 +1,4 @@
 -- `plan::writer::put_header` meets its contract.
--- Assumes nothing.
 use native.Mathlib.Omega.{arith}
 use Rattle.plan_table.proofs.Laws.Puts.{put-length, put-both}
 use borrow.Author.Needs.{needs}

@@ -1,5 +1,4 @@
 -- `plan::writer::put_number` meets its contract.
--- Assumes nothing.
 use native.Mathlib.Omega.{arith}
 use Rattle.plan_table.proofs.Laws.Puts.{number-bits, number-length}
 use borrow.Author.Needs.{needs}

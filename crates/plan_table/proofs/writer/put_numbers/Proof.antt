@@ -1,5 +1,4 @@
 -- `plan::writer::put_numbers` meets its contract.
--- Assumes nothing.
 use native.Mathlib.Omega.{arith}
 use lib.ListN.{length-append}
 use Rattle.plan.specs.Writer.{numberBits}

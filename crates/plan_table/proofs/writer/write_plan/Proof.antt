@@ -1,5 +1,4 @@
 -- `plan::writer::write_plan` meets its contract. The loop's invariant: the bits of the actions before place k are written.
--- Assumes nothing.
 use Prim.Native.Nat.{ℕ, suc, _+_, _*_, _-_, _≤_}
 use mathlib.Core.Path.{_≡_}
 use mathlib.Core.List.{List, _++_}

@@ -1,4 +1,4 @@
--- `build::build` meets its contract: each answer by the input's length and its choice count. Assumes nothing.
+-- `build::build` meets its contract: each answer by the input's length and its choice count.
 use mathlib.Core.Path.{ap₂, _∙_}
 use Prim.Native.Nat.{_+_, _*_}
 use native.Mathlib.Omega.{arith}

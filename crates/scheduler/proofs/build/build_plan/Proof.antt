@@ -1,4 +1,4 @@
--- `build::build_plan` meets its contract: each answer by what reading the bytes tells. Assumes nothing.
+-- `build::build_plan` meets its contract: each answer by what reading the bytes tells.
 use Rattle.plan.specs.Flat.{FlatPlan}
 use Rattle.plan.proofs.Laws.Blank.{blank}
 use Rattle.plan.proofs.Laws.Found.{Given, found-given}

@@ -1,4 +1,4 @@
--- `build::build_read` meets its contract: the schedule fits, so each answer is the build's own outcome. Assumes nothing.
+-- `build::build_read` meets its contract: the schedule fits, so each answer is the build's own outcome.
 use mathlib.Core.Path.{sym, ap, _∙_}
 use native.Mathlib.Omega.{arith}
 use Rattle.scheduler.specs.Entry.{Result, ranOf}

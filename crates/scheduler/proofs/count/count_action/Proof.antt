@@ -1,6 +1,6 @@
 -- `count::count_action` meets its contract: a walk of its MIR, by hand. The borrow is opened, three counts are written where the
 -- tally stands, the last by the covered `larger`, and the borrow is closed at the new tally.
--- All that the proof knows of `larger` is that it meets its contract. Assumes nothing.
+-- All that the proof knows of `larger` is that it meets its contract.
 use mathlib.Core.Path.{_≡_, refl, ap}
 use Prim.Native.Nat.{ℕ, _+_, _<_, _^_, max}
 use native.Mathlib.Numerals.{add-one}

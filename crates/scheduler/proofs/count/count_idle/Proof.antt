@@ -1,5 +1,5 @@
 -- `count::count_idle` meets its contract: a walk of its MIR, by hand. The borrow is opened, two counts are written where the
--- tally stands, and the borrow is closed at the new tally. Assumes nothing.
+-- tally stands, and the borrow is closed at the new tally.
 use mathlib.Core.Path.{_≡_, refl}
 use Prim.Native.Nat.{ℕ, _+_, _<_, _^_}
 use native.Mathlib.Numerals.{add-one}

@@ -1,5 +1,5 @@
 -- `count::idled` meets its contract: a walk of its MIR, by hand. The tally in the local is lent to `count_idle`, and is taken back
--- as `count_idle` left it. All that the proof knows of `count_idle` is that it meets its contract. Assumes nothing.
+-- as `count_idle` left it. All that the proof knows of `count_idle` is that it meets its contract.
 use mathlib.Core.Path.{refl}
 use Prim.Native.Nat.{ℕ, _<_, _^_}
 use mathlib.Core.List.{[], _∷_, List}

@@ -1,5 +1,4 @@
 -- `scheduler::deque::push` meets its contract: the job goes behind the bottom one, to a place not above its number.
--- Assumes nothing.
 use mathlib.Core.Path.{sym, _∙_}
 use Prim.Native.Nat.{_+_, _≤_}
 use native.Mathlib.Numerals.{add-one}

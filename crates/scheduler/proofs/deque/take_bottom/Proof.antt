@@ -1,4 +1,4 @@
--- `scheduler::deque::take_bottom` meets its contract. Assumes nothing.
+-- `scheduler::deque::take_bottom` meets its contract.
 use mathlib.Core.Path.{sym, _∙_}
 use native.Mathlib.Omega.{arith}
 use Rattle.scheduler.proofs.Laws.FlatDeques.{bottom-none, bottom-taken}

@@ -1,4 +1,4 @@
--- `scheduler::deque::take_top` meets its contract. Assumes nothing.
+-- `scheduler::deque::take_top` meets its contract.
 use mathlib.Core.Path.{sym, _∙_}
 use native.Mathlib.Omega.{arith}
 use Rattle.scheduler.proofs.Laws.FlatDeques.{top-none, top-taken}

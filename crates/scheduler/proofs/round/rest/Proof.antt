@@ -1,4 +1,4 @@
--- `round::rest` meets its contract. Assumes nothing.
+-- `round::rest` meets its contract.
 use mathlib.Core.Path.{refl}
 use native.Mathlib.Omega.{arith}
 use Rattle.runs.specs.Turn.{idled}

@@ -1,4 +1,4 @@
--- `round::round` meets its contract: the turns, and a second half unless job 0 has ended. Assumes nothing.
+-- `round::round` meets its contract: the turns, and a second half unless job 0 has ended.
 use mathlib.Core.Path.{sym, _∙_}
 use mathlib.Core.Logic.{_≢_}
 use lib.ListN.{getD}

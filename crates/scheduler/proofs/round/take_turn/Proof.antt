@@ -1,5 +1,4 @@
 -- `round::take_turn` meets its contract: the row is the one of the action that worker w does, and `act` does the rest.
--- Assumes nothing.
 use mathlib.Core.Path.{ap}
 use native.Mathlib.Omega.{arith}
 use borrow.Author.Needs.{needs}

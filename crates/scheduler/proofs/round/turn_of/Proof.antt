@@ -1,5 +1,4 @@
 -- `round::turn_of` meets its contract: what stands in the seat of a worker whose turn comes stood there as the round began.
--- Assumes nothing.
 use Prim.Native.Nat.{ℕ, _≤_, _<_}
 use mathlib.Core.Path.{_≡_, refl, ap, sym, _∙_}
 use mathlib.Core.List.{List}

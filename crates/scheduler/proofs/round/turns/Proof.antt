@@ -1,5 +1,5 @@
 -- `round::turns` meets its contract. The loop's invariant: for every state that the arrays stood for at entry, they stand for the
--- state after the turns of the workers below w. The measure is what is left of the workers. Assumes nothing.
+-- state after the turns of the workers below w. The measure is what is left of the workers.
 use Prim.Native.Nat.{ℕ, _-_, _≤_}
 use mathlib.Core.Path.{_≡_, refl, _∙_}
 use mathlib.Core.List.{List}

@@ -1,5 +1,4 @@
 -- `run::choices_fit` meets its contract. The loop's invariant: every choice passed is below n. The measure is what is left of the choices.
--- Assumes nothing.
 use Prim.Native.Nat.{ℕ, zero, suc, _≤_, _<_, _-_}
 use mathlib.Core.Path.{_≡_, refl, sym}
 use mathlib.Core.Bool.{Bool, true, false}

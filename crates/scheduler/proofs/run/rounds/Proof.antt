@@ -1,5 +1,5 @@
 -- `run::rounds` meets its contract. The loop's invariant: the arrays stand for a state of the run as a round begins, or for its end.
--- The measure is what is left of 2,048 rounds. Assumes nothing.
+-- The measure is what is left of 2,048 rounds.
 use Prim.Native.Nat.{_*_, _-_, _≤_, _<_}
 use native.Mathlib.Omega.{arith}
 use borrow.Author.Needs.{needs}

@@ -1,4 +1,4 @@
--- `run::run` meets its contract: each answer by what reading the bytes and the run tell. Assumes nothing.
+-- `run::run` meets its contract: each answer by what reading the bytes and the run tell.
 use Rattle.plan.specs.Flat.{FlatPlan}
 use Rattle.plan.proofs.Laws.Blank.{blank}
 use Rattle.plan.proofs.Laws.Found.{Given, found-given}

@@ -1,4 +1,4 @@
--- `run::run_read` meets its contract: each answer by the tests before the run, and by the run. Assumes nothing.
+-- `run::run_read` meets its contract: each answer by the tests before the run, and by the run.
 use mathlib.Core.Path.{_≡_, sym, _∙_}
 use mathlib.Core.Bool.{true}
 use native.Mathlib.Omega.{arith}

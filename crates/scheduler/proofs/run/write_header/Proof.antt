@@ -1,4 +1,4 @@
--- `run::write_header` meets its contract. Assumes nothing.
+-- `run::write_header` meets its contract.
 use Prim.Native.Nat.{ℕ, _≤_}
 use mathlib.Core.Path.{_≡_, refl}
 use mathlib.Core.List.{List, [], _∷_}

@@ -1,4 +1,4 @@
--- `seat::code_of` meets its contract. Assumes nothing.
+-- `seat::code_of` meets its contract.
 use mathlib.Core.Path.{sym, ap}
 use native.Mathlib.Omega.{arith}
 use borrow.Author.Needs.{needs}

@@ -1,4 +1,4 @@
--- `seat::worker_at` meets its contract: the ranges of the numbers lie apart. Assumes nothing.
+-- `seat::worker_at` meets its contract: the ranges of the numbers lie apart.
 use mathlib.Core.Path.{sym}
 use native.Mathlib.Omega.{arith}
 use Rattle.scheduler.proofs.Laws.Codes.{code-held, code-idle, code-waits}

@@ -1,5 +1,4 @@
 -- `steal::give` meets its contract: what taking the top job of the victim's deque gives is a steal or a miss.
--- Assumes nothing.
 use Prim.Native.Nat.{ℕ, _<_}
 use mathlib.Core.Path.{_≡_, ap}
 use native.Mathlib.Omega.{arith}

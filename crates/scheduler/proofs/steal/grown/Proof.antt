@@ -1,4 +1,4 @@
--- `steal::grown` meets its contract. Assumes nothing.
+-- `steal::grown` meets its contract.
 use mathlib.Core.Path.{sym, _∙_}
 use mathlib.Core.Bool.{true≢false}
 use native.Mathlib.Omega.{arith}

@@ -1,4 +1,4 @@
--- `steal::idle_at` meets its contract. Assumes nothing.
+-- `steal::idle_at` meets its contract.
 use mathlib.Core.Path.{sym, ap, _∙_}
 use borrow.Author.Needs.{needs}
 use Rattle.scheduler.specs.Machine.{isIdle}

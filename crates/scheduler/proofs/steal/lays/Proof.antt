@@ -1,5 +1,5 @@
 -- `steal::lays` meets its contract. The loop's invariant: the arrays stand for the state in which the workers up to the one in the
--- list's place before m have laid. Assumes nothing.
+-- list's place before m have laid.
 use Prim.Native.Nat.{_*_, _-_, _≤_}
 use mathlib.Core.Path.{_≡_, refl}
 use mathlib.Core.List.{List}

@@ -1,4 +1,4 @@
--- `steal::line_up` meets its contract. Assumes nothing.
+-- `steal::line_up` meets its contract.
 use native.Mathlib.Numerals.{add-one}
 use native.Mathlib.Omega.{arith}
 use borrow.Author.Needs.{needs}

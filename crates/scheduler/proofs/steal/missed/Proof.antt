@@ -1,4 +1,4 @@
--- `steal::missed` meets its contract. Assumes nothing.
+-- `steal::missed` meets its contract.
 use mathlib.Core.Path.{refl}
 use native.Mathlib.Numerals.{add-one}
 use borrow.Author.Needs.{needs}

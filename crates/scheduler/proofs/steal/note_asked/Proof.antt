@@ -1,4 +1,4 @@
--- `steal::note_asked` meets its contract. The loop's invariant: the list has the victims below v that have a request. Assumes nothing.
+-- `steal::note_asked` meets its contract. The loop's invariant: the list has the victims below v that have a request.
 use Prim.Native.Nat.{_-_, _≤_}
 use mathlib.Core.Path.{_≡_, refl, _∙_}
 use native.Mathlib.Numerals.{add-one}

@@ -1,4 +1,4 @@
--- `steal::note_idle` meets its contract. The loop's invariant: the list has the idle workers below w. Assumes nothing.
+-- `steal::note_idle` meets its contract. The loop's invariant: the list has the idle workers below w.
 use Prim.Native.Nat.{_-_, _≤_}
 use mathlib.Core.Path.{_≡_, _∙_}
 use mathlib.Core.List.{List}

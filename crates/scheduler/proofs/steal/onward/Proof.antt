@@ -1,4 +1,4 @@
--- `steal::onward` meets its contract. Assumes nothing.
+-- `steal::onward` meets its contract.
 use mathlib.Core.Path.{sym}
 use native.Mathlib.Omega.{arith}
 use Rattle.scheduler.proofs.Laws.Codes.{place-wraps, place-steps}

@@ -1,4 +1,4 @@
--- `steal::second_half` meets its contract: requests leave the deques, and services lay none. Assumes nothing.
+-- `steal::second_half` meets its contract: requests leave the deques, and services lay none.
 use native.Mathlib.Nat.{le-refl}
 use native.Mathlib.Omega.{arith}
 use Rattle.runs.specs.Setting.{countIn}

@@ -1,4 +1,4 @@
--- `steal::serve` meets its contract: the first of the victim's line is served, if there is one. Assumes nothing.
+-- `steal::serve` meets its contract: the first of the victim's line is served, if there is one.
 use Prim.Native.Nat.{ℕ, suc, _-_, _<_}
 use mathlib.Core.Path.{_≡_, refl, sym, _∙_}
 use mathlib.Core.List.{List}

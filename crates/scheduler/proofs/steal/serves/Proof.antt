@@ -1,5 +1,5 @@
 -- `steal::serves` meets its contract. The loop's invariant: the arrays stand for the state in which the victims up to the one in the
--- list's place before m have served. Assumes nothing.
+-- list's place before m have served.
 use Prim.Native.Nat.{ℕ, _-_, _≤_}
 use mathlib.Core.Path.{_≡_, refl}
 use mathlib.Core.List.{List}

@@ -1,4 +1,4 @@
--- `steal::step_up` meets its contract. Assumes nothing.
+-- `steal::step_up` meets its contract.
 use Prim.Native.Nat.{ℕ, _+_}
 use mathlib.Core.Path.{_≡_, refl, _∙_}
 use mathlib.Core.Logic.{_≢_}

@@ -1,5 +1,4 @@
 -- `turn::act` meets its contract.
--- Assumes nothing.
 use mathlib.Core.Path.{refl, ap}
 use native.Mathlib.Omega.{arith}
 use borrow.Author.Needs.{needs}

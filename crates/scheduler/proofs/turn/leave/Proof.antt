@@ -1,5 +1,4 @@
 -- `turn::leave` meets its contract.
--- Assumes nothing.
 use native.Mathlib.Omega.{arith}
 use Rattle.scheduler.proofs.turn.leave.Statement.{statement}
 use Rattle.scheduler.proofs.turn.leave.Tie as tie
