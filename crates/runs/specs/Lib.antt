@@ -1,4 +1,4 @@
--- What a reader must believe of a run, in document 01's order. Parts names steps for proofs alone.
+-- What a reader must believe of a run, in document 01's order. Trace is cited by laws, Parts by proofs and private contracts.
 pub mod Setting
 pub mod State
 pub mod Turn

@@ -1,5 +1,5 @@
--- What holds of every core of a course: what is done is closed, each done action has a row of a past turn, and each came so many
--- rounds after all that it must follow as it takes turns.
+-- What holds of every core of a course: what is done is closed, each done action has a row of a past turn, and each came at least as
+-- many rounds after all that it must follow as it takes turns.
 --   Done n r k a   == row a is of one of n workers, and stands before the turn of worker k in round r
 --   Free e r c j   == all that the next action of job j must follow, and the turns that it has had, came before round r
 --   Later e c j i  == all that action i of job j must follow was done at least as many rounds before it as it takes turns
