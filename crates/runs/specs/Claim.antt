@@ -40,4 +40,4 @@ pub record Bounded (p : Plan) (n : ℕ) (schedule : List ℕ) (t : Tally) : Type
 abbrev pub Demand3 : Type 0
 Demand3 =
     (s : List ℕ) (p : Plan) (n : ℕ) (choices : List ℕ) → readPlan s ≡ accepted p → T (workersFit n) → T (choicesFit n choices)
-    → let s = run (setting p n choices) in Bounds p n (s .rows) (s .tally)
+    → Bounds p n (run (setting p n choices) .rows) (run (setting p n choices) .tally)

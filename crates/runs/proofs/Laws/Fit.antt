@@ -1,7 +1,7 @@
 -- A setting that is let through, and the number of workers in a round.
 --   Fit S == its plan is accepted, and there are 1 to 16 workers; nothing is asked of the choices
 --   count-some, count-most, count-within == in a round there are 1 to 16 workers, and no more than the setting has
---   count-is, count-next                 == the same number in every round; only the laws that cite these two use that
+--   count-is, count-next                 == the same number in every round; a law uses that by citing these, or by unfolding `countIn`
 use Prim.Native.Nat.{ℕ, suc, _≤_}
 use mathlib.Core.Path.{_≡_, refl, sym, _∙_}
 use native.Mathlib.Nat.{le-refl}

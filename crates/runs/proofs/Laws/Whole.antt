@@ -1,4 +1,4 @@
--- The whole run: its fuel is enough, it ends in at most T1 rounds and has done every action once.
+-- The whole run: its fuel is enough, it ends in at most T1 rounds and has done every action, in T1 turns.
 --   Finished S s == s is the state in which a run ends: all turns of a round are taken, and job 0 has ended
 --   run-trace    == a run ends in such a state: T1 rounds are enough
 --   rounds-most, run-done, run-actions, run-turns, run-requests, lone-rounds == so of its rounds, its actions and its counts
@@ -138,7 +138,7 @@ module _ {S : Setting} (fit : Fit S) where
   pub run-done : (j : ℕ) → j < length plan → nextOf (run S) j ≡ size plan j
   run-done = let (r, b, t, e, q) = run-trace in all-done (fit .plan) (trace-sound fit t) e
 
-  -- and each once
+  -- and the turns that did one are T1
   pub run-actions : run S .tally .actions ≡ work plan
   run-actions =
       let (r, b, t, e, q) = run-trace in
