@@ -10,6 +10,8 @@ pub struct Facts {
     /// Per action: the actions that it must follow.
     follows: Vec<Vec<usize>>,
     start: i64,
+    /// The last action of job 0.
+    end: usize,
 }
 
 impl Facts {
@@ -53,6 +55,7 @@ impl Facts {
             gains,
             follows,
             start: frame(0),
+            end: last[0],
         }
     }
 
@@ -93,6 +96,15 @@ impl Facts {
         let rounds = u32::from(turns[turns.len() - 1].0 >> 4);
         let waiting = tally.requests as i64 - tally.steals as i64 - tally.misses as i64;
         [
+            (
+                rows.iter()
+                    .all(|row| row >> 4 > 0 && u32::from(row & 15) < workers),
+                "every action is done in a round from 1 on, by one of the workers",
+            ),
+            (
+                u32::from(rows[self.end] >> 4) == rounds,
+                "the run ends in the round of job 0's last action",
+            ),
             (weight == 0, "no frame outlives the run"),
             (
                 turns.windows(2).all(|two| two[0].0 != two[1].0),

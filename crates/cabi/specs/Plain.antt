@@ -1,7 +1,7 @@
 -- What the exported functions answer, as plain numbers: the refusal's number, 0 for none, then what was asked for, or 0s.
---   countOf, measuresOf, tallyOf == the numbers of an outcome
---   checkOf                      == the number of a judgement
---   Claimed plan n r schedule    == demand 3's claim, of what was returned and written
+--   countOf, measuresOf, tallyOf      == the numbers of an outcome
+--   checkOf                           == the number of a judgement
+--   Claimed plan n choices r schedule == demand 3's claim, of what was returned and written
 use Prim.Native.Nat.{ℕ}
 use mathlib.Core.Path.{_≡_}
 use mathlib.Core.List.{List}
@@ -10,6 +10,7 @@ use Rattle.plan.specs.Plan.{Plan}
 use Rattle.plan.specs.Reader.{readPlan}
 use Rattle.plan_measure.specs.declared.Measures.{Measures}
 use Rattle.runs.specs.declared.tally.Tally.{Tally}
+use Rattle.runs.specs.Setting.{setting}
 use Rattle.runs.specs.Claim.{Bounded}
 use Rattle.cabi.specs.declared.DwCount.{DwCount}
 use Rattle.cabi.specs.declared.DwMeasures.{DwMeasures}
@@ -42,6 +43,7 @@ checkOf (refused k) = k
 checkOf (accepted n) = 0
 
 -- where nothing is refused, the plan was accepted, and the claim holds of the rows read off the schedule, with the tally
-abbrev pub Claimed : List ℕ → ℕ → DwTally → List ℕ → Type 0
-Claimed plan n r schedule =
-    r .refused ≡ 0 → (p : Plan) × (t : Tally) × (readPlan plan ≡ accepted p) × (r ≡ tallyOf (accepted t)) × Bounded p n schedule t
+abbrev pub Claimed : List ℕ → ℕ → List ℕ → DwTally → List ℕ → Type 0
+Claimed plan n choices r schedule =
+    r .refused ≡ 0
+    → (p : Plan) × (t : Tally) × (readPlan plan ≡ accepted p) × (r ≡ tallyOf (accepted t)) × Bounded (setting p n choices) schedule t

@@ -113,8 +113,9 @@ pub extern "C" fn dw_measure(plan: &[u8]) -> DwMeasures
 
 #[no_mangle]
 pub extern "C" fn dw_run(plan: &[u8], workers: u32, choices: &[u8], schedule: &mut [u8]) -> DwTally
-    ensures { λ r. ⌜ (r ≡ tallyOf (runInto (now (plan .entry)) workers (now (choices .entry)) (now (schedule .entry)) .answer)) × (now (schedule .exit) ≡ runInto (now (plan .entry)) workers (now (choices .entry)) (now (schedule .entry)) .schedule) ⌝ }
-    ensures { λ r. ⌜ Claimed (now (plan .entry)) workers r (now (schedule .exit)) ⌝ }
+    ensures { λ r. ⌜ (r ≡ tallyOf (runInto (now (plan .entry)) workers (now (choices .entry)) (now (schedule .entry)) .answer))
+        × (now (schedule .exit) ≡ runInto (now (plan .entry)) workers (now (choices .entry)) (now (schedule .entry)) .schedule) ⌝ }
+    ensures { λ r. ⌜ Claimed (now (plan .entry)) workers (now (choices .entry)) r (now (schedule .exit)) ⌝ }
 {
     match run(plan, workers, choices, schedule) {
         Ran::Refused(cause) => DwTally {

@@ -7,9 +7,10 @@
 --        job 2, one, joins position 3; frames 1
 --   L == job 0, four actions, spawns 1 at 1; job 1, one, joins position 3; frames 1
 --   done p s j i == the row of action i of job j
-use Prim.Native.Nat.{ℕ}
+--   undone rows  == how many actions have no round
+use Prim.Native.Nat.{ℕ, zero, suc}
 use mathlib.Core.Path.{_≡_, refl}
-use mathlib.Core.List.{[], _∷_}
+use mathlib.Core.List.{List, [], _∷_}
 use lib.ListN.{getD}
 use Rattle.plan.specs.Plan.{Plan, spawnAt, entering}
 use Rattle.plan.specs.Rules.{inRange, spawnRules, joinRules, Accepted}
@@ -66,6 +67,15 @@ L-run = run (setting L 3 (0 ∷ []))
 
 abbrev done : Plan → State → ℕ → ℕ → Row
 done p s j i = getD (s .rows) (place p j i) noRow
+
+abbrev undone : List Row → ℕ
+undone [] = 0
+undone (a ∷ rows) = elim (a .round) [ zero ↦ suc (undone rows) | suc r ↦ undone rows ]
+
+-- every action of G has a round: the run goes on until job 0 has ended, and leaves no row out
+pub every-action-done : undone (G-run .rows) ≡ 0
+unfolding run countIn work
+every-action-done = refl
 
 -- worker 1 steals job 0 in round 1 and does its next action in round 2
 pub thief-waits : done G G-run 0 1 ≡ row 2 1

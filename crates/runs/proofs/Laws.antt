@@ -18,6 +18,7 @@ pub mod Waiting
 pub mod Victims
 pub mod Whole
 pub mod Served
+pub mod InTime
 pub mod OwnSchedule
 pub mod Demand3
 pub mod Starred

@@ -1,43 +1,72 @@
--- Demand 3, one claim about a whole run from its start to its end.
---   Bounds p n rows t      == of the rows and the tally of a run of n workers on the plan p
---   Bounded p n schedule t == the same of the rows that are read off a schedule's bytes, and a tally
---   Demand3                == for all accepted plan bytes, all worker counts 1 to 16 and all accepted lists of choices
-use Prim.Native.Nat.{ℕ, _+_, _*_, _≤_}
+-- Demand 3, one claim about a whole run from its start to its end, with the sums that its counts keep.
+--   Bounds S rows t      == of the rows and the tally of the run of the setting S
+--   Bounded S schedule t == the same of the rows that are read off a schedule's bytes, and a tally
+--   Claim S              == so it is of the run of S
+--   Demand3              == for all accepted plan bytes, all worker counts 1 to 16 and all accepted lists of choices
+--   EveryOrder           == for every order of steals: lists of choices of any length, whose entries name workers
+use Prim.Native.Nat.{ℕ, _+_, _-_, _*_, _≤_, _<_}
 use mathlib.Core.Path.{_≡_}
 use mathlib.Core.List.{List}
-use lib.ListN.{take}
-use lib.Dec.{T}
+use lib.ListN.{take, getD}
+use lib.Dec.{T, ltb}
 use Rattle.plan.specs.Refusal.{accepted}
-use Rattle.plan.specs.Plan.{Plan, total}
+use Rattle.plan.specs.Test.{all}
+use Rattle.plan.specs.Plan.{Plan, size, total}
 use Rattle.plan.specs.Reader.{readPlan}
 use Rattle.plan_measure.specs.Measure.{work, longest, heaviest}
 use Rattle.runs.specs.declared.tally.Tally.{Tally}
-use Rattle.courses.specs.Row.{Row}
-use Rattle.runs.specs.Setting.{setting}
-use Rattle.runs.specs.Run.{run, workersFit, choicesFit}
+use Rattle.courses.specs.Row.{Row, noRow, place}
+use Rattle.runs.specs.Setting.{Setting, setting}
+use Rattle.runs.specs.Steal.{waiting}
+use Rattle.runs.specs.Run.{ended, run, workersFit, choicesFit}
 use Rattle.courses.specs.Schedule.{readSchedule}
 use Rattle.courses.specs.Living.{weightAfter, peakOf, lastRound}
 
-pub record Bounds (p : Plan) (n : ℕ) (rows : List Row) (t : Tally) : Type 0 where
-  -- at the start (round 0) and after every single turn the frames of living jobs weigh at most P × S1
-  pub space : (r w : ℕ) → weightAfter p rows r w ≤ n * heaviest p
-  -- the build ends in at most T1 rounds and at least T∞
-  pub most-rounds : t .rounds ≤ work p
-  pub least-rounds : longest p ≤ t .rounds
-  -- with one worker the peak is S1 and the rounds are T1
-  pub lone-peak : n ≡ 1 → t .peak ≡ heaviest p
-  pub lone-rounds : n ≡ 1 → t .rounds ≡ work p
-  -- the peak is the largest of those weights, the rounds the last round in the rows
-  pub peak : t .peak ≡ peakOf p rows
-  pub rounds : t .rounds ≡ lastRound rows
+module _ (S : Setting) where
+  open Setting S using (plan, workers)
 
--- the first 4 + 2 × actions bytes are a schedule of n workers for the plan, and the bounds hold of its rows with the tally
-pub record Bounded (p : Plan) (n : ℕ) (schedule : List ℕ) (t : Tally) : Type 0 where
-  pub rows : List Row
-  pub read : readSchedule (take (4 + 2 * total p) schedule) (total p) ≡ accepted (record { workers = n; rows = rows })
-  pub bounds : Bounds p n rows t
+  pub record Bounds (rows : List Row) (t : Tally) : Type 0 where
+    -- the build ends: every action is done, in a round from 1 to the last one and by one of the P workers
+    pub done : (k : ℕ) → k < total plan → let a = getD rows k noRow in (1 ≤ a .round) × (a .round ≤ t .rounds) × (a .worker < workers)
+    -- the run has ended, and the last round is the one in which job 0 does its last action
+    pub over : T (ended plan (run S))
+    pub ends : getD rows (place plan 0 (size plan 0 - 1)) noRow .round ≡ t .rounds
+    -- at the start (round 0) and after every single turn the frames of living jobs weigh at most P × S1
+    pub space : (r w : ℕ) → weightAfter plan rows r w ≤ workers * heaviest plan
+    -- the build ends in at most T1 rounds and at least T∞
+    pub most-rounds : t .rounds ≤ work plan
+    pub least-rounds : longest plan ≤ t .rounds
+    -- with one worker the peak is S1 and the rounds are T1
+    pub lone-peak : workers ≡ 1 → t .peak ≡ heaviest plan
+    pub lone-rounds : workers ≡ 1 → t .rounds ≡ work plan
+    -- the peak is the largest of those weights, and after no turn, idle turns with them, do the frames weigh more; the rounds are
+    -- the last round in the rows
+    pub peak : t .peak ≡ peakOf plan rows
+    pub below-peak : (r w : ℕ) → weightAfter plan rows r w ≤ t .peak
+    pub rounds : t .rounds ≡ lastRound rows
+    -- T1 turns did an action, and "P × rounds = actions + idle turns"
+    pub actions : t .actions ≡ work plan
+    pub turns : workers * t .rounds ≡ t .actions + t .idle
+    -- "requests = steals + misses + requests still waiting", as the run ends
+    pub requests : t .requests ≡ t .steals + t .misses + waiting workers (run S .workers)
+
+  -- the first 4 + 2 × actions bytes are a schedule of P workers for the plan, and the bounds hold of its rows with the tally
+  pub record Bounded (schedule : List ℕ) (t : Tally) : Type 0 where
+    pub rows : List Row
+    pub read : readSchedule (take (4 + 2 * total plan) schedule) (total plan) ≡ accepted (record { workers = workers; rows = rows })
+    pub bounds : Bounds rows t
+
+  abbrev pub Claim : Type 0
+  Claim = Bounds (run S .rows) (run S .tally)
 
 abbrev pub Demand3 : Type 0
 Demand3 =
     (s : List ℕ) (p : Plan) (n : ℕ) (choices : List ℕ) → readPlan s ≡ accepted p → T (workersFit n) → T (choicesFit n choices)
-    → Bounds p n (run (setting p n choices) .rows) (run (setting p n choices) .tally)
+    → Claim (setting p n choices)
+
+-- An entry takes at most 4,096 choices and reads them again from the first once they are used up. A run lays finitely many requests,
+-- so a list that is long enough names any victims that anybody may choose, one after the other, as the run goes on.
+abbrev pub EveryOrder : Type 0
+EveryOrder =
+    (s : List ℕ) (p : Plan) (n : ℕ) (choices : List ℕ) → readPlan s ≡ accepted p → T (workersFit n) → T (all (λ c. ltb c n) choices)
+    → Claim (setting p n choices)

@@ -20,3 +20,4 @@ pub mod Underway
 pub mod RunBytes
 pub mod RunAnswers
 pub mod Builds
+pub mod BuildClaim

@@ -4,7 +4,10 @@
 --   buildOf input          == "Before the plan is looked at, in this order: P or the count missing prints `refused 1`, a count
 --                             above 4,096 `refused 8` even if choices are missing too, missing choices `refused 1`."
 --   builtOf r              == the outcome that an answer stands for
-use Prim.Native.Nat.{ℕ, _+_, _*_, _-_}
+--   CountBounds S c        == demand 3's claim and the two sums, of the counts of the run of S: P × S1 is P × `path`, T1 is `actions`
+--   Claimed input r        == so it is of the counts that were answered
+use Prim.Native.Nat.{ℕ, _+_, _*_, _≤_}
+use mathlib.Core.Path.{_≡_}
 use mathlib.Core.Bool.{true, false}
 use mathlib.Core.List.{List}
 use lib.ListN.{length, getD, take, drop}
@@ -12,12 +15,14 @@ use lib.Dec.{ltb}
 use Rattle.plan.specs.Refusal.{Outcome, refused, accepted, numberOf}
 use Rattle.plan.specs.Plan.{Plan}
 use Rattle.plan.specs.Reader.{readPlan}
-use Rattle.plan_measure.specs.Measure.{longest, heaviest}
+use Rattle.plan_measure.specs.Measure.{work, longest, heaviest}
 use Rattle.scheduler.specs.declared.build.Counts.{Counts}
 use Rattle.scheduler.specs.declared.build.Built.{Built}
 use Rattle.scheduler.specs.declared.build.Built.the-variants.{Refused, Counted}
 use Rattle.runs.specs.State.{State}
-use Rattle.runs.specs.Run.{runOf}
+use Rattle.runs.specs.Setting.{Setting, setting}
+use Rattle.runs.specs.Steal.{waiting}
+use Rattle.runs.specs.Run.{run, runOf}
 
 unfoldable pub countsOf : Outcome Plan → Outcome State → Outcome Counts
 unfolding longest heaviest
@@ -45,6 +50,13 @@ ranWith plan n choices = countsOf (readPlan plan) (runOf plan n choices)
 abbrev pub choiceCount : List ℕ → ℕ
 choiceCount input = getD input 1 0 * 256 + getD input 2 0
 
+-- the plan and the choices
+abbrev pub planIn : List ℕ → List ℕ
+planIn input = drop (3 + choiceCount input) input
+
+abbrev pub choicesIn : List ℕ → List ℕ
+choicesIn input = take (choiceCount input) (drop 3 input)
+
 unfoldable pub buildOf : List ℕ → Outcome Counts
 unfolding ranWith
 buildOf input =
@@ -54,7 +66,7 @@ buildOf input =
         | true ↦ refused 8
         | false ↦ elim (ltb (length input) (3 + choiceCount input)) [
           | true ↦ refused 1
-          | false ↦ ranWith (drop (3 + choiceCount input) input) (getD input 0 0) (take (choiceCount input) (drop 3 input))
+          | false ↦ ranWith (planIn input) (getD input 0 0) (choicesIn input)
         ]
       ]
     ]
@@ -62,3 +74,26 @@ buildOf input =
 abbrev pub builtOf : Built → Outcome Counts
 builtOf (Refused cause) = refused (numberOf cause)
 builtOf (Counted c) = accepted c
+
+module _ (S : Setting) where
+  open Setting S using (plan, workers)
+
+  pub record CountBounds (c : Counts) : Type 0 where
+    -- the build ends in at most T1 rounds and at least T∞, with every action done
+    pub actions : c .actions ≡ work plan
+    pub most-rounds : c .rounds ≤ c .actions
+    pub least-rounds : c .longest ≤ c .rounds
+    -- the frames of living jobs never weigh more than P × S1
+    pub space : c .peak ≤ workers * c .path
+    -- with one worker the peak is S1 and the rounds are T1
+    pub lone-peak : workers ≡ 1 → c .peak ≡ c .path
+    pub lone-rounds : workers ≡ 1 → c .rounds ≡ c .actions
+    -- "P × rounds = actions + idle turns", "requests = steals + misses + requests still waiting"
+    pub turns : workers * c .rounds ≡ c .actions + c .idle
+    pub requests : c .requests ≡ c .steals + c .misses + waiting workers (run S .workers)
+
+-- where counts are answered, the plan was accepted, and the claim holds of them
+abbrev pub Claimed : List ℕ → Built → Type 0
+Claimed input r =
+    (c : Counts) → r ≡ Counted c
+    → (p : Plan) × (readPlan (planIn input) ≡ accepted p) × CountBounds (setting p (getD input 0 0) (choicesIn input)) c

@@ -1,7 +1,7 @@
 -- What the entry `run` answers and leaves in the lent schedule (document 01, "Turned down").
---   runInto plan n choices schedule == the tally and the schedule's bytes, or the refusal: 1 to 6, then 7, 8, 9
---   Claimed plan n r schedule       == demand 3's claim, of what was returned and written
---   ranOf r                         == the outcome that an answer stands for
+--   runInto plan n choices schedule   == the tally and the schedule's bytes, or the refusal: 1 to 6, then 7, 8, 9
+--   Claimed plan n choices r schedule == demand 3's claim, of what was returned and written
+--   ranOf r                           == the outcome that an answer stands for
 use Prim.Native.Nat.{ℕ}
 use mathlib.Core.Path.{_≡_}
 use mathlib.Core.Bool.{Bool, true, false}
@@ -15,6 +15,7 @@ use Rattle.runs.specs.declared.tally.Tally.{Tally}
 use Rattle.scheduler.specs.declared.run.Ran.{Ran}
 use Rattle.scheduler.specs.declared.run.Ran.the-variants.{Refused, Done}
 use Rattle.runs.specs.State.{State}
+use Rattle.runs.specs.Setting.{setting}
 use Rattle.runs.specs.Run.{runOf}
 use Rattle.courses.specs.Schedule.{scheduleBytes}
 use Rattle.runs.specs.Claim.{Bounded}
@@ -45,6 +46,6 @@ ranOf (Refused cause) = refused (numberOf cause)
 ranOf (Done t) = accepted t
 
 -- where the run was done, the plan was accepted, and the claim holds of the rows read off the schedule, with the tally
-abbrev pub Claimed : List ℕ → ℕ → Ran → List ℕ → Type 0
-Claimed plan n r schedule =
-    (t : Tally) → r ≡ Done t → (p : Plan) × (readPlan plan ≡ accepted p) × Bounded p n schedule t
+abbrev pub Claimed : List ℕ → ℕ → List ℕ → Ran → List ℕ → Type 0
+Claimed plan n choices r schedule =
+    (t : Tally) → r ≡ Done t → (p : Plan) × (readPlan plan ≡ accepted p) × Bounded (setting p n choices) schedule t

@@ -11,6 +11,7 @@ use Rattle.plan.specs.Refusal.{accepted}
 use Rattle.plan.specs.Plan.{Plan, total}
 use Rattle.plan.specs.Flat.{Entered}
 use Rattle.runs.specs.declared.tally.Tally.{Tally}
+use Rattle.runs.specs.Setting.{setting}
 use Rattle.runs.specs.Run.{admitted}
 use Rattle.runs.specs.Claim.{Bounded}
 use Rattle.scheduler.specs.declared.run.Ran.{Ran}
@@ -27,4 +28,4 @@ pub record Loaded (p : Plan) (actions : ℕ) (frame first spawn join parent miss
 abbrev pub Answered : Plan → ℕ → List ℕ → List ℕ → Ran → List ℕ → Type 0
 Answered p n choices before r after =
     (_≡_ {A = Result} (record { answer = ranOf r; schedule = after }) (resulted (admitted (accepted p) n choices) n before))
-    × ((t : Tally) → r ≡ Done t → Bounded p n after t)
+    × ((t : Tally) → r ≡ Done t → Bounded (setting p n choices) after t)

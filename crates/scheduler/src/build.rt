@@ -5,7 +5,7 @@ ghost use Rattle.plan.specs.Refusal.{accepted};
 ghost use Rattle.plan.specs.Plan.{Plan};
 ghost use Rattle.runs.specs.Run.{admitted};
 ghost use Rattle.scheduler.specs.Loaded.{Loaded};
-ghost use Rattle.scheduler.specs.Build.{countsOf, ranWith, buildOf, builtOf};
+ghost use Rattle.scheduler.specs.Build.{countsOf, ranWith, buildOf, builtOf, Claimed};
 use crate::run::Ran;
 use crate::run::run_read;
 use plan::flat::Found;
@@ -127,6 +127,7 @@ fn units(x: u8) -> u32
 // The counts of the build that the input asks for, or why it is turned down.
 pub fn build(input: &[u8]) -> Built
     ensures { λ r. ⌜ builtOf r ≡ buildOf (now (input .entry)) ⌝ }
+    ensures { λ r. ⌜ Claimed (now (input .entry)) r ⌝ }
 {
     if input.len() < 3 {
         return Built::Refused(Refusal::RanOut);

@@ -186,8 +186,9 @@ pub(crate) fn run_read<'a>(
 
 // Runs the plan that the bytes hold and writes its schedule.
 pub fn run(plan: &[u8], workers: u32, choices: &[u8], schedule: &mut [u8]) -> Ran
-    ensures { λ r. ⌜ record { answer = ranOf r; schedule = now (schedule .exit) } ≡ runInto (now (plan .entry)) workers (now (choices .entry)) (now (schedule .entry)) ⌝ }
-    ensures { λ r. ⌜ Claimed (now (plan .entry)) workers r (now (schedule .exit)) ⌝ }
+    ensures { λ r. ⌜ record { answer = ranOf r; schedule = now (schedule .exit) }
+        ≡ runInto (now (plan .entry)) workers (now (choices .entry)) (now (schedule .entry)) ⌝ }
+    ensures { λ r. ⌜ Claimed (now (plan .entry)) workers (now (choices .entry)) r (now (schedule .exit)) ⌝ }
 {
     let mut frame = [0u16; 256];
     let mut first = [0u16; 257];

@@ -1,5 +1,6 @@
 -- The weights and the peak of a course that has ended, read off the plan and the rows alone.
 --   course-space == no weight is above the bound of its round
+--   peak-above   == no weight is above the peak
 --   course-peak  == the peak is the largest weight that the rows tell
 --   peak-least   == the peak is at least the weight of the heaviest path
 --   peak-most    == the peak is at most what bounds the weight in every round
@@ -108,8 +109,7 @@ module _ (e : Terms) (ok : Accepted (e .plan)) (grows : (r r′ : ℕ) → r ≤
       let (u, past) = history e ok grows t r′ w′ in
       rw (weight-read past) (past .within)
 
-  -- no weight is above the peak
-  peak-above : (r′ w′ : ℕ) → weightAfter plan (c .rows) r′ w′ ≤ c .peak
+  pub peak-above : (r′ w′ : ℕ) → weightAfter plan (c .rows) r′ w′ ≤ c .peak
   peak-above r′ w′ =
       let (u, past) = history e ok grows t r′ w′ in
       rw (weight-read past) (past .light)

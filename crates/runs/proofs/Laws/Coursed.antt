@@ -4,8 +4,10 @@
 --   terms S      == the plan, the turns of an action, the workers and the bounds of a run's course
 --   passed S r g == how many workers have had their turns at stage g of round r
 --   trace-course == every state of a run is one of a course
---   run-row, run-keeps, least-rounds, last-round, run-space, run-peak, lone-peak == so of the end of a run: its rows, rounds and peak
-use Prim.Native.Nat.{ℕ, suc, _*_, _≤_, _<_}
+--   run-row, run-keeps == so of the rows as a run ends: every action is done, and the rules of a schedule are kept
+--   least-rounds, job-0-ends, last-round == of its rounds
+--   run-space, run-peak, below-peak, most-peak, lone-peak == of its weights
+use Prim.Native.Nat.{ℕ, suc, _-_, _*_, _≤_, _<_}
 use mathlib.Core.Path.{_≡_, refl, ap, sym, _∙_}
 use mathlib.Core.Logic.{inl}
 use mathlib.Core.Bool.{true}
@@ -19,7 +21,7 @@ use Rattle.runs.specs.declared.worker.Worker.the-variants.{Idle, Holding
 use Rattle.plan.specs.Plan.{Plan, job, size, total}
 use Rattle.plan.specs.Rules.{Accepted}
 use Rattle.plan_measure.specs.Measure.{work, longest, heaviest}
-use Rattle.courses.specs.Row.{noRow}
+use Rattle.courses.specs.Row.{noRow, place}
 use Rattle.runs.specs.Setting.{Setting, countIn}
 use Rattle.runs.specs.State.{State, nextOf, workerOf, start}
 use Rattle.courses.specs.Ready.{weight}
@@ -33,10 +35,10 @@ use Rattle.courses.proofs.Laws.Course as Course
 use Rattle.courses.proofs.Laws.Course.{Core, Terms, Begins, Hands, Paced, Ends, Course}
 use Rattle.courses.proofs.Laws.Steps.{finished-ends}
 use Rattle.courses.proofs.Laws.Start.{none-weight}
-use Rattle.courses.proofs.Laws.Kept.{Done}
+use Rattle.courses.proofs.Laws.Kept.{Done, course-ended}
 use Rattle.courses.proofs.Laws.Worked.{price, turns-most, turns-all, course-most}
 use Rattle.courses.proofs.Laws.Price.{price-work}
-use Rattle.courses.proofs.Laws.Peak.{course-space, course-peak, peak-least, peak-most}
+use Rattle.courses.proofs.Laws.Peak.{course-space, peak-above, course-peak, peak-least, peak-most}
 use Rattle.courses.proofs.Laws.Order.{course-row, course-keeps, course-least, course-last}
 use Rattle.runs.proofs.Laws.Fit.{Fit, count-some, count-within, count-is}
 use Rattle.runs.proofs.Laws.Lined.{Sound, held-in, held-below, held-job, held-once}
@@ -188,6 +190,10 @@ module _ {S : Setting} (fit : Fit S) where
     pub least-rounds : longest plan ≤ r
     least-rounds = course-least (terms S) (fit .plan) (trace-course t) over (λ x. refl)
 
+    -- job 0's last action is done in the last round
+    pub job-0-ends : getD (s .rows) (place plan 0 (size plan 0 - 1)) noRow .round ≡ r
+    job-0-ends = course-ended (terms S) (fit .plan) (trace-course t) over
+
     -- the last round is in the rows
     pub last-round : lastRound (s .rows) ≡ r
     last-round = course-last (terms S) (fit .plan) (trace-course t) over
@@ -198,12 +204,13 @@ module _ {S : Setting} (fit : Fit S) where
     pub run-peak : s .tally .peak ≡ peakOf plan (s .rows)
     run-peak = course-peak (terms S) (fit .plan) grows (trace-course t) over
 
+    pub below-peak : (r′ w′ : ℕ) → weightAfter plan (s .rows) r′ w′ ≤ s .tally .peak
+    below-peak = peak-above (terms S) (fit .plan) grows (trace-course t) over
+
+    pub most-peak : s .tally .peak ≤ S .workers * heaviest plan
+    most-peak = peak-most (terms S) (fit .plan) grows (trace-course t) over (S .workers * heaviest plan) within
+
     pub lone-peak : S .workers ≡ 1 → s .tally .peak ≡ heaviest plan
     lone-peak q =
         let z : S .workers * heaviest plan ≡ heaviest plan = rw q (omega arith) in
-        let c = trace-course t in
-        omega (
-          arith,
-          peak-least (terms S) (fit .plan) grows c over,
-          peak-most (terms S) (fit .plan) grows c over (S .workers * heaviest plan) within,
-        )
+        omega (arith, peak-least (terms S) (fit .plan) grows (trace-course t) over, most-peak)

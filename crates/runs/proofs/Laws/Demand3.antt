@@ -1,42 +1,53 @@
 -- Demand 3, whole: the claim of specs/Claim.antt about every run, and about the schedule that it writes.
 --   run-bounds  == the bounds hold of the rows and the tally of a run
 --   run-bounded == and of the rows that are read off its schedule, whatever follows this
---   demand3     == so of all that is accepted
+--   every-order == so of every plan that is accepted and every list of choices, however long
+--   demand3     == and of all that is accepted
 use Prim.Native.Nat.{ℕ, _+_, _*_, _≤_}
 use mathlib.Core.Path.{_≡_, sym, ap, _∙_}
 use mathlib.Core.List.{List, _++_}
 use native.Mathlib.Omega.{arith}
+use lib.Dec.{ltb}
 use lib.ListN.{length}
 use lib.Seq.{take-at}
+use Rattle.plan.specs.Test.{all}
 use Rattle.plan.specs.Plan.{total}
 use Rattle.runs.specs.Setting.{Setting, setting}
-use Rattle.runs.specs.Run.{run}
+use Rattle.runs.specs.Run.{run, choicesFit}
 use Rattle.courses.specs.Schedule.{scheduleBytes, readSchedule}
-use Rattle.runs.specs.Claim.{Bounds, Bounded, Demand3}
+use Rattle.runs.specs.Claim.{Bounded, Claim, Demand3, EveryOrder}
 use Rattle.plan.proofs.Laws.Accepted.{accepted-kept}
+use Rattle.plan.proofs.Laws.Lists.{both-left, of-true}
 use Rattle.plan_measure.proofs.Laws.Work.{work-range}
 use Rattle.runs.proofs.Laws.Fit.{Fit}
 use Rattle.runs.proofs.Laws.Admitted.{workers-range}
-use Rattle.runs.proofs.Laws.Whole.{run-trace, rounds-most, lone-rounds}
-use Rattle.runs.proofs.Laws.Coursed.{rows-length, round-most, last-round, least-rounds, run-space, run-peak, lone-peak}
+use Rattle.runs.proofs.Laws.Whole.{run-trace, rounds-most, run-actions, run-turns, run-requests, lone-rounds}
+use Rattle.runs.proofs.Laws.Coursed.{rows-length, run-row, round-most, job-0-ends, last-round, least-rounds}
+use Rattle.runs.proofs.Laws.Coursed.{run-space, run-peak, below-peak, lone-peak}
 use Rattle.courses.proofs.Laws.ScheduleBytes.{schedule-length}
 use Rattle.runs.proofs.Laws.OwnSchedule.{run-schedule}
 
-pub run-bounds : {S : Setting} → Fit S → Bounds (S .plan) (S .workers) (run S .rows) (run S .tally)
-run-bounds fit =
+pub run-bounds : {S : Setting} → Fit S → Claim S
+run-bounds {S} fit =
     let (r, b, t, e, q) = run-trace fit in
     record {
+      done = λ k h. let d = run-row fit t e k h in (d .first, omega (arith, d .latest), d .known);
+      over = of-true _ e;
+      ends = job-0-ends fit t e ∙ sym q;
       space = run-space fit t e;
       most-rounds = rounds-most fit;
       least-rounds = omega (arith, least-rounds fit t e);
       lone-peak = lone-peak fit t e;
       lone-rounds = lone-rounds fit;
       peak = run-peak fit t e;
+      below-peak = below-peak fit t e;
       rounds = q ∙ sym (last-round fit t e);
+      actions = run-actions fit;
+      turns = run-turns fit;
+      requests = run-requests fit;
     }
 
-pub run-bounded : {S : Setting} → Fit S → (rest : List ℕ)
-    → Bounded (S .plan) (S .workers) (scheduleBytes (S .workers) (run S .rows) ++ rest) (run S .tally)
+pub run-bounded : {S : Setting} → Fit S → (rest : List ℕ) → Bounded S (scheduleBytes (S .workers) (run S .rows) ++ rest) (run S .tally)
 run-bounded {S} fit rest =
     let out = scheduleBytes (S .workers) (run S .rows) in
     let m = total (S .plan) in
@@ -49,6 +60,10 @@ run-bounded {S} fit rest =
       bounds = run-bounds fit;
     }
 
-pub demand3 : Demand3
-demand3 s p n choices a w c =
+pub every-order : EveryOrder
+every-order s p n choices a w c =
     run-bounds {S = setting p n choices} (record { plan = accepted-kept s p a; some = workers-range n w .0; most = workers-range n w .1 })
+
+pub demand3 : Demand3
+unfolding choicesFit
+demand3 s p n choices a w c = every-order s p n choices a w (both-left (all (λ c. ltb c n) choices) _ c)

@@ -6,7 +6,7 @@
 --   Within v a xs ws == each request on v of a rank below a in xs is in ws too
 --   Roster n ws      == of the workers ws those below n are there: at most sixteen, each with its place, and who waits is one of them
 --   AllDue n r g ws  == at stage g of round r each request in ws can be served in time
---   waits-served     == so when round r is over no request waits that was laid n - 1 rounds before it or earlier
+--   waits-due        == so no request waits in a round that comes n rounds or more after the one it was laid in
 use Prim.Native.Nat.{ℕ, suc, _+_, _≤_, _<_, zero-le}
 use mathlib.Core.Path.{_≡_, refl, sym, ap, _∙_}
 use mathlib.Core.Logic.{_≢_, by-cases}
@@ -195,10 +195,12 @@ module _ {S : Setting} (fit : Fit S) (chosen : T (choicesFit (S .workers) (S .ch
       (λ x y e. served-due (roster t) r (all-due t) (rw e at best) y)
   all-due (next-round {r} t) = rw (count-next S r) λ w v l e. omega (arith, all-due t w v l e .1 (victim-below fit chosen t w v l e .0))
 
-  -- a request that still waits when round r is over was laid in a round l with r < l + (n - 1): it is served in round l + n - 1 at
-  -- the latest
-  pub waits-served : {r : ℕ} {b : List Worker} {s : State} → Trace S r b (serving (countIn S r)) s
-      → (w v l : ℕ) → workerOf s w ≡ Waiting v l → (l ≤ r) × (r + 2 ≤ l + countIn S r)
-  waits-served t w v l e =
-      let (below, first, round) = victim-below fit chosen t w v l e in
-      (round, omega (arith, all-due t w v l e .1 below))
+  -- no request waits in a round l + n or later, so that it is served in round l + n - 1 at the latest
+  pub waits-due : {r : ℕ} {b : List Worker} {g : Stage} {s : State} → Trace S r b g s
+      → (w v l : ℕ) → workerOf s w ≡ Waiting v l → r < l + countIn S r
+  waits-due {r} {g = g} {s} t w v l e = go g (all-due t w v l e)
+    where
+      go : (g : Stage) → Due (countIn S r) r g v l (before (countIn S r) v (rank l w) (s .workers)) → r < l + countIn S r
+      go (turning k) i = omega arith
+      go (laying k) i = omega arith
+      go (serving k) i = omega (arith, i .0)

@@ -54,7 +54,7 @@ given-loaded bytes f g =
 -- what is answered to the bytes; where there was no run the claim says nothing
 abbrev pub Answers : List ℕ → ℕ → List ℕ → List ℕ → Ran → List ℕ → Type 0
 Answers bytes n choices before r after =
-    (_≡_ {A = Result} (record { answer = ranOf r; schedule = after }) (runInto bytes n choices before)) × Claimed bytes n r after
+    (_≡_ {A = Result} (record { answer = ranOf r; schedule = after }) (runInto bytes n choices before)) × Claimed bytes n choices r after
 
 module _ (bytes : List ℕ) (n : ℕ) (choices schedule : List ℕ) where
   pub refuses-plan : (cause : Refusal) → readPlan bytes ≡ refused (numberOf cause)

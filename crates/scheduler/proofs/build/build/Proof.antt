@@ -1,14 +1,22 @@
 -- `build::build` meets its contract: each answer by the input's length and its choice count.
-use mathlib.Core.Path.{ap₂, _∙_}
-use Prim.Native.Nat.{_+_, _*_}
+use mathlib.Core.Path.{_≡_, ap₂, _∙_}
+use mathlib.Core.List.{List}
+use Prim.Native.Nat.{ℕ, _+_, _*_}
 use native.Mathlib.Omega.{arith}
+use Rattle.scheduler.specs.declared.build.Built.{Built}
+use Rattle.scheduler.specs.Build.{buildOf, builtOf, Claimed}
+use Rattle.scheduler.proofs.Laws.BuildClaim.{build-claimed}
 use Rattle.scheduler.proofs.Laws.Builds.{build-short, build-crowded, build-lacking, build-runs}
 use borrow.Author.Needs.{needs}
 use Rattle.scheduler.proofs.build.build.Statement.{statement}
 use Rattle.scheduler.proofs.build.build.Tie as tie
 
+-- what was answered is the build's outcome, and so the claim holds of it
+told : (input : List ℕ) (r : Built) → builtOf r ≡ buildOf input → (builtOf r ≡ buildOf input) × Claimed input r
+told input r e = (e, build-claimed input r e)
+
 returns : tie.Need-returns
-returns c = build-short _ (c .if1 .taken)
+returns c = told _ _ (build-short _ (c .if1 .taken))
 
 shared-slice-read-wide8 : tie.Need-shared-slice-read-wide8
 shared-slice-read-wide8 c = search needs
@@ -31,7 +39,7 @@ add-count c = search needs
 returns-2 : tie.Need-returns-2
 returns-2 c =
     let f = c .before in
-    build-crowded _ _ (ap₂ (λ x y. x * 256 + y) (f .before .before .wide8 .ensures .0) (f .wide82 .ensures .0)) (omega arith) (c .if2 .taken)
+    told _ _ (build-crowded _ _ (ap₂ (λ x y. x * 256 + y) (f .before .before .wide8 .ensures .0) (f .wide82 .ensures .0)) (omega arith) (c .if2 .taken))
 
 add-start : tie.Need-add-start
 add-start c = search needs
@@ -39,7 +47,8 @@ add-start c = search needs
 returns-3 : tie.Need-returns-3
 returns-3 c =
     let f = c .before .before in
-    build-lacking _ _ (ap₂ (λ x y. x * 256 + y) (f .before .before .wide8 .ensures .0) (f .wide82 .ensures .0)) (omega arith) (omega arith) (c .if3 .taken)
+    told _ _ (build-lacking _ _ (ap₂ (λ x y. x * 256 + y) (f .before .before .wide8 .ensures .0) (f .wide82 .ensures .0))
+    (omega arith) (omega arith) (c .if3 .taken))
 
 shared-slice-read-units : tie.Need-shared-slice-read-units
 shared-slice-read-units c = search needs
@@ -71,9 +80,9 @@ build-plan-requires c κs = search needs
 returns-4 : tie.Need-returns-4
 returns-4 c =
     let f = c .before .before .before .before .before .before .before in
-    c .build-plan .ensures
+    told _ _ (c .build-plan .ensures
     ∙ build-runs _ _ (ap₂ (λ x y. x * 256 + y) (f .before .before .wide8 .ensures .0) (f .wide82 .ensures .0)) (omega arith) (omega arith) _
-    (c .before .before .before .units .ensures) (omega arith)
+    (c .before .before .before .units .ensures) (omega arith))
 
 pub build-spec : {M : Type 1} → statement M
 build-spec =

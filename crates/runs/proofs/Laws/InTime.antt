@@ -1,0 +1,155 @@
+-- A request is served at the latest n - 1 rounds after the one it was laid in, unless the run ends first.
+--   ServedIn S w v l r == in round r victim v serves worker w, whose request was laid in round l
+--   LeftIn S w v l r   == the run ends in round r, and worker w still waits on v with it
+--   request-served     == of every worker that waits in a state of a run there is a round of the one kind or the other, not before that
+--                         state's and at the latest l + n - 1
+use Prim.Native.Nat.{ℕ, zero, suc, _+_, _-_, _≤_, _<_, zero-le}
+use mathlib.Core.Path.{_≡_, refl, sym, ap, _∙_}
+use mathlib.Core.Logic.{_⊎_, inl, inr, _≢_, by-cases}
+use mathlib.Core.Bool.{Bool, true, false}
+use mathlib.Core.List.{List}
+use native.Mathlib.Nat.{le-refl}
+use native.Mathlib.Omega.{arith}
+use native.Mathlib.Decide.{ℕ-discrete}
+use lib.Dec.{T}
+use lib.ListN.{getD, set}
+use lib.Seq.{getD-set-other}
+use Rattle.runs.specs.declared.worker.Worker.{Worker}
+use Rattle.runs.specs.declared.worker.Worker.the-variants.{Idle, Holding, Waiting}
+use Rattle.runs.specs.Setting.{Setting, countIn}
+use Rattle.runs.specs.State.{State, workerOf}
+use Rattle.runs.specs.Steal.{waits, oldest}
+use Rattle.runs.specs.Run.{ended, choicesFit}
+use Rattle.runs.specs.Trace.{Stage, turning, laying, serving, Trace, begins, turned, goes-on, laid, all-laid, served, next-round}
+use Rattle.runs.proofs.Laws.Fit.{Fit, count-most, count-next}
+use Rattle.runs.proofs.Laws.Began.{trace-began, laying-idle}
+use Rattle.runs.proofs.Laws.Least.{oldest-waits}
+use Rattle.runs.proofs.Laws.Stores.{turned-workers, laid-workers, served-workers}
+use Rattle.runs.proofs.Laws.Served.{waits-due}
+
+pub record ServedIn (S : Setting) (w v l r : ℕ) : Type 0 where
+  pub began : List Worker
+  pub state : State
+  pub now : Trace S r began (serving v) state
+  pub there : v < countIn S r
+  pub asked : workerOf state w ≡ Waiting v l
+  pub first : oldest v (countIn S r) (state .workers) .who ≡ suc w
+
+pub record LeftIn (S : Setting) (w v l r : ℕ) : Type 0 where
+  pub began : List Worker
+  pub state : State
+  pub now : Trace S r began (turning (countIn S r)) state
+  pub over : ended (S .plan) state ≡ true
+  pub asked : workerOf state w ≡ Waiting v l
+
+-- how many workers have come at a stage
+abbrev stageOf : Stage → ℕ
+stageOf (turning k) = k
+stageOf (laying k) = k
+stageOf (serving k) = k
+
+stage-within : {S : Setting} {r : ℕ} {b : List Worker} {g : Stage} {s : State} → Trace S r b g s → stageOf g ≤ countIn S r
+stage-within begins = zero-le
+stage-within (turned t h) = h
+stage-within (goes-on t e) = zero-le
+stage-within (laid t h) = h
+stage-within (all-laid t) = zero-le
+stage-within (served t h) = h
+stage-within (next-round t) = zero-le
+
+module _ {S : Setting} (fit : Fit S) (chosen : T (choicesFit (S .workers) (S .choices))) (w v l : ℕ) where
+  open Setting S using (plan)
+
+  -- of two workers one waits and the other does not
+  apart : (ws : List Worker) (k : ℕ) → getD ws w Idle ≡ Waiting v l → waits (getD ws k Idle) ≡ 0 → w ≢ k
+  apart ws k asked calm e = omega (arith, ap waits (sym asked ∙ ap (λ z. getD ws z Idle) e))
+
+  -- the state at a later stage of the round, in which worker w still waits
+  abbrev Still : ℕ → List Worker → Stage → Type 0
+  Still r b g = (s : State) × Trace S r b g s × (workerOf s w ≡ Waiting v l)
+
+  turns-still : {r : ℕ} {b : List Worker} (d k : ℕ) → k + d ≡ countIn S r → Still r b (turning k) → Still r b (turning (countIn S r))
+  turns-still {r} {b} zero k e i = let q : k ≡ countIn S r = omega arith in rw q at i
+  turns-still {r} {b} (suc d) k e (s, t, asked) =
+      turns-still d (suc k) (omega arith) (
+        _,
+        turned t (omega arith),
+        turned-workers (λ ws. getD ws w Idle ≡ Waiting v l) t asked (λ j y q c.
+            getD-set-other (s .workers) k w y Idle (apart (s .workers) k asked (ap waits (trace-began t k (le-refl k) ∙ q))) ∙ asked),
+      )
+
+  lays-still : {r : ℕ} {b : List Worker} (d k : ℕ) → k + d ≡ countIn S r → Still r b (laying k) → Still r b (laying (countIn S r))
+  lays-still {r} {b} zero k e i = let q : k ≡ countIn S r = omega arith in rw q at i
+  lays-still {r} {b} (suc d) k e (s, t, asked) =
+      lays-still d (suc k) (omega arith) (
+        _,
+        laid t (omega arith),
+        laid-workers (λ ws. getD ws w Idle ≡ Waiting v l) t asked (λ q.
+            getD-set-other (s .workers) k w _ Idle (apart (s .workers) k asked (ap waits (laying-idle t k (le-refl k) q))) ∙ asked),
+      )
+
+  serves-still : {r : ℕ} {b : List Worker} (d k : ℕ) → k + d ≡ countIn S r → Still r b (serving k)
+      → ServedIn S w v l r ⊎ Still r b (serving (countIn S r))
+  serves-still {r} {b} zero k e i = let q : k ≡ countIn S r = omega arith in inr (rw q at i)
+  serves-still {r} {b} (suc d) k e (s, t, asked) =
+      by-cases (ℕ-discrete (oldest k (countIn S r) (s .workers) .who) (suc w)) mine
+      (λ f. serves-still d (suc k) (omega arith) (
+        _,
+        served t (omega arith),
+        served-workers (λ ws. getD ws w Idle ≡ Waiting v l) t (λ q. asked)
+            (λ x y q c. getD-set-other (s .workers) x w y Idle (λ z. f (q ∙ ap suc (sym z))) ∙ asked),
+      ))
+    where
+      mine : oldest k (countIn S r) (s .workers) .who ≡ suc w → ServedIn S w v l r ⊎ Still r b (serving (countIn S r))
+      mine q =
+          let (h, m, waited) = oldest-waits k (countIn S r) (s .workers) (count-most fit r) q in
+          let here : k ≡ v = cc in
+          inl (record { began = b; state = s; now = rw here at t; there = omega arith; asked = asked; first = rw here at q })
+
+  -- it is served, or left over, in round r or a later one, and in time
+  abbrev InTime : ℕ → Type 0
+  InTime r = (r′ : ℕ) × (r ≤ r′) × (r′ < l + countIn S r′) × (ServedIn S w v l r′ ⊎ LeftIn S w v l r′)
+
+  -- with d rounds left for it
+  serves-on : (d r : ℕ) (b : List Worker) (k : ℕ) → k ≤ countIn S r → l + countIn S r ≤ r + d → Still r b (serving k) → InTime r
+  serves-on zero r b k h q (s, t, asked) = absurd (omega (arith, waits-due fit chosen t w v l asked))
+  serves-on (suc d) r b k h q i = go (serves-still {r = r} (countIn S r - k) k (omega arith) i) (serves-on d)
+    where
+      Rest : Type 0
+      Rest = (r : ℕ) (b : List Worker) (k : ℕ) → k ≤ countIn S r → l + countIn S r ≤ r + d → Still r b (serving k) → InTime r
+
+      next : {b : List Worker} (s : State) → Trace S (suc r) b (turning (countIn S (suc r))) s → workerOf s w ≡ Waiting v l
+          → (x : Bool) → ended plan s ≡ x → Rest → InTime r
+      next s t asked true e rec =
+          (suc r, omega arith, waits-due fit chosen t w v l asked, inr (record { began = _; state = s; now = t; over = e; asked = asked }))
+      next s t asked false e rec =
+          let (u, y, still) = lays-still {r = suc r} (countIn S (suc r)) 0 (omega arith) (s, goes-on t e, asked) in
+          let (r′, late, due, end) = rec (suc r) _ 0 (omega arith) (omega (arith, count-next S r)) (u, all-laid y, still) in
+          (r′, omega arith, due, end)
+
+      go : ServedIn S w v l r ⊎ Still r b (serving (countIn S r)) → Rest → InTime r
+      go (inl x) rec = (r, le-refl r, waits-due fit chosen (x .now) w v l (x .asked), inl x)
+      go (inr (s, t, asked)) rec =
+          let (u, y, still) = turns-still {r = suc r} (countIn S (suc r)) 0 (omega arith) (s, next-round t, asked) in
+          next u y still (ended plan u) refl rec
+
+  pub request-served : {r : ℕ} {b : List Worker} {g : Stage} {s : State} → Trace S r b g s → workerOf s w ≡ Waiting v l → InTime r
+  request-served {r} {b} {g} {s} t asked = go g t (stage-within t)
+    where
+      n : ℕ
+      n = countIn S r
+
+      laying-on : Still r b (laying n) → InTime r
+      laying-on (s, t, asked) = serves-on (l + n) r b 0 (omega arith) (omega arith) (s, all-laid t, asked)
+
+      turning-on : (s : State) → Trace S r b (turning n) s → workerOf s w ≡ Waiting v l → (x : Bool) → ended plan s ≡ x → InTime r
+      turning-on s t asked true e =
+          (r, le-refl r, waits-due fit chosen t w v l asked, inr (record { began = b; state = s; now = t; over = e; asked = asked }))
+      turning-on s t asked false e = laying-on (lays-still {r = r} n 0 (omega arith) (s, goes-on t e, asked))
+
+      go : (g : Stage) → Trace S r b g s → stageOf g ≤ n → InTime r
+      go (turning k) t h =
+          let (u, y, still) = turns-still {r = r} (n - k) k (omega arith) (s, t, asked) in
+          turning-on u y still (ended plan u) refl
+      go (laying k) t h = laying-on (lays-still {r = r} (n - k) k (omega arith) (s, t, asked))
+      go (serving k) t h = serves-on (l + n) r b k h (omega arith) (s, t, asked)
