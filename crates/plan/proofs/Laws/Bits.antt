@@ -12,7 +12,7 @@ use lib.ListN.{length, getD, take, drop, replicate, length-append, length-drop, 
 use lib.ListN.{replicate-append-replicate}
 use lib.Seq.{take-nil, drop-nil, take-at, drop-at, take-append-le, length-take-le}
 use borrow.Author.Tests.{le-leb, lt-leb}
-use Rattle.plan.specs.Field.{bitsOf, bits, number, step, stop, fieldAt}
+use Rattle.plan.specs.Field.{Bytes, bitsOf, bits, number, step, stop, fieldAt}
 use Rattle.plan.specs.Writer.{pack}
 
 -- ---- each member is 0 or 1
@@ -177,20 +177,20 @@ head-binary l p = take-binary 8 (l ++ replicate 8 0) (append-binary l (replicate
 head-length : (l : List ℕ) → length (head l) ≡ 8
 head-length l = length-take-le 8 (l ++ replicate 8 0) (rw length-append (omega arith))
 
-pub pack-bytes : (n : ℕ) (l : List ℕ) → Binary l → (i : ℕ) → getD (pack n l) i 0 < 256
+pub pack-bytes : (n : ℕ) (l : List ℕ) → Binary l → Bytes (pack n l)
 unfolding pack
 pack-bytes zero l p i = omega arith
 pack-bytes (suc n) l p zero = rw (head-length l) at (number-below (head l) (head-binary l p))
 pack-bytes (suc n) l p (suc i) = pack-bytes n (drop 8 l) (drop-binary 8 l p) i
 
 -- whole bytes in front are those bytes
-pub pack-front : (s : List ℕ) (n : ℕ) (l : List ℕ) → ((i : ℕ) → getD s i 0 < 256) → pack (length s + n) (bits s ++ l) ≡ s ++ pack n l
+pub pack-front : (s : List ℕ) (n : ℕ) (l : List ℕ) → Bytes s → pack (length s + n) (bits s ++ l) ≡ s ++ pack n l
 unfolding pack bits
 pack-front [] n l h = rw zero-add
 pack-front (b ∷ s) n l h =
     rw suc-add (ap₂ (λ (z : ℕ) (r : List ℕ). z ∷ r) (number-bitsOf 8 b (h 0)) (pack-front s n l (λ i. h (suc i))))
 
-pub pack-bits : (s : List ℕ) → ((i : ℕ) → getD s i 0 < 256) → pack (length s) (bits s) ≡ s
+pub pack-bits : (s : List ℕ) → Bytes s → pack (length s) (bits s) ≡ s
 unfolding pack
 pack-bits s h = simp (add-zero, append-nil) at (pack-front s 0 [] h)
 

@@ -5,7 +5,7 @@ use native.Mathlib.Nat.{zero-mul, zero-div}
 use mathlib.Core.Path.{_≡_, refl, sym, ap, ap₂, _∙_}
 use mathlib.Core.Bool.{false}
 use mathlib.Core.List.{List, [], _∷_, _++_, append-assoc}
-use lib.ListN.{length, getD, take, drop, replicate, take-append-drop, length-drop, length-append, length-replicate}
+use lib.ListN.{length, take, drop, replicate, take-append-drop, length-drop, length-append, length-replicate}
 use lib.Seq.{drop-drop, drop-at, length-take-le}
 use lib.Dec.{T, eqb, ltb, ltb→lt, eqb→eq, eqb-refl, lt→ltb}
 use borrow.Author.Tests.{eqb-true, ne-eqb, le-ltb}
@@ -13,7 +13,7 @@ use Rattle.plan.specs.Refusal.{accepted}
 use Rattle.plan.specs.Test.{either}
 use Rattle.plan.specs.Plan.{Action, Job, Plan, total}
 use Rattle.plan.specs.Rules.{inRange, spawnRules, joinRules}
-use Rattle.plan.specs.Field.{bitsOf, bits, number, Step, step, then, fieldAt}
+use Rattle.plan.specs.Field.{Bytes, bitsOf, bits, number, Step, step, then, fieldAt}
 use Rattle.plan.specs.Reader.{numberAt, actionAt, actionsAt, jobsAt, planAt, fills, judged, readPlan}
 use Rattle.plan.specs.Writer.{numberBits, actionsBits, jobsBits, planBits, pack, planBytes}
 use Rattle.plan.proofs.Laws.Lists.{both-intro, both-left, both-right}
@@ -38,9 +38,6 @@ use Rattle.plan.proofs.Laws.Bits.{
   pack-bytes,
 }
 use Rattle.plan.proofs.Laws.Accepted.{accepted-place}
-
-abbrev pub Bytes : List ℕ → Type 0
-Bytes s = (i : ℕ) → getD s i 0 < 256
 
 -- bytes with the same bits are the same
 bits-same : (s t : List ℕ) → Bytes s → Bytes t → bits s ≡ bits t → s ≡ t

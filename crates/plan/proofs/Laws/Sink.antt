@@ -7,10 +7,10 @@ use native.Mathlib.Numerals.{add-one}
 use native.Mathlib.Omega.{arith}
 use lib.Arith.{digits-div, digits-mod}
 use lib.Pow.{pow-add, pow-pos, shl-shr}
-use lib.ListN.{length, getD, take, drop, set, replicate, length-append, length-drop, length-set, length-replicate, take-append-drop}
+use lib.ListN.{length, take, drop, set, replicate, length-append, length-drop, length-set, length-replicate, take-append-drop}
 use lib.Seq.{take-at, drop-at, drop-drop, drop-set-lt, take-suc-set, length-take-le}
 use Rattle.plan.specs.declared.field.Sink.{Sink}
-use Rattle.plan.specs.Field.{bitsOf, bits, number}
+use Rattle.plan.specs.Field.{Bytes, bitsOf, bits, number}
 use Rattle.plan.specs.FieldParts.{Loose}
 use Rattle.plan.specs.Sink.{sinkBits, Sound, Put, Done}
 use Rattle.plan.specs.Writer.{pack}
@@ -183,7 +183,7 @@ module _ (out : List ℕ) (k : Sink) (v w p : ℕ) (s : Sound out k) (h : (w ≤
 
 -- ---- the last byte
 
-module _ (out : List ℕ) (k : Sink) (s : Sound out k) (small : (i : ℕ) → getD out i 0 < 256) where
+module _ (out : List ℕ) (k : Sink) (s : Sound out k) (small : Bytes out) where
   sink-length : length (sinkBits out k) ≡ 8 * k .bytes + k .bits
   unfolding sinkBits
   sink-length =

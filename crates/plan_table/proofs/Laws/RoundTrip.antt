@@ -1,5 +1,5 @@
 -- The two entries of the open table undo one another: from plan bytes to a table and back, and from a table to plan bytes and back.
-use Prim.Native.Nat.{ℕ, _*_, _/_, _≤_}
+use Prim.Native.Nat.{ℕ, _*_, _/_}
 use native.Mathlib.Omega.{arith}
 use mathlib.Core.Path.{_≡_, refl, sym, ap, ap₂, _∙_}
 use mathlib.Core.Bool.{Bool, true, false}
@@ -7,22 +7,17 @@ use mathlib.Core.List.{List, _++_}
 use lib.ListN.{length, take, drop}
 use lib.Seq.{take-at}
 use lib.Dec.{leb}
-use borrow.Author.Tests.{le-leb}
 use Rattle.plan.specs.Refusal.{Outcome, refused, accepted}
 use Rattle.plan.specs.Plan.{Plan, total}
+use Rattle.plan.specs.Field.{Bytes}
 use Rattle.plan.specs.Reader.{readPlan}
 use Rattle.plan.specs.Writer.{planBytes}
 use Rattle.plan_table.specs.Table.{tableOf, readTable, Written, written, tabled, toTable, encoded, toPlan}
 use Rattle.plan.proofs.Laws.Accepted.{accepted-kept}
 use Rattle.plan.proofs.Laws.Outcomes.{refused-accepted}
-use Rattle.plan.proofs.Laws.PlanBytes.{Bytes, read-write, write-read}
+use Rattle.plan.proofs.Laws.PlanBytes.{read-write, write-read}
 use Rattle.plan_table.proofs.Laws.Rows.{table-length}
 use Rattle.plan_table.proofs.Laws.OpenTable.{table-read-write, table-write-read, readTable-rules}
-
-written-room : (output : List ℕ) (n : ℕ) (buffer : List ℕ) → length output ≤ length buffer
-    → written output n buffer ≡ record { answer = accepted n; buffer = output ++ drop (length output) buffer }
-unfolding written
-written-room output n buffer h = rw (le-leb (length output) (length buffer) h, written)
 
 -- what was written, where the answer is no refusal
 written-told : {P : Type 0} (output : List ℕ) (k : ℕ) (buffer : List ℕ) (n : ℕ) → written output k buffer .answer ≡ accepted n
@@ -62,10 +57,10 @@ toPlan-told {P} t bytes n e use-it = go (readTable t) e use-it
     go (refused k) e use-it = refused-accepted e
     go (accepted p) e use-it = written-told (planBytes p) (length (planBytes p)) bytes n e (use-it p refl)
 
-pub plan-table-plan : (s rows bytes : List ℕ) (n : ℕ) → Bytes s → toTable s rows .answer ≡ accepted n → length s ≤ length bytes
-    → toPlan (take (4 * n) (toTable s rows .buffer)) bytes ≡ record { answer = accepted (length s); buffer = s ++ drop (length s) bytes }
+pub plan-table-plan : (s rows bytes : List ℕ) (n : ℕ) → Bytes s → toTable s rows .answer ≡ accepted n
+    → toPlan (take (4 * n) (toTable s rows .buffer)) bytes ≡ written s (length s) bytes
 unfolding toPlan encoded
-plan-table-plan s rows bytes n h e room =
+plan-table-plan s rows bytes n h e =
     toTable-told s rows n e λ p r k b.
     let kept = accepted-kept s p r in
     let t : take (4 * n) (toTable s rows .buffer) ≡ tableOf p
@@ -73,12 +68,11 @@ plan-table-plan s rows bytes n h e room =
     ap (λ t. toPlan t bytes) t
     ∙ ap (λ o. encoded o bytes) (table-write-read p (kept .range) (kept .spawns) (kept .joins))
     ∙ ap (λ o. written o (length o) bytes) (read-write s p h r)
-    ∙ written-room s (length s) bytes room
 
-pub table-plan-table : (t bytes rows : List ℕ) (n : ℕ) → toPlan t bytes .answer ≡ accepted n → length t ≤ length rows
-    → toTable (take n (toPlan t bytes .buffer)) rows ≡ record { answer = accepted (length t / 4); buffer = t ++ drop (length t) rows }
+pub table-plan-table : (t bytes rows : List ℕ) (n : ℕ) → toPlan t bytes .answer ≡ accepted n
+    → toTable (take n (toPlan t bytes .buffer)) rows ≡ written t (length t / 4) rows
 unfolding toTable tabled
-table-plan-table t bytes rows n e room =
+table-plan-table t bytes rows n e =
     toPlan-told t bytes n e λ p r k b.
     let s : take n (toPlan t bytes .buffer) ≡ planBytes p
     = ap (take n) b ∙ take-at (planBytes p) (drop (length (planBytes p)) bytes) n (sym k) in
@@ -88,4 +82,3 @@ table-plan-table t bytes rows n e room =
     ap (λ s. toTable s rows) s
     ∙ ap (λ o. tabled o rows) (write-read p (rules .0) (rules .1) (rules .2))
     ∙ ap₂ (λ o k. written o k rows) w l
-    ∙ written-room t (length t / 4) rows room
