@@ -1,0 +1,2 @@
+-- What holds of the definitions in specs/, in named modules.
+pub mod RoundTrip
