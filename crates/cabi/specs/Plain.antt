@@ -1,7 +1,7 @@
 -- What the exported functions answer, as plain numbers: the refusal's number, 0 for none, then what was asked for, or 0s.
 --   countOf, measuresOf, tallyOf      == the numbers of an outcome
 --   checkOf                           == the number of a judgement
---   Claimed plan n choices r schedule == demand 3's claim, of what was returned and written
+--   Claimed plan n choices r schedule == demand 3's claim and the two sums, of what was returned and written
 use Prim.Native.Nat.{ℕ}
 use mathlib.Core.Path.{_≡_}
 use mathlib.Core.List.{List}

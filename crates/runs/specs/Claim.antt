@@ -1,7 +1,7 @@
--- Demand 3, one claim about a whole run from its start to its end, with the sums that its counts keep.
---   Bounds S rows t      == of the rows and the tally of the run of the setting S
+-- What demand 3 says: one claim about a whole run, from its start to its end, and with it the sums that the run's counts keep.
+--   Bounds S rows t      == the claim, said of any rows and any tally for the setting S, and of the last state of its run
 --   Bounded S schedule t == the same of the rows that are read off a schedule's bytes, and a tally
---   Claim S              == so it is of the run of S
+--   Claim S              == it holds of the rows and the tally of the run of S
 --   Demand3              == for all accepted plan bytes, all worker counts 1 to 16 and all accepted lists of choices
 --   EveryOrder           == for every order of steals: lists of choices of any length, whose entries name workers
 use Prim.Native.Nat.{ℕ, _+_, _-_, _*_, _≤_, _<_}
@@ -17,8 +17,9 @@ use Rattle.plan_measure.specs.Measure.{work, longest, heaviest}
 use Rattle.runs.specs.declared.tally.Tally.{Tally}
 use Rattle.courses.specs.Row.{Row, noRow, place}
 use Rattle.runs.specs.Setting.{Setting, setting}
+use Rattle.runs.specs.State.{nextOf}
 use Rattle.runs.specs.Steal.{waiting}
-use Rattle.runs.specs.Run.{ended, run, workersFit, choicesFit}
+use Rattle.runs.specs.Run.{run, workersFit, choicesFit}
 use Rattle.courses.specs.Schedule.{readSchedule}
 use Rattle.courses.specs.Living.{weightAfter, peakOf, lastRound}
 
@@ -28,8 +29,8 @@ module _ (S : Setting) where
   pub record Bounds (rows : List Row) (t : Tally) : Type 0 where
     -- the build ends: every action is done, in a round from 1 to the last one and by one of the P workers
     pub done : (k : ℕ) → k < total plan → let a = getD rows k noRow in (1 ≤ a .round) × (a .round ≤ t .rounds) × (a .worker < workers)
-    -- the run has ended, and the last round is the one in which job 0 does its last action
-    pub over : T (ended plan (run S))
+    -- the run has ended: in its last state job 0 has no action left, and the last round is the one in which it does its last
+    pub over : size plan 0 ≤ nextOf (run S) 0
     pub ends : getD rows (place plan 0 (size plan 0 - 1)) noRow .round ≡ t .rounds
     -- at the start (round 0) and after every single turn the frames of living jobs weigh at most P × S1
     pub space : (r w : ℕ) → weightAfter plan rows r w ≤ workers * heaviest plan

@@ -1,11 +1,12 @@
 -- What `buildrun` prints (document 01, "Cases"): "reads P (one byte), the choice count (two bytes, high first), the choices,
 -- and the plan that begins in the middle of its input".
---   ranWith plan n choices == the nine counts of a run, or the refusal: 1 to 6, then 7, 8
---   buildOf input          == "Before the plan is looked at, in this order: P or the count missing prints `refused 1`, a count
---                             above 4,096 `refused 8` even if choices are missing too, missing choices `refused 1`."
---   builtOf r              == the outcome that an answer stands for
---   CountBounds S c        == demand 3's claim and the two sums, of the counts of the run of S: P × S1 is P × `path`, T1 is `actions`
---   Claimed input r        == so it is of the counts that were answered
+--   ranWith plan n choices  == the nine counts of a run, or the refusal: 1 to 6, then 7, 8
+--   buildOf input           == "Before the plan is looked at, in this order: P or the count missing prints `refused 1`, a count
+--                              above 4,096 `refused 8` even if choices are missing too, missing choices `refused 1`."
+--   builtOf r               == the outcome that an answer stands for
+--   planIn, choicesIn input == the plan and the choices of an input
+--   CountBounds S c         == demand 3's claim, as far as counts can tell, and the two sums, of the run of S
+--   Claimed input r         == so it is of the counts that were answered
 use Prim.Native.Nat.{ℕ, _+_, _*_, _≤_}
 use mathlib.Core.Path.{_≡_}
 use mathlib.Core.Bool.{true, false}
@@ -13,13 +14,13 @@ use mathlib.Core.List.{List}
 use lib.ListN.{length, getD, take, drop}
 use lib.Dec.{ltb}
 use Rattle.plan.specs.Refusal.{Outcome, refused, accepted, numberOf}
-use Rattle.plan.specs.Plan.{Plan}
+use Rattle.plan.specs.Plan.{Plan, size}
 use Rattle.plan.specs.Reader.{readPlan}
 use Rattle.plan_measure.specs.Measure.{work, longest, heaviest}
 use Rattle.scheduler.specs.declared.build.Counts.{Counts}
 use Rattle.scheduler.specs.declared.build.Built.{Built}
 use Rattle.scheduler.specs.declared.build.Built.the-variants.{Refused, Counted}
-use Rattle.runs.specs.State.{State}
+use Rattle.runs.specs.State.{State, nextOf}
 use Rattle.runs.specs.Setting.{Setting, setting}
 use Rattle.runs.specs.Steal.{waiting}
 use Rattle.runs.specs.Run.{run, runOf}
@@ -79,8 +80,12 @@ module _ (S : Setting) where
   open Setting S using (plan, workers)
 
   pub record CountBounds (c : Counts) : Type 0 where
-    -- the build ends in at most T1 rounds and at least T∞, with every action done
+    -- `actions` is T1, `longest` T∞ and `path` S1
     pub actions : c .actions ≡ work plan
+    pub longest-chain : c .longest ≡ longest plan
+    pub heaviest-path : c .path ≡ heaviest plan
+    -- the build ends, in at most T1 rounds and at least T∞
+    pub over : size plan 0 ≤ nextOf (run S) 0
     pub most-rounds : c .rounds ≤ c .actions
     pub least-rounds : c .longest ≤ c .rounds
     -- the frames of living jobs never weigh more than P × S1

@@ -65,11 +65,13 @@ module _
     (ensures : record { answer = ranOf r; schedule = l } ≡ runInto bytes n choices lent)
     (claim : RunClaimed bytes n choices r l) where
   pub tally-refused : (cause : Refusal) (k : ℕ) → r ≡ NotRun cause → k ≡ numberOf cause
-      → ((tallyOf (refused k) ≡ tallyOf (runInto bytes n choices lent .answer)) × (l ≡ runInto bytes n choices lent .schedule)) × Claimed bytes n choices (tallyOf (refused k)) l
+      → ((tallyOf (refused k) ≡ tallyOf (runInto bytes n choices lent .answer)) × (l ≡ runInto bytes n choices lent .schedule))
+      × Claimed bytes n choices (tallyOf (refused k)) l
   tally-refused cause k e f = (rw (← ensures, e, f) (refl, refl), λ z. absurd (number-some cause (omega arith)))
 
   pub tally-accepted : (t : Tally) → r ≡ Done t
-      → ((tallyOf (accepted t) ≡ tallyOf (runInto bytes n choices lent .answer)) × (l ≡ runInto bytes n choices lent .schedule)) × Claimed bytes n choices (tallyOf (accepted t)) l
+      → ((tallyOf (accepted t) ≡ tallyOf (runInto bytes n choices lent .answer)) × (l ≡ runInto bytes n choices lent .schedule))
+      × Claimed bytes n choices (tallyOf (accepted t)) l
   tally-accepted t e =
       (rw (← ensures, e) (refl, refl), λ z. let (p, read, bounded) = claim t e in (p, t, read, refl, bounded))
 

@@ -7,12 +7,13 @@ use Prim.Native.Nat.{ℕ, _+_, _*_, _≤_}
 use mathlib.Core.Path.{_≡_, sym, ap, _∙_}
 use mathlib.Core.List.{List, _++_}
 use native.Mathlib.Omega.{arith}
-use lib.Dec.{ltb}
+use lib.Dec.{ltb, leb→le}
 use lib.ListN.{length}
 use lib.Seq.{take-at}
 use Rattle.plan.specs.Test.{all}
-use Rattle.plan.specs.Plan.{total}
+use Rattle.plan.specs.Plan.{size, total}
 use Rattle.runs.specs.Setting.{Setting, setting}
+use Rattle.runs.specs.State.{nextOf}
 use Rattle.runs.specs.Run.{run, choicesFit}
 use Rattle.courses.specs.Schedule.{scheduleBytes, readSchedule}
 use Rattle.runs.specs.Claim.{Bounded, Claim, Demand3, EveryOrder}
@@ -32,7 +33,7 @@ run-bounds {S} fit =
     let (r, b, t, e, q) = run-trace fit in
     record {
       done = λ k h. let d = run-row fit t e k h in (d .first, omega (arith, d .latest), d .known);
-      over = of-true _ e;
+      over = leb→le (size (S .plan) 0) (nextOf (run S) 0) (of-true _ e);
       ends = job-0-ends fit t e ∙ sym q;
       space = run-space fit t e;
       most-rounds = rounds-most fit;

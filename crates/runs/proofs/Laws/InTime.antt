@@ -1,8 +1,6 @@
 -- A request is served at the latest n - 1 rounds after the one it was laid in, unless the run ends first.
---   ServedIn S w v l r == in round r victim v serves worker w, whose request was laid in round l
---   LeftIn S w v l r   == the run ends in round r, and worker w still waits on v with it
---   request-served     == of every worker that waits in a state of a run there is a round of the one kind or the other, not before that
---                         state's and at the latest l + n - 1
+--   Still r b g    == a state at stage g of round r in which the worker waits
+--   request-served == `InTime` of every worker that waits in a state of a run
 use Prim.Native.Nat.{ℕ, zero, suc, _+_, _-_, _≤_, _<_, zero-le}
 use mathlib.Core.Path.{_≡_, refl, sym, ap, _∙_}
 use mathlib.Core.Logic.{_⊎_, inl, inr, _≢_, by-cases}
@@ -12,35 +10,21 @@ use native.Mathlib.Nat.{le-refl}
 use native.Mathlib.Omega.{arith}
 use native.Mathlib.Decide.{ℕ-discrete}
 use lib.Dec.{T}
-use lib.ListN.{getD, set}
+use lib.ListN.{getD}
 use lib.Seq.{getD-set-other}
 use Rattle.runs.specs.declared.worker.Worker.{Worker}
-use Rattle.runs.specs.declared.worker.Worker.the-variants.{Idle, Holding, Waiting}
+use Rattle.runs.specs.declared.worker.Worker.the-variants.{Idle, Waiting}
 use Rattle.runs.specs.Setting.{Setting, countIn}
 use Rattle.runs.specs.State.{State, workerOf}
 use Rattle.runs.specs.Steal.{waits, oldest}
 use Rattle.runs.specs.Run.{ended, choicesFit}
 use Rattle.runs.specs.Trace.{Stage, turning, laying, serving, Trace, begins, turned, goes-on, laid, all-laid, served, next-round}
+use Rattle.runs.specs.Trace.{ServedIn, LeftIn, InTime}
 use Rattle.runs.proofs.Laws.Fit.{Fit, count-most, count-next}
 use Rattle.runs.proofs.Laws.Began.{trace-began, laying-idle}
 use Rattle.runs.proofs.Laws.Least.{oldest-waits}
 use Rattle.runs.proofs.Laws.Stores.{turned-workers, laid-workers, served-workers}
 use Rattle.runs.proofs.Laws.Served.{waits-due}
-
-pub record ServedIn (S : Setting) (w v l r : ℕ) : Type 0 where
-  pub began : List Worker
-  pub state : State
-  pub now : Trace S r began (serving v) state
-  pub there : v < countIn S r
-  pub asked : workerOf state w ≡ Waiting v l
-  pub first : oldest v (countIn S r) (state .workers) .who ≡ suc w
-
-pub record LeftIn (S : Setting) (w v l r : ℕ) : Type 0 where
-  pub began : List Worker
-  pub state : State
-  pub now : Trace S r began (turning (countIn S r)) state
-  pub over : ended (S .plan) state ≡ true
-  pub asked : workerOf state w ≡ Waiting v l
 
 -- how many workers have come at a stage
 abbrev stageOf : Stage → ℕ
@@ -106,20 +90,16 @@ module _ {S : Setting} (fit : Fit S) (chosen : T (choicesFit (S .workers) (S .ch
           let here : k ≡ v = cc in
           inl (record { began = b; state = s; now = rw here at t; there = omega arith; asked = asked; first = rw here at q })
 
-  -- it is served, or left over, in round r or a later one, and in time
-  abbrev InTime : ℕ → Type 0
-  InTime r = (r′ : ℕ) × (r ≤ r′) × (r′ < l + countIn S r′) × (ServedIn S w v l r′ ⊎ LeftIn S w v l r′)
-
   -- with d rounds left for it
-  serves-on : (d r : ℕ) (b : List Worker) (k : ℕ) → k ≤ countIn S r → l + countIn S r ≤ r + d → Still r b (serving k) → InTime r
+  serves-on : (d r : ℕ) (b : List Worker) (k : ℕ) → k ≤ countIn S r → l + countIn S r ≤ r + d → Still r b (serving k) → InTime S w v l r
   serves-on zero r b k h q (s, t, asked) = absurd (omega (arith, waits-due fit chosen t w v l asked))
   serves-on (suc d) r b k h q i = go (serves-still {r = r} (countIn S r - k) k (omega arith) i) (serves-on d)
     where
       Rest : Type 0
-      Rest = (r : ℕ) (b : List Worker) (k : ℕ) → k ≤ countIn S r → l + countIn S r ≤ r + d → Still r b (serving k) → InTime r
+      Rest = (r : ℕ) (b : List Worker) (k : ℕ) → k ≤ countIn S r → l + countIn S r ≤ r + d → Still r b (serving k) → InTime S w v l r
 
       next : {b : List Worker} (s : State) → Trace S (suc r) b (turning (countIn S (suc r))) s → workerOf s w ≡ Waiting v l
-          → (x : Bool) → ended plan s ≡ x → Rest → InTime r
+          → (x : Bool) → ended plan s ≡ x → Rest → InTime S w v l r
       next s t asked true e rec =
           (suc r, omega arith, waits-due fit chosen t w v l asked, inr (record { began = _; state = s; now = t; over = e; asked = asked }))
       next s t asked false e rec =
@@ -127,27 +107,27 @@ module _ {S : Setting} (fit : Fit S) (chosen : T (choicesFit (S .workers) (S .ch
           let (r′, late, due, end) = rec (suc r) _ 0 (omega arith) (omega (arith, count-next S r)) (u, all-laid y, still) in
           (r′, omega arith, due, end)
 
-      go : ServedIn S w v l r ⊎ Still r b (serving (countIn S r)) → Rest → InTime r
+      go : ServedIn S w v l r ⊎ Still r b (serving (countIn S r)) → Rest → InTime S w v l r
       go (inl x) rec = (r, le-refl r, waits-due fit chosen (x .now) w v l (x .asked), inl x)
       go (inr (s, t, asked)) rec =
           let (u, y, still) = turns-still {r = suc r} (countIn S (suc r)) 0 (omega arith) (s, next-round t, asked) in
           next u y still (ended plan u) refl rec
 
-  pub request-served : {r : ℕ} {b : List Worker} {g : Stage} {s : State} → Trace S r b g s → workerOf s w ≡ Waiting v l → InTime r
+  pub request-served : {r : ℕ} {b : List Worker} {g : Stage} {s : State} → Trace S r b g s → workerOf s w ≡ Waiting v l → InTime S w v l r
   request-served {r} {b} {g} {s} t asked = go g t (stage-within t)
     where
       n : ℕ
       n = countIn S r
 
-      laying-on : Still r b (laying n) → InTime r
+      laying-on : Still r b (laying n) → InTime S w v l r
       laying-on (s, t, asked) = serves-on (l + n) r b 0 (omega arith) (omega arith) (s, all-laid t, asked)
 
-      turning-on : (s : State) → Trace S r b (turning n) s → workerOf s w ≡ Waiting v l → (x : Bool) → ended plan s ≡ x → InTime r
+      turning-on : (s : State) → Trace S r b (turning n) s → workerOf s w ≡ Waiting v l → (x : Bool) → ended plan s ≡ x → InTime S w v l r
       turning-on s t asked true e =
           (r, le-refl r, waits-due fit chosen t w v l asked, inr (record { began = b; state = s; now = t; over = e; asked = asked }))
       turning-on s t asked false e = laying-on (lays-still {r = r} n 0 (omega arith) (s, goes-on t e, asked))
 
-      go : (g : Stage) → Trace S r b g s → stageOf g ≤ n → InTime r
+      go : (g : Stage) → Trace S r b g s → stageOf g ≤ n → InTime S w v l r
       go (turning k) t h =
           let (u, y, still) = turns-still {r = r} (n - k) k (omega arith) (s, t, asked) in
           turning-on u y still (ended plan u) refl

@@ -14,6 +14,7 @@ use Rattle.plan.specs.Plan.{Plan}
 use Rattle.plan.specs.Reader.{readPlan}
 use Rattle.plan.proofs.Laws.Accepted.{accepted-kept}
 use Rattle.plan.proofs.Laws.Outcomes.{refused-accepted}
+use Rattle.plan_measure.specs.declared.Measures.{Measures}
 use Rattle.plan_measure.specs.Measure.{work, longest, heaviest}
 use Rattle.runs.specs.Setting.{Setting, setting}
 use Rattle.runs.specs.Run.{run, admitted, runOf}
@@ -24,7 +25,6 @@ use Rattle.runs.proofs.Laws.Coursed.{most-peak}
 use Rattle.runs.proofs.Laws.Demand3.{run-bounds}
 use Rattle.scheduler.specs.declared.build.Counts.{Counts}
 use Rattle.scheduler.specs.declared.build.Built.{Built}
-use Rattle.scheduler.specs.declared.build.Built.the-variants.{Counted}
 use Rattle.scheduler.specs.Build.{countsOf, ranWith, choiceCount, planIn, choicesIn, buildOf, builtOf, CountBounds, Claimed}
 use Rattle.scheduler.proofs.Laws.Builds.{counted}
 
@@ -35,6 +35,9 @@ counts-bounded {S} fit =
     let (r, began, t, e, q) = run-trace fit in
     record {
       actions = b .actions;
+      longest-chain = refl;
+      heaviest-path = refl;
+      over = b .over;
       most-rounds = omega (arith, b .most-rounds, b .actions);
       least-rounds = b .least-rounds;
       space = most-peak fit t e;
@@ -57,7 +60,8 @@ module _ (plan : List ℕ) (n : ℕ) (choices : List ℕ) (c : Counts) where
       by-run p f (inl s) e = refused-accepted (sym (ap (countsOf (accepted p)) (s .not-run)) ∙ e)
       by-run p f (inr w) e =
           let fit : Fit (setting p n choices) = record { plan = accepted-kept plan p f; some = w .some; most = w .most } in
-          let told : Counts = counted (run (setting p n choices) .tally) (record { actions = work p; longest = longest p; path = heaviest p }) in
+          let measures : Measures = record { actions = work p; longest = longest p; path = heaviest p } in
+          let told : Counts = counted (run (setting p n choices) .tally) measures in
           let x : _≡_ {A = Outcome Counts} (accepted told) (accepted c) = sym (ap (countsOf (accepted p)) (w .ran)) ∙ e in
           let same : told ≡ c = cc in
           (p, f, rw same at (counts-bounded fit))

@@ -39,7 +39,8 @@ add-count c = search needs
 returns-2 : tie.Need-returns-2
 returns-2 c =
     let f = c .before in
-    told _ _ (build-crowded _ _ (ap₂ (λ x y. x * 256 + y) (f .before .before .wide8 .ensures .0) (f .wide82 .ensures .0)) (omega arith) (c .if2 .taken))
+    told _ _ (build-crowded _ _ (ap₂ (λ x y. x * 256 + y) (f .before .before .wide8 .ensures .0) (f .wide82 .ensures .0))
+    (omega arith) (c .if2 .taken))
 
 add-start : tie.Need-add-start
 add-start c = search needs
