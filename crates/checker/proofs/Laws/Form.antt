@@ -5,11 +5,11 @@ use mathlib.Core.Path.{_≡_, refl}
 use mathlib.Core.Bool.{true}
 use mathlib.Core.List.{List}
 use native.Mathlib.Omega.{arith}
-use lib.ListN.{length, getD}
+use lib.ListN.{length}
 use lib.Dec.{eqb}
 use borrow.Author.Tests.{eq-eqb, ne-eqb}
 use Rattle.plan.specs.Refusal.{refused}
-use Rattle.plan.specs.Field.{stop}
+use Rattle.plan.specs.Field.{stop, Bytes}
 use Rattle.courses.specs.Schedule.{writtenAt, readSchedule}
 use Rattle.checker.specs.Formed.{Formed, Headed, word}
 use Rattle.checker.proofs.Laws.RowBytes.{rowsFrom, rows-read, rows-stop, rows-length, rows-held}
@@ -37,7 +37,7 @@ module _ (s : List ℕ) (n : ℕ) where
       pub wrong-round : (k : ℕ) → k < n → word s (4 + 2 * k) < 16 → Formed s n 0
       wrong-round k b none = stopped 11 (rw (head .kept some, rows-stop s n 4 k (omega arith) b none))
 
-      pub well-formed : ((k : ℕ) → getD s k 0 < 256) → ((k : ℕ) → k < n → 16 ≤ word s (4 + 2 * k)) → Formed s n workers
+      pub well-formed : Bytes s → ((k : ℕ) → k < n → 16 ≤ word s (4 + 2 * k)) → Formed s n workers
       unfolding readSchedule
       well-formed byte rounds =
           let e = rows-read s n 4 (omega arith) byte rounds in

@@ -9,7 +9,7 @@ use lib.ListN.{length, getD, take, drop, take-append-drop, length-append}
 use lib.Seq.{drop-cons, length-take-le}
 use lib.Dec.{eqb}
 use borrow.Author.Tests.{eq-eqb, ne-eqb}
-use Rattle.plan.specs.Field.{bitsOf, bits, number, stop, step, then, fieldAt}
+use Rattle.plan.specs.Field.{bitsOf, bits, number, Bytes, stop, step, then, fieldAt}
 use Rattle.courses.specs.Row.{Row, noRow}
 use Rattle.courses.specs.Schedule.{rowsAt}
 use Rattle.checker.specs.Rows.{RowsAt}
@@ -94,7 +94,7 @@ module _ (s : List ℕ) where
       let w = field-within s 4 (8 * i + 12) (omega arith) in
       bool-cases (eqb v 0) (λ x. rw (r, x, then)) (λ x. rw (r, x, w, place, e, then))
 
-  pub rows-read : (n i : ℕ) → i + 2 * n ≤ length s → ((k : ℕ) → getD s k 0 < 256) → ((k : ℕ) → k < n → 16 ≤ word s (i + 2 * k))
+  pub rows-read : (n i : ℕ) → i + 2 * n ≤ length s → Bytes s → ((k : ℕ) → k < n → 16 ≤ word s (i + 2 * k))
       → rowsAt s n (8 * i) ≡ step (rowsFrom s i n) (8 * i + 16 * n)
   unfolding rowsAt
   rows-read zero i h byte some = ap (step []) (omega arith)

@@ -1,4 +1,4 @@
--- `plan::table::encode` meets its contract: each answer by what the rules and the writer tell of the plan.
+-- `plan_table::encode` meets its contract: each answer by what the rules and the writer tell of the plan.
 use Prim.Native.Nat.{_+_, _/_}
 use mathlib.Core.Path.{_≡_, refl, ap, sym, _∙_}
 use mathlib.Core.Bool.{true, false}

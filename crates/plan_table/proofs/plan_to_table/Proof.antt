@@ -1,4 +1,4 @@
--- `plan::table::plan_to_table` meets its contract: each answer by what reading the bytes tells.
+-- `plan_table::plan_to_table` meets its contract: each answer by what reading the bytes tells.
 use Rattle.plan.specs.Flat.{FlatPlan}
 use Rattle.plan_table.specs.GivenRows.{RowsGiven}
 use Rattle.plan.proofs.Laws.Blank.{blank}

@@ -1,4 +1,4 @@
--- `plan::table::table_to_plan` meets its contract: each answer by what the table's rules, its rows and their plan tell.
+-- `plan_table::table_to_plan` meets its contract: each answer by what the table's rules, its rows and their plan tell.
 use Prim.Native.Nat.{ℕ, _*_, _/_, _%_}
 use mathlib.Core.Path.{_≡_, refl, sym, _∙_}
 use mathlib.Core.List.{List}

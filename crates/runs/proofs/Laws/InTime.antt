@@ -1,4 +1,5 @@
--- A request is served at the latest n - 1 rounds after the one it was laid in, unless the run ends first.
+-- A request is served at the latest n - 1 rounds after the one it was laid in, unless the run ends first; for choices of any length
+-- that name workers.
 --   Still r b g    == a state at stage g of round r in which the worker waits
 --   request-served == `InTime` of every worker that waits in a state of a run
 use Prim.Native.Nat.{ℕ, zero, suc, _+_, _-_, _≤_, _<_, zero-le}
@@ -9,15 +10,16 @@ use mathlib.Core.List.{List}
 use native.Mathlib.Nat.{le-refl}
 use native.Mathlib.Omega.{arith}
 use native.Mathlib.Decide.{ℕ-discrete}
-use lib.Dec.{T}
+use lib.Dec.{T, ltb}
 use lib.ListN.{getD}
 use lib.Seq.{getD-set-other}
+use Rattle.plan.specs.Test.{all}
 use Rattle.runs.specs.declared.worker.Worker.{Worker}
 use Rattle.runs.specs.declared.worker.Worker.the-variants.{Idle, Waiting}
 use Rattle.runs.specs.Setting.{Setting, countIn}
 use Rattle.runs.specs.State.{State, workerOf}
 use Rattle.runs.specs.Steal.{waits, oldest}
-use Rattle.runs.specs.Run.{ended, choicesFit}
+use Rattle.runs.specs.Run.{ended}
 use Rattle.runs.specs.Trace.{Stage, turning, laying, serving, Trace, begins, turned, goes-on, laid, all-laid, served, next-round}
 use Rattle.runs.specs.Trace.{ServedIn, LeftIn, InTime}
 use Rattle.runs.proofs.Laws.Fit.{Fit, count-most, count-next}
@@ -41,7 +43,7 @@ stage-within (all-laid t) = zero-le
 stage-within (served t h) = h
 stage-within (next-round t) = zero-le
 
-module _ {S : Setting} (fit : Fit S) (chosen : T (choicesFit (S .workers) (S .choices))) (w v l : ℕ) where
+module _ {S : Setting} (fit : Fit S) (named : T (all (λ c. ltb c (S .workers)) (S .choices))) (w v l : ℕ) where
   open Setting S using (plan)
 
   -- of two workers one waits and the other does not
@@ -92,7 +94,7 @@ module _ {S : Setting} (fit : Fit S) (chosen : T (choicesFit (S .workers) (S .ch
 
   -- with d rounds left for it
   serves-on : (d r : ℕ) (b : List Worker) (k : ℕ) → k ≤ countIn S r → l + countIn S r ≤ r + d → Still r b (serving k) → InTime S w v l r
-  serves-on zero r b k h q (s, t, asked) = absurd (omega (arith, waits-due fit chosen t w v l asked))
+  serves-on zero r b k h q (s, t, asked) = absurd (omega (arith, waits-due fit named t w v l asked))
   serves-on (suc d) r b k h q i = go (serves-still {r = r} (countIn S r - k) k (omega arith) i) (serves-on d)
     where
       Rest : Type 0
@@ -101,14 +103,14 @@ module _ {S : Setting} (fit : Fit S) (chosen : T (choicesFit (S .workers) (S .ch
       next : {b : List Worker} (s : State) → Trace S (suc r) b (turning (countIn S (suc r))) s → workerOf s w ≡ Waiting v l
           → (x : Bool) → ended plan s ≡ x → Rest → InTime S w v l r
       next s t asked true e rec =
-          (suc r, omega arith, waits-due fit chosen t w v l asked, inr (record { began = _; state = s; now = t; over = e; asked = asked }))
+          (suc r, omega arith, waits-due fit named t w v l asked, inr (record { began = _; state = s; now = t; over = e; asked = asked }))
       next s t asked false e rec =
           let (u, y, still) = lays-still {r = suc r} (countIn S (suc r)) 0 (omega arith) (s, goes-on t e, asked) in
           let (r′, late, due, end) = rec (suc r) _ 0 (omega arith) (omega (arith, count-next S r)) (u, all-laid y, still) in
           (r′, omega arith, due, end)
 
       go : ServedIn S w v l r ⊎ Still r b (serving (countIn S r)) → Rest → InTime S w v l r
-      go (inl x) rec = (r, le-refl r, waits-due fit chosen (x .now) w v l (x .asked), inl x)
+      go (inl x) rec = (r, le-refl r, waits-due fit named (x .now) w v l (x .asked), inl x)
       go (inr (s, t, asked)) rec =
           let (u, y, still) = turns-still {r = suc r} (countIn S (suc r)) 0 (omega arith) (s, next-round t, asked) in
           next u y still (ended plan u) refl rec
@@ -124,7 +126,7 @@ module _ {S : Setting} (fit : Fit S) (chosen : T (choicesFit (S .workers) (S .ch
 
       turning-on : (s : State) → Trace S r b (turning n) s → workerOf s w ≡ Waiting v l → (x : Bool) → ended plan s ≡ x → InTime S w v l r
       turning-on s t asked true e =
-          (r, le-refl r, waits-due fit chosen t w v l asked, inr (record { began = b; state = s; now = t; over = e; asked = asked }))
+          (r, le-refl r, waits-due fit named t w v l asked, inr (record { began = b; state = s; now = t; over = e; asked = asked }))
       turning-on s t asked false e = laying-on (lays-still {r = r} n 0 (omega arith) (s, goes-on t e, asked))
 
       go : (g : Stage) → Trace S r b g s → stageOf g ≤ n → InTime S w v l r

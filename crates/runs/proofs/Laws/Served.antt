@@ -14,15 +14,15 @@ use mathlib.Core.List.{List}
 use native.Mathlib.Nat.{not-suc-le-zero}
 use native.Mathlib.Omega.{arith}
 use native.Mathlib.Decide.{ℕ-discrete, decLt}
-use lib.Dec.{T}
+use lib.Dec.{T, ltb}
 use lib.ListN.{length, getD, set}
 use lib.Seq.{getD-set-same, getD-set-other}
+use Rattle.plan.specs.Test.{all}
 use Rattle.runs.specs.declared.worker.Worker.{Worker}
 use Rattle.runs.specs.declared.worker.Worker.the-variants.{Idle, Holding, Waiting}
 use Rattle.runs.specs.Setting.{Setting, countIn}
 use Rattle.runs.specs.State.{State, workerOf}
 use Rattle.runs.specs.Steal.{waits}
-use Rattle.runs.specs.Run.{choicesFit}
 use Rattle.lines.proofs.Laws.Sum.{sum, sum-le, sum-less, sum-bound, only, only-yes}
 use Rattle.runs.specs.Trace.{Stage, turning, laying, serving, Trace, begins, turned, goes-on, laid, all-laid, served, next-round}
 use Rattle.runs.proofs.Laws.Fit.{Fit, count-most, count-next}
@@ -30,7 +30,7 @@ use Rattle.runs.proofs.Laws.Lined.{seen-below}
 use Rattle.runs.proofs.Laws.Sound.{trace-sound, workers-length}
 use Rattle.runs.proofs.Laws.Start.{start-calm}
 use Rattle.runs.proofs.Laws.Stores.{victimOf, turned-workers, laid-workers, served-workers}
-use Rattle.runs.proofs.Laws.Victims.{victim-below}
+use Rattle.runs.proofs.Laws.Victims.{named-all}
 use Rattle.runs.proofs.Laws.Least.{rank, Best, oldest-best}
 
 ahead : ℕ → ℕ → ℕ → Worker → ℕ
@@ -170,7 +170,7 @@ module _ {n : ℕ} {ws : List Worker} (all : Roster n ws) where
             (λ f. omega (arith, due .1 (omega arith))),
       )
 
-module _ {S : Setting} (fit : Fit S) (chosen : T (choicesFit (S .workers) (S .choices))) where
+module _ {S : Setting} (fit : Fit S) (named : T (all (λ c. ltb c (S .workers)) (S .choices))) where
   open Setting S using (plan, choices)
 
   roster : {r : ℕ} {b : List Worker} {g : Stage} {s : State} → Trace S r b g s → Roster (countIn S r) (s .workers)
@@ -193,7 +193,7 @@ module _ {S : Setting} (fit : Fit S) (chosen : T (choicesFit (S .workers) (S .ch
       let best = oldest-best k (countIn S r) (s .workers) (count-most fit r) in
       served-workers (AllDue (countIn S r) r (serving (suc k))) t (λ e. none-due (roster t) r (all-due t) (rw e at best))
       (λ x y e. served-due (roster t) r (all-due t) (rw e at best) y)
-  all-due (next-round {r} t) = rw (count-next S r) λ w v l e. omega (arith, all-due t w v l e .1 (victim-below fit chosen t w v l e .0))
+  all-due (next-round {r} t) = rw (count-next S r) λ w v l e. omega (arith, all-due t w v l e .1 (named-all fit named t w v l e .0))
 
   -- no request waits in a round l + n or later, so that it is served in round l + n - 1 at the latest
   pub waits-due : {r : ℕ} {b : List Worker} {g : Stage} {s : State} → Trace S r b g s

@@ -1,6 +1,7 @@
 -- The victims that waiting workers name are workers that there are, and there is a choice for each request.
 --   Named n r x  == if the worker x waits, it names one of n victims, and one of the rounds 1 to r
---   victim-below == that holds of every worker of a state of a run
+--   named-all    == that holds of every worker of a state of a run, for choices of any length that name workers
+--   victim-below == so for those that an entry takes
 --   laid-choices == a worker that held nothing as a round began has a choice
 use Prim.Native.Nat.{ℕ, zero, suc, _≤_, _<_, _%_}
 use mathlib.Core.Path.{_≡_, refl, sym, ap, _∙_}
@@ -36,10 +37,10 @@ set-either (y ∷ l) zero (suc w) x d = inr refl
 set-either (y ∷ l) (suc k) zero x d = inr refl
 set-either (y ∷ l) (suc k) (suc w) x d = set-either l k w x d
 
-abbrev Named : ℕ → ℕ → Worker → Type 0
+abbrev pub Named : ℕ → ℕ → Worker → Type 0
 Named n r x = (v l : ℕ) → x ≡ Waiting v l → (v < n) × (1 ≤ l) × (l ≤ r)
 
-abbrev AllNamed : ℕ → ℕ → List Worker → Type 0
+abbrev pub AllNamed : ℕ → ℕ → List Worker → Type 0
 AllNamed n r ws = (w : ℕ) → Named n r (getD ws w Idle)
 
 named-calm : (n r : ℕ) (x : Worker) → waits x ≡ 0 → Named n r x
@@ -63,7 +64,7 @@ choice-below n choices some t i =
 module _ {S : Setting} (fit : Fit S) where
   open Setting S using (plan, choices)
 
-  named-all : T (all (λ c. ltb c (S .workers)) choices) → {r : ℕ} {b : List Worker} {g : Stage} {s : State} → Trace S r b g s
+  pub named-all : T (all (λ c. ltb c (S .workers)) choices) → {r : ℕ} {b : List Worker} {g : Stage} {s : State} → Trace S r b g s
       → AllNamed (countIn S r) r (s .workers)
   named-all named begins = λ w. named-calm (countIn S 1) 1 (workerOf (start plan) w) (start-calm plan w)
   named-all named (turned {r} {k} {b} {s} t h) =

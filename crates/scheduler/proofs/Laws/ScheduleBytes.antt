@@ -6,7 +6,7 @@ use mathlib.Core.Path.{_≡_, refl, sym, ap, ap₂, _∙_}
 use mathlib.Core.List.{List, [], _∷_, _++_, append-assoc}
 use native.Mathlib.Omega.{arith}
 use lib.ListN.{length, getD}
-use Rattle.plan.specs.Field.{bitsOf, bits, number}
+use Rattle.plan.specs.Field.{bitsOf, bits, number, Bytes}
 use Rattle.plan.specs.Writer.{pack}
 use Rattle.courses.specs.Row.{Row, noRow}
 use Rattle.scheduler.specs.Header.{headerBytes}
@@ -78,13 +78,13 @@ rows-bits (a ∷ rows) h =
     ∙ (append-assoc (bitsOf 12 (a .round)) (bitsOf 4 (a .worker)) (bits (rowBytes rows))
     ∙ ap (λ l. bitsOf 12 (a .round) ++ (bitsOf 4 (a .worker) ++ l)) (rows-bits rows (λ k l. h (suc k) (omega arith)))))
 
-rowBytes-bytes : (rows : List Row) → Narrow rows → (i : ℕ) → getD (rowBytes rows) i 0 < 256
+rowBytes-bytes : (rows : List Row) → Narrow rows → Bytes (rowBytes rows)
 rowBytes-bytes [] h i = omega arith
 rowBytes-bytes (a ∷ rows) h zero = omega (arith, h 0 (omega arith))
 rowBytes-bytes (a ∷ rows) h (suc zero) = omega (arith, h 0 (omega arith))
 rowBytes-bytes (a ∷ rows) h (suc (suc i)) = rowBytes-bytes rows (λ k l. h (suc k) (omega arith)) i
 
-all-bytes : (n a : ℕ) (l : List ℕ) → n ≤ 16 → a ≤ 2048 → ((i : ℕ) → getD l i 0 < 256) → (i : ℕ) → getD (headerBytes n a ++ l) i 0 < 256
+all-bytes : (n a : ℕ) (l : List ℕ) → n ≤ 16 → a ≤ 2048 → Bytes l → Bytes (headerBytes n a ++ l)
 all-bytes n a l h k f zero = omega arith
 all-bytes n a l h k f (suc zero) = omega arith
 all-bytes n a l h k f (suc (suc zero)) = omega arith
