@@ -61,7 +61,8 @@ fn units(x: usize) -> u32
 
 #[no_mangle]
 pub extern "C" fn dw_plan_to_table(plan: &[u8], rows: &mut [u16]) -> DwCount
-    ensures { λ r. ⌜ (r ≡ countOf (toTable (now (plan .entry)) (now (rows .entry)) .answer)) × (now (rows .exit) ≡ toTable (now (plan .entry)) (now (rows .entry)) .buffer) ⌝ }
+    ensures { λ r. ⌜ (r ≡ countOf (toTable (now (plan .entry)) (now (rows .entry)) .answer))
+        × (now (rows .exit) ≡ toTable (now (plan .entry)) (now (rows .entry)) .buffer) ⌝ }
 {
     match plan_to_table(plan, rows) {
         Answer::Refused(cause) => DwCount {
@@ -77,7 +78,8 @@ pub extern "C" fn dw_plan_to_table(plan: &[u8], rows: &mut [u16]) -> DwCount
 
 #[no_mangle]
 pub extern "C" fn dw_table_to_plan(rows: &[u16], plan: &mut [u8]) -> DwCount
-    ensures { λ r. ⌜ (r ≡ countOf (toPlan (now (rows .entry)) (now (plan .entry)) .answer)) × (now (plan .exit) ≡ toPlan (now (rows .entry)) (now (plan .entry)) .buffer) ⌝ }
+    ensures { λ r. ⌜ (r ≡ countOf (toPlan (now (rows .entry)) (now (plan .entry)) .answer))
+        × (now (plan .exit) ≡ toPlan (now (rows .entry)) (now (plan .entry)) .buffer) ⌝ }
 {
     match table_to_plan(rows, plan) {
         Answer::Refused(cause) => DwCount {

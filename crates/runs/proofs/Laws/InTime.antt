@@ -4,7 +4,7 @@
 --   request-served == `InTime` of every worker that waits in a state of a run
 use Prim.Native.Nat.{ℕ, zero, suc, _+_, _-_, _≤_, _<_, zero-le}
 use mathlib.Core.Path.{_≡_, refl, sym, ap, _∙_}
-use mathlib.Core.Logic.{_⊎_, inl, inr, _≢_, by-cases}
+use mathlib.Core.Logic.{_⊎_, inl, inr, ⊎-elim, _≢_, by-cases}
 use mathlib.Core.Bool.{Bool, true, false}
 use mathlib.Core.List.{List}
 use native.Mathlib.Nat.{le-refl}
@@ -92,28 +92,43 @@ module _ {S : Setting} (fit : Fit S) (named : T (all (λ c. ltb c (S .workers)) 
           let here : k ≡ v = cc in
           inl (record { began = b; state = s; now = rw here at t; there = omega arith; asked = asked; first = rw here at q })
 
+  -- once all turns of a round are taken, the run ends, or goes on to the services of the round
+  turns-over : {r : ℕ} {b : List Worker} → Still r b (turning (countIn S r)) → LeftIn S w v l r ⊎ Still r b (serving 0)
+  turns-over {r} {b} (s, t, asked) = go (ended plan s) refl
+    where
+      go : (x : Bool) → ended plan s ≡ x → LeftIn S w v l r ⊎ Still r b (serving 0)
+      go true e = inl (record { began = b; state = s; now = t; over = e; asked = asked })
+      go false e =
+          let (u, y, still) = lays-still {r = r} (countIn S r) 0 (omega arith) (s, goes-on t e, asked) in
+          inr (u, all-laid y, still)
+
+  -- it is served, or left, in this round
+  served-now : {r : ℕ} → ServedIn S w v l r → InTime S w v l r
+  served-now {r} x = (r, le-refl r, waits-due fit named (x .now) w v l (x .asked), inl x)
+
+  left-now : {r : ℕ} → LeftIn S w v l r → InTime S w v l r
+  left-now {r} x = (r, le-refl r, waits-due fit named (x .now) w v l (x .asked), inr x)
+
+  later : {r : ℕ} → InTime S w v l (suc r) → InTime S w v l r
+  later (r′, late, due, end) = (r′, omega arith, due, end)
+
   -- with d rounds left for it
   serves-on : (d r : ℕ) (b : List Worker) (k : ℕ) → k ≤ countIn S r → l + countIn S r ≤ r + d → Still r b (serving k) → InTime S w v l r
   serves-on zero r b k h q (s, t, asked) = absurd (omega (arith, waits-due fit named t w v l asked))
-  serves-on (suc d) r b k h q i = go (serves-still {r = r} (countIn S r - k) k (omega arith) i) (serves-on d)
+  serves-on (suc d) r b k h q i = go (serves-still {r = r} (countIn S r - k) k (omega arith) i) (serves-on d (suc r))
     where
       Rest : Type 0
-      Rest = (r : ℕ) (b : List Worker) (k : ℕ) → k ≤ countIn S r → l + countIn S r ≤ r + d → Still r b (serving k) → InTime S w v l r
+      Rest = (b : List Worker) (k : ℕ) → k ≤ countIn S (suc r) → l + countIn S (suc r) ≤ suc r + d → Still (suc r) b (serving k)
+          → InTime S w v l (suc r)
 
-      next : {b : List Worker} (s : State) → Trace S (suc r) b (turning (countIn S (suc r))) s → workerOf s w ≡ Waiting v l
-          → (x : Bool) → ended plan s ≡ x → Rest → InTime S w v l r
-      next s t asked true e rec =
-          (suc r, omega arith, waits-due fit named t w v l asked, inr (record { began = _; state = s; now = t; over = e; asked = asked }))
-      next s t asked false e rec =
-          let (u, y, still) = lays-still {r = suc r} (countIn S (suc r)) 0 (omega arith) (s, goes-on t e, asked) in
-          let (r′, late, due, end) = rec (suc r) _ 0 (omega arith) (omega (arith, count-next S r)) (u, all-laid y, still) in
-          (r′, omega arith, due, end)
+      next : {b : List Worker} → LeftIn S w v l (suc r) ⊎ Still (suc r) b (serving 0) → Rest → InTime S w v l r
+      next (inl x) rest = later (left-now x)
+      next (inr i) rest = later (rest _ 0 zero-le (omega (arith, count-next S r)) i)
 
       go : ServedIn S w v l r ⊎ Still r b (serving (countIn S r)) → Rest → InTime S w v l r
-      go (inl x) rec = (r, le-refl r, waits-due fit named (x .now) w v l (x .asked), inl x)
-      go (inr (s, t, asked)) rec =
-          let (u, y, still) = turns-still {r = suc r} (countIn S (suc r)) 0 (omega arith) (s, next-round t, asked) in
-          next u y still (ended plan u) refl rec
+      go (inl x) rest = served-now x
+      go (inr (s, t, asked)) rest =
+          next (turns-over (turns-still {r = suc r} (countIn S (suc r)) 0 (omega arith) (s, next-round t, asked))) rest
 
   pub request-served : {r : ℕ} {b : List Worker} {g : Stage} {s : State} → Trace S r b g s → workerOf s w ≡ Waiting v l → InTime S w v l r
   request-served {r} {b} {g} {s} t asked = go g t (stage-within t)
@@ -121,17 +136,12 @@ module _ {S : Setting} (fit : Fit S) (named : T (all (λ c. ltb c (S .workers)) 
       n : ℕ
       n = countIn S r
 
-      laying-on : Still r b (laying n) → InTime S w v l r
-      laying-on (s, t, asked) = serves-on (l + n) r b 0 (omega arith) (omega arith) (s, all-laid t, asked)
-
-      turning-on : (s : State) → Trace S r b (turning n) s → workerOf s w ≡ Waiting v l → (x : Bool) → ended plan s ≡ x → InTime S w v l r
-      turning-on s t asked true e =
-          (r, le-refl r, waits-due fit named t w v l asked, inr (record { began = b; state = s; now = t; over = e; asked = asked }))
-      turning-on s t asked false e = laying-on (lays-still {r = r} n 0 (omega arith) (s, goes-on t e, asked))
+      serving-on : (k : ℕ) → k ≤ n → Still r b (serving k) → InTime S w v l r
+      serving-on k h = serves-on (l + n) r b k h (omega arith)
 
       go : (g : Stage) → Trace S r b g s → stageOf g ≤ n → InTime S w v l r
-      go (turning k) t h =
-          let (u, y, still) = turns-still {r = r} (n - k) k (omega arith) (s, t, asked) in
-          turning-on u y still (ended plan u) refl
-      go (laying k) t h = laying-on (lays-still {r = r} (n - k) k (omega arith) (s, t, asked))
-      go (serving k) t h = serves-on (l + n) r b k h (omega arith) (s, t, asked)
+      go (turning k) t h = ⊎-elim left-now (serving-on 0 zero-le) (turns-over (turns-still {r = r} (n - k) k (omega arith) (s, t, asked)))
+      go (laying k) t h =
+          let (u, y, still) = lays-still {r = r} (n - k) k (omega arith) (s, t, asked) in
+          serving-on 0 zero-le (u, all-laid y, still)
+      go (serving k) t h = serving-on k h (s, t, asked)
