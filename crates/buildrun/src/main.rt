@@ -1,8 +1,9 @@
 // Reads P, the choice count, the choices and a plan from standard input, runs the plan, and prints the counts of the run, or
-// the number of the refusal (document 01, "Cases"). The work is `scheduler::build::build`.
-use scheduler::build::Built;
-use scheduler::build::Counts;
-use scheduler::build::build;
+// the number of the refusal (document 01, "Cases"). The work is `build::build`.
+use build::Built;
+use build::Counts;
+use build::build;
+use numbers::units8;
 
 fn main() {
     let mut input = [0u8; 8192];
@@ -12,13 +13,9 @@ fn main() {
 
 fn told(b: Built) {
     match b {
-        Built::Refused(cause) => line(b"refused", wide(plan::refusal::number(cause))),
+        Built::Refused(cause) => line(b"refused", units8(plan::refusal::number(cause))),
         Built::Counted(c) => counts(c),
     }
-}
-
-fn wide(x: u8) -> u32 {
-    x as u32
 }
 
 fn counts(c: Counts) {

@@ -1,7 +1,6 @@
 // The library for C and Rust (include/dorewhanga.h). Each function hands its input on to the entry of its name and gives the
 // answer as plain numbers: the refusal's number first, 0 for none, then what was asked for, or 0s.
 ghost use mathlib.Core.Path.{_≡_};
-ghost use Prim.Native.Nat.{_<_};
 ghost use Rattle.plan.specs.Refusal.{numberOf};
 ghost use Rattle.plan_measure.specs.Measure.{measures};
 ghost use Rattle.plan_table.specs.Table.{toTable, toPlan};
@@ -10,6 +9,7 @@ ghost use Rattle.scheduler.specs.Entry.{runInto};
 ghost use Rattle.cabi.specs.Plain.{countOf, measuresOf, tallyOf, checkOf, Claimed};
 use checker::Judged;
 use checker::check;
+use numbers::units;
 use plan::refusal::Refusal;
 use plan::refusal::number;
 use plan_measure::Measured;
@@ -50,13 +50,6 @@ fn cause_number(cause: Refusal) -> u32
     ensures { λ r. ⌜ r ≡ numberOf cause ⌝ }
 {
     number(cause) as u32
-}
-
-fn units(x: usize) -> u32
-    requires { ⌜ x < 65536 ⌝ }
-    ensures { λ r. ⌜ r ≡ x ⌝ }
-{
-    x as u32
 }
 
 #[no_mangle]

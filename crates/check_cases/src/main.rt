@@ -5,7 +5,7 @@ mod cases;
 
 use checker::Judged;
 use checker::check;
-use plan::flat::wide8;
+use numbers::wide8;
 use plan::refusal::Refusal;
 use scheduler::run::Ran;
 use scheduler::run::run;

@@ -6,4 +6,3 @@ pub mod Keeping
 pub mod Following
 pub mod Buckets
 pub mod Judging
-pub mod Own

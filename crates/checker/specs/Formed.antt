@@ -11,7 +11,7 @@ use mathlib.Core.List.{List}
 use lib.ListN.{length, getD}
 use lib.Dec.{T}
 use Rattle.plan.specs.Refusal.{refused, accepted}
-use Rattle.plan.specs.Field.{stop, step, then}
+use Rattle.fields.specs.Field.{stop, step, then}
 use Rattle.courses.specs.Row.{Row}
 use Rattle.courses.specs.Schedule.{rowsAt, writtenAt, readSchedule}
 use Rattle.checker.specs.Rows.{RowsAt}

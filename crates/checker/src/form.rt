@@ -4,10 +4,10 @@ ghost use mathlib.Core.Path.{_≡_};
 ghost use Prim.Native.Nat.{_+_, _*_, _≤_};
 ghost use lib.ListN.{length};
 ghost use Rattle.checker.specs.Formed.{Formed, Headed, RoundsTold};
-use plan::field::Field;
-use plan::field::cut;
-use plan::field::power_table;
-use plan::flat::wide8;
+use fields::field::Field;
+use fields::field::cut;
+use fields::field::power_table;
+use numbers::wide8;
 
 // The worker count of a header for so many actions, or 0 where the header is not well formed: a worker count of 0 is not.
 fn header(schedule: &[u8], actions: usize) -> usize

@@ -10,7 +10,6 @@ use plan::refusal::Refusal;
 use rules::rules_kept;
 
 mod form;
-pub mod own;
 mod rules;
 
 pub enum Judged {

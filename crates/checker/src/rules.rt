@@ -3,18 +3,19 @@ ghost use Prim.Native.Nat.{ℕ, _+_, _*_, _<_};
 ghost use mathlib.Core.Path.{_≡_};
 ghost use mathlib.Core.List.{List};
 ghost use lib.ListN.{length};
+ghost use Rattle.plan.specs.Contract.{before};
 ghost use Rattle.plan.specs.Plan.{Plan};
 ghost use Rattle.courses.specs.Row.{Row};
 ghost use Rattle.courses.specs.Schedule.{keeps};
 ghost use Rattle.checker.specs.Given.{RulesGiven};
 ghost use Rattle.checker.specs.Judging.{word, JobPlace, Told};
-use plan::flat::wide8;
-use plan::flat::wide16;
+use numbers::wide8;
+use numbers::wide16;
 
 // The 16 bits of row k: its round, then its worker.
 fn row_at(schedule: &[u8], k: usize) -> usize
     requires { ⌜ 5 + 2 * k < length (now schedule) ⌝ }
-    ensures { λ r. ⌜ (r ≡ word (now (schedule .entry)) k) × (r < 65536) ⌝ }
+    ensures { λ r. ⌜ (r ≡ word (before schedule) k) × (r < 65536) ⌝ }
 {
     wide8(schedule[4 + 2 * k]) * 256 + wide8(schedule[5 + 2 * k])
 }
@@ -31,8 +32,11 @@ fn followed(
     join: &[u16; 2048],
     parent: &[u8; 256],
 ) -> bool
-    requires { ⌜ ((p : Plan) × (rows : List Row) × (jobs : ℕ) × RulesGiven p rows jobs (now schedule) (now first) (now spawn) (now join) (now parent) × JobPlace p j k end × (k < end)) ⌝ }
-    ensures { λ r. ⌜ ((p : Plan) (rows : List Row) (jobs : ℕ) → RulesGiven p rows jobs (now (schedule .entry)) (now (first .entry)) (now (spawn .entry)) (now (join .entry)) (now (parent .entry)) → JobPlace p j k end → k < end → Told p (word (now (schedule .entry))) k r) ⌝ }
+    requires { ⌜ ((p : Plan) × (rows : List Row) × (jobs : ℕ)
+        × RulesGiven p rows jobs (now schedule) (now first) (now spawn) (now join) (now parent) × JobPlace p j k end × (k < end)) ⌝ }
+    ensures { λ r. ⌜ ((p : Plan) (rows : List Row) (jobs : ℕ)
+        → RulesGiven p rows jobs (before schedule) (before first) (before spawn) (before join) (before parent)
+        → JobPlace p j k end → k < end → Told p (word (before schedule)) k r) ⌝ }
 {
     let round = row_at(schedule, k) / 16;
     if k + 1 < end {
@@ -69,8 +73,11 @@ pub fn rules_kept<'a>(
     join: &'a [u16; 2048],
     parent: &'a [u8; 256],
 ) -> bool
-    requires { ⌜ ((p : Plan) × (rows : List Row) × RulesGiven p rows jobs (now schedule) (now first) (now spawn) (now join) (now parent)) ⌝ }
-    ensures { λ r. ⌜ ((p : Plan) (rows : List Row) → RulesGiven p rows jobs (now (schedule .entry)) (now (first .entry)) (now (spawn .entry)) (now (join .entry)) (now (parent .entry)) → r ≡ keeps p workers rows) ⌝ }
+    requires { ⌜ ((p : Plan) × (rows : List Row)
+        × RulesGiven p rows jobs (now schedule) (now first) (now spawn) (now join) (now parent)) ⌝ }
+    ensures { λ r. ⌜ ((p : Plan) (rows : List Row)
+        → RulesGiven p rows jobs (before schedule) (before first) (before spawn) (before join) (before parent)
+        → r ≡ keeps p workers rows) ⌝ }
 {
     let mut last = [0u16; 4096];
     let mut earlier = [0u16; 2048];

@@ -1,11 +1,11 @@
 // Runs the inputs of `buildrun` that standard input holds and compares what comes of each with the answer beside it, which a
 // second runner gave (compare/src/bin/runs.rs). An input is its length in two bytes, high first, and its bytes; an answer is a
 // refusal's number or 0, and the nine counts in four bytes each, in the order in which `buildrun` prints them.
-ghost use Prim.Native.Nat.{_<_};
-use plan::flat::wide8;
-use scheduler::build::Built;
-use scheduler::build::Counts;
-use scheduler::build::build;
+use build::Built;
+use build::Counts;
+use build::build;
+use numbers::units8;
+use numbers::wide8;
 
 enum Came {
     End,
@@ -91,15 +91,9 @@ fn count_at(answer: &[u8], at: usize) -> u32 {
     if answer.len() - 4 < at {
         return 0;
     }
-    let high = wide(answer[at]) * 256 + wide(answer[at + 1]);
-    let low = wide(answer[at + 2]) * 256 + wide(answer[at + 3]);
+    let high = units8(answer[at]) * 256 + units8(answer[at + 1]);
+    let low = units8(answer[at + 2]) * 256 + units8(answer[at + 3]);
     high * 65536 + low
-}
-
-fn wide(x: u8) -> u32
-    ensures { λ r. ⌜ r < 256 ⌝ }
-{
-    x as u32
 }
 
 fn told(name: &[u8], value: u32) {

@@ -6,16 +6,10 @@ pub mod Spawning
 pub mod Valid
 pub mod Recording
 pub mod Joining
-pub mod PowerTable
-pub mod Bits
-pub mod Window
-pub mod Sink
 pub mod Steps
 pub mod Written
 pub mod Accepted
 pub mod Blank
 pub mod Found
 pub mod Outcomes
-pub mod Readings
 pub mod Fits
-pub mod PlanBytes

@@ -2,6 +2,7 @@
 --   FlatPlan          == a plan's counts and arrays: `frame`, `first`, `parent` and `position` (that of the job's spawn) go by job,
 --                        and `first` has the end of the last job too; `job`, `spawn`, `join` and `entering` go by an action's
 --                        place in plan order; `spawn` and `join` hold a number plus 1, or 0 for none
+--   flat jobs actions .. == the flat plan of these counts and arrays
 --   starts k p        == the place of each job's first action in plan order, counted from k, and of the end
 --   Frames, Firsts    == the array holds each job's frame, the place of its first action (and the end)
 --   Jobs, Spawns, Joins == the array holds each action's job, child number plus 1 or 0, target plus 1 or 0
@@ -32,6 +33,21 @@ pub record FlatPlan : Type 0 where
   pub parent : List ℕ
   pub position : List ℕ
   pub entering : List ℕ
+
+abbrev pub flat : ℕ → ℕ → (frame first job spawn join parent position entering : List ℕ) → FlatPlan
+flat jobs actions frame first job spawn join parent position entering =
+    record {
+      jobs = jobs;
+      actions = actions;
+      frame = frame;
+      first = first;
+      job = job;
+      spawn = spawn;
+      join = join;
+      parent = parent;
+      position = position;
+      entering = entering;
+    }
 
 abbrev pub starts : ℕ → List Job → List ℕ
 starts k [] = k ∷ []

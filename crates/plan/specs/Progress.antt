@@ -1,7 +1,7 @@
 -- What the private functions of the reader answer. Private functions alone cite these.
 --   numberStep r     == the step that a Number stands for
 --   Wrote k l a b    == the array b is as long as a, up to place k it is as a, and from there it has the list l
---   Rows             == the arrays that go by an action's place; Arrays == these and those that go by job
+--   Rows             == the arrays that go by an action's place; Arrays == these and those that go by job; rows, arrays == made of lists
 --   RowsLong, ArraysLong == the arrays are as long as their types say
 --   Laid k l a b     == from place k on the rows b have the actions l, and before it they are the rows a
 --   headerAt s k at  == a job's frame and action count, where k actions were read before
@@ -20,7 +20,7 @@ use Rattle.plan.specs.declared.reader.Body.{Body}
 use Rattle.plan.specs.Refusal.{numberOf}
 use Rattle.plan.specs.Test.{either}
 use Rattle.plan.specs.Plan.{Action, Job, Plan, Placed, total, placedIn}
-use Rattle.plan.specs.Field.{Step, stop, step, then, fieldAt}
+use Rattle.fields.specs.Field.{Step, stop, step, then, fieldAt}
 use Rattle.plan.specs.Reader.{actionAt, actionsAt}
 use Rattle.plan.specs.Flat.{Frames, Firsts, Jobs, Spawns, Joins}
 
@@ -41,6 +41,12 @@ pub record Arrays : Type 0 where
   pub frame : List ℕ
   pub first : List ℕ
   pub rows : Rows
+
+abbrev pub rows : List ℕ → List ℕ → List ℕ → Rows
+rows job spawn join = record { job = job; spawn = spawn; join = join }
+
+abbrev pub arrays : List ℕ → List ℕ → List ℕ → List ℕ → List ℕ → Arrays
+arrays frame first job spawn join = record { frame = frame; first = first; rows = rows job spawn join }
 
 pub record RowsLong (a : Rows) : Type 0 where
   pub owners : length (a .job) ≡ 2048

@@ -16,7 +16,7 @@ use Rattle.plan.specs.Refusal.{Outcome, refused, accepted}
 use Rattle.plan.specs.Test.{both, either}
 use Rattle.plan.specs.Plan.{Action, Job, Plan}
 use Rattle.plan.specs.Rules.{spawnRules, joinRules}
-use Rattle.plan.specs.Field.{Step, stop, step, then, fieldAt, bits, number}
+use Rattle.fields.specs.Field.{Step, stop, step, then, fieldAt, bits, number}
 
 unfoldable pub numberAt : List ℕ → ℕ → Step ℕ
 numberAt s at =

@@ -3,16 +3,18 @@ ghost use mathlib.Core.Path.{_≡_};
 ghost use Prim.Native.Nat.{_+_, _*_, _^_, _≤_, _<_};
 ghost use lib.ListN.{length, getD};
 ghost use Rattle.plan.specs.Reader.{numberAt, jobsAt, planAt, fills};
-ghost use Rattle.plan.specs.Field.{PowersOfTwo};
-ghost use Rattle.plan.specs.Flat.{Blank, jobsIn, actionsIn, ReadInto};
-ghost use Rattle.plan.specs.Progress.{numberStep, RowsLong, ArraysLong, ActionRead, ActionsRead, HeaderRead, JobRead, PlanRead};
-use crate::field::Field;
-use crate::field::cut;
-use crate::field::power_table;
+ghost use Rattle.fields.specs.Field.{PowersOfTwo};
+ghost use Rattle.plan.specs.Contract.{before, after};
+ghost use Rattle.plan.specs.Flat.{flat, Blank, jobsIn, actionsIn, ReadInto};
+ghost use Rattle.plan.specs.Progress.{numberStep, rows, arrays, RowsLong, ArraysLong};
+ghost use Rattle.plan.specs.Progress.{ActionRead, ActionsRead, HeaderRead, JobRead, PlanRead};
 use crate::flat::Found;
 use crate::refusal::Refusal;
 use crate::rules::join_rules;
 use crate::rules::spawn_rules;
+use fields::field::Field;
+use fields::field::cut;
+use fields::field::power_table;
 
 // A number plus 1, or 0, and the next place.
 pub enum Number {
@@ -45,7 +47,7 @@ pub enum Body {
 // A bit, and if it is 1 a number of 8 bits.
 fn number_at(s: &[u8], powers: &[u64; 32], at: usize) -> Number
     requires { ⌜ (at < 2 ^ 18) × PowersOfTwo (now powers) ⌝ }
-    ensures { λ r. ⌜ numberStep r ≡ numberAt (now (s .entry)) at ⌝ }
+    ensures { λ r. ⌜ numberStep r ≡ numberAt (before s) at ⌝ }
 {
     let Field::Cut {
         value: there,
@@ -80,8 +82,9 @@ fn read_action(
     spawn: &mut [u16; 2048],
     join: &mut [u16; 2048],
 ) -> Progress
-    requires { ⌜ (at < 2 ^ 17) × (k < 2048) × RowsLong (record { job = now job; spawn = now spawn; join = now join }) × PowersOfTwo (now powers) ⌝ }
-    ensures { λ r. ⌜ ActionRead (now (s .entry)) at number k (record { job = now (job .entry); spawn = now (spawn .entry); join = now (join .entry) }) (record { job = now (job .exit); spawn = now (spawn .exit); join = now (join .exit) }) r ⌝ }
+    requires { ⌜ (at < 2 ^ 17) × (k < 2048) × RowsLong (rows (now job) (now spawn) (now join)) × PowersOfTwo (now powers) ⌝ }
+    ensures { λ r. ⌜ ActionRead (before s) at number k (rows (before job) (before spawn) (before join))
+        (rows (after job) (after spawn) (after join)) r ⌝ }
 {
     let Number::Is {
         value: child,
@@ -115,8 +118,10 @@ fn read_actions(
     spawn: &mut [u16; 2048],
     join: &mut [u16; 2048],
 ) -> Progress
-    requires { ⌜ (at + 18 * count < 2 ^ 17) × (from + count ≤ 2048) × RowsLong (record { job = now job; spawn = now spawn; join = now join }) × PowersOfTwo (now powers) ⌝ }
-    ensures { λ r. ⌜ ActionsRead (now (s .entry)) at count number from (record { job = now (job .entry); spawn = now (spawn .entry); join = now (join .entry) }) (record { job = now (job .exit); spawn = now (spawn .exit); join = now (join .exit) }) r ⌝ }
+    requires { ⌜ (at + 18 * count < 2 ^ 17) × (from + count ≤ 2048) × RowsLong (rows (now job) (now spawn) (now join))
+        × PowersOfTwo (now powers) ⌝ }
+    ensures { λ r. ⌜ ActionsRead (before s) at count number from (rows (before job) (before spawn) (before join))
+        (rows (after job) (after spawn) (after join)) r ⌝ }
 {
     let mut place = at;
     let mut k = from;
@@ -132,17 +137,17 @@ fn read_actions(
     Progress::At(place)
 }
 
-// Reads a job's frame and action count, where `before` actions came before it.
+// Reads a job's frame and action count, where `earlier` actions came before it.
 fn read_header(
     s: &[u8],
     powers: &[u64; 32],
     at: usize,
     j: usize,
-    before: usize,
+    earlier: usize,
     frame: &mut [u16; 256],
 ) -> Header
-    requires { ⌜ (at < 2 ^ 16) × (j < 256) × (before ≤ 2048) × (length (now frame) ≡ 256) × PowersOfTwo (now powers) ⌝ }
-    ensures { λ r. ⌜ HeaderRead (now (s .entry)) before at j (now (frame .entry)) (now (frame .exit)) r ⌝ }
+    requires { ⌜ (at < 2 ^ 16) × (j < 256) × (earlier ≤ 2048) × (length (now frame) ≡ 256) × PowersOfTwo (now powers) ⌝ }
+    ensures { λ r. ⌜ HeaderRead (before s) earlier at j (before frame) (after frame) r ⌝ }
 {
     let Field::Cut {
         value: weight,
@@ -161,7 +166,7 @@ fn read_header(
     if size == 0 {
         return Header::Refused(Refusal::Range);
     }
-    if 2048 < before + size {
+    if 2048 < earlier + size {
         return Header::Refused(Refusal::Range);
     }
     frame[j] = weight as u16;
@@ -174,25 +179,27 @@ fn read_job(
     powers: &[u64; 32],
     at: usize,
     j: usize,
-    before: usize,
+    earlier: usize,
     frame: &mut [u16; 256],
     first: &mut [u16; 257],
     job: &mut [u8; 2048],
     spawn: &mut [u16; 2048],
     join: &mut [u16; 2048],
 ) -> Header
-    requires { ⌜ (at < 2 ^ 16) × (j < 256) × (before ≤ 2048) × ArraysLong (record { frame = now frame; first = now first; rows = record { job = now job; spawn = now spawn; join = now join } }) × PowersOfTwo (now powers) ⌝ }
-    ensures { λ r. ⌜ JobRead (now (s .entry)) before at j (record { frame = now (frame .entry); first = now (first .entry); rows = record { job = now (job .entry); spawn = now (spawn .entry); join = now (join .entry) } }) (record { frame = now (frame .exit); first = now (first .exit); rows = record { job = now (job .exit); spawn = now (spawn .exit); join = now (join .exit) } }) r ⌝ }
+    requires { ⌜ (at < 2 ^ 16) × (j < 256) × (earlier ≤ 2048)
+        × ArraysLong (arrays (now frame) (now first) (now job) (now spawn) (now join)) × PowersOfTwo (now powers) ⌝ }
+    ensures { λ r. ⌜ JobRead (before s) earlier at j (arrays (before frame) (before first) (before job) (before spawn) (before join))
+        (arrays (after frame) (after first) (after job) (after spawn) (after join)) r ⌝ }
 {
-    match read_header(s, powers, at, j, before, frame) {
+    match read_header(s, powers, at, j, earlier, frame) {
         Header::Refused(cause) => Header::Refused(cause),
         Header::Is { size, next } => {
-            match read_actions(s, powers, next, j as u8, before, size, job, spawn, join) {
+            match read_actions(s, powers, next, j as u8, earlier, size, job, spawn, join) {
                 Progress::Refused(cause) => Header::Refused(cause),
                 Progress::At(end) => {
-                    first[j + 1] = (before + size) as u16;
+                    first[j + 1] = (earlier + size) as u16;
                     Header::Is {
-                        size: before + size,
+                        size: earlier + size,
                         next: end,
                     }
                 }
@@ -213,8 +220,10 @@ fn read_jobs(
     spawn: &mut [u16; 2048],
     join: &mut [u16; 2048],
 ) -> Body
-    requires { ⌜ (at ≤ 17) × (jobs ≤ 256) × (getD (now first) 0 0 ≡ 0) × ArraysLong (record { frame = now frame; first = now first; rows = record { job = now job; spawn = now spawn; join = now join } }) × PowersOfTwo (now powers) ⌝ }
-    ensures { λ r. ⌜ PlanRead (jobsAt (now (s .entry)) jobs 0 at) (record { frame = now (frame .exit); first = now (first .exit); rows = record { job = now (job .exit); spawn = now (spawn .exit); join = now (join .exit) } }) r ⌝ }
+    requires { ⌜ (at ≤ 17) × (jobs ≤ 256) × (getD (now first) 0 0 ≡ 0)
+        × ArraysLong (arrays (now frame) (now first) (now job) (now spawn) (now join)) × PowersOfTwo (now powers) ⌝ }
+    ensures { λ r. ⌜ PlanRead (jobsAt (before s) jobs 0 at)
+        (arrays (after frame) (after first) (after job) (after spawn) (after join)) r ⌝ }
 {
     let mut place = at;
     let mut actions = 0;
@@ -248,8 +257,9 @@ fn read_body(
     spawn: &mut [u16; 2048],
     join: &mut [u16; 2048],
 ) -> Body
-    requires { ⌜ (getD (now first) 0 0 ≡ 0) × ArraysLong (record { frame = now frame; first = now first; rows = record { job = now job; spawn = now spawn; join = now join } }) × PowersOfTwo (now powers) ⌝ }
-    ensures { λ r. ⌜ PlanRead (planAt (now (s .entry))) (record { frame = now (frame .exit); first = now (first .exit); rows = record { job = now (job .exit); spawn = now (spawn .exit); join = now (join .exit) } }) r ⌝ }
+    requires { ⌜ (getD (now first) 0 0 ≡ 0) × ArraysLong (arrays (now frame) (now first) (now job) (now spawn) (now join))
+        × PowersOfTwo (now powers) ⌝ }
+    ensures { λ r. ⌜ PlanRead (planAt (before s)) (arrays (after frame) (after first) (after job) (after spawn) (after join)) r ⌝ }
 {
     let Field::Cut {
         value: form,
@@ -277,7 +287,7 @@ fn read_body(
 // Zero bits fill the last byte, and nothing follows.
 fn filled(s: &[u8], powers: &[u64; 32], at: usize) -> bool
     requires { ⌜ (at < 2 ^ 16) × (at ≤ 8 * length (now s)) × PowersOfTwo (now powers) ⌝ }
-    ensures { λ r. ⌜ r ≡ fills (now (s .entry)) at ⌝ }
+    ensures { λ r. ⌜ r ≡ fills (before s) at ⌝ }
 {
     let fill = (8 - at % 8) % 8;
     let Field::Cut { value, next } = cut(s, powers, at, fill) else {
@@ -302,8 +312,9 @@ pub fn read_into(
     position: &mut [u8; 256],
     entering: &mut [u8; 2048],
 ) -> Found
-    requires { ⌜ Blank (record { jobs = 0; actions = 0; frame = now frame; first = now first; job = now job; spawn = now spawn; join = now join; parent = now parent; position = now position; entering = now entering }) ⌝ }
-    ensures { λ r. ⌜ ReadInto (now (s .entry)) r (record { jobs = jobsIn r; actions = actionsIn r; frame = now (frame .exit); first = now (first .exit); job = now (job .exit); spawn = now (spawn .exit); join = now (join .exit); parent = now (parent .exit); position = now (position .exit); entering = now (entering .exit) }) ⌝ }
+    requires { ⌜ Blank (flat 0 0 (now frame) (now first) (now job) (now spawn) (now join) (now parent) (now position) (now entering)) ⌝ }
+    ensures { λ r. ⌜ ReadInto (before s) r (flat (jobsIn r) (actionsIn r) (after frame) (after first) (after job) (after spawn)
+        (after join) (after parent) (after position) (after entering)) ⌝ }
 {
     let powers = power_table();
     match read_body(s, &powers, frame, first, job, spawn, join) {

@@ -1,15 +1,16 @@
 // The spawn rules and the join rules of a plan, over its flat arrays (document 01, "Plan").
-ghost use Prim.Native.Nat.{suc, _<_, _≤_};
+ghost use Prim.Native.Nat.{suc, _≤_};
 ghost use mathlib.Core.Path.{_≡_};
 ghost use lib.ListN.{length};
 ghost use lib.Dec.{T};
-ghost use Rattle.plan.specs.Plan.{Plan, total};
+ghost use Rattle.plan.specs.Contract.{Some, _⇒_, before, after};
+ghost use Rattle.plan.specs.Plan.{total};
 ghost use Rattle.plan.specs.Rules.{spawnRules, joinRules};
 ghost use Rattle.plan.specs.Flat.{Spawned, Entered};
 ghost use Rattle.plan.specs.Given.{SpawnsGiven, Unspawned, JoinsGiven, Unentered};
-ghost use Rattle.plan.specs.Kept.{Recorded, SpawnTold, AllTold, Counted, JoinTold};
-use crate::flat::wide8;
-use crate::flat::wide16;
+ghost use Rattle.plan.specs.Kept.{SpawnAt, SpawnsFrom, SpawnTold, AllTold, JoinAt, JoinsFrom, JoinTold};
+use numbers::wide8;
+use numbers::wide16;
 
 // Records what action k spawns, or tells that it may not spawn it. A position of 255 marks a job that no action has spawned:
 // the last position of a job is at most 254.
@@ -22,8 +23,9 @@ fn spawn_rule(
     parent: &mut [u8; 256],
     position: &mut [u8; 256],
 ) -> bool
-    requires { ⌜ ((p : Plan) × SpawnsGiven p jobs (total p) (now first) (now job) (now spawn) × (k < total p) × Recorded p k (now parent) (now position)) ⌝ }
-    ensures { λ r. ⌜ ((p : Plan) → SpawnsGiven p jobs (total p) (now (first .entry)) (now (job .entry)) (now (spawn .entry)) → k < total p → Recorded p k (now (parent .entry)) (now (position .entry)) → SpawnTold p (suc k) r (now (parent .exit)) (now (position .exit))) ⌝ }
+    requires { ⌜ Some (SpawnAt jobs k (now first) (now job) (now spawn) (now parent) (now position)) ⌝ }
+    ensures { λ r. ⌜ SpawnAt jobs k (before first) (before job) (before spawn) (before parent) (before position)
+        ⇒ SpawnTold (suc k) r (after parent) (after position) ⌝ }
 {
     let child = wide16(spawn[k]);
     if child == 0 {
@@ -55,8 +57,9 @@ fn spawns_kept(
     parent: &mut [u8; 256],
     position: &mut [u8; 256],
 ) -> bool
-    requires { ⌜ ((p : Plan) × SpawnsGiven p jobs actions (now first) (now job) (now spawn) × Recorded p 0 (now parent) (now position)) ⌝ }
-    ensures { λ r. ⌜ ((p : Plan) → SpawnsGiven p jobs actions (now (first .entry)) (now (job .entry)) (now (spawn .entry)) → Recorded p 0 (now (parent .entry)) (now (position .entry)) → SpawnTold p (total p) r (now (parent .exit)) (now (position .exit))) ⌝ }
+    requires { ⌜ Some (SpawnsFrom jobs actions (now first) (now job) (now spawn) (now parent) (now position)) ⌝ }
+    ensures { λ r. ⌜ SpawnsFrom jobs actions (before first) (before job) (before spawn) (before parent) (before position)
+        ⇒ (λ p. SpawnTold (total p) r (after parent) (after position) p) ⌝ }
 {
     let mut k = 0;
     while k < actions {
@@ -94,8 +97,9 @@ pub fn spawn_rules(
     parent: &mut [u8; 256],
     position: &mut [u8; 256],
 ) -> bool
-    requires { ⌜ ((p : Plan) × SpawnsGiven p jobs actions (now first) (now job) (now spawn)) × Unspawned (now parent) (now position) ⌝ }
-    ensures { λ r. ⌜ ((p : Plan) → SpawnsGiven p jobs actions (now (first .entry)) (now (job .entry)) (now (spawn .entry)) → (r ≡ spawnRules p) × (T r → Spawned p (now (parent .exit)) (now (position .exit)))) ⌝ }
+    requires { ⌜ Some (SpawnsGiven jobs actions (now first) (now job) (now spawn)) × Unspawned (now parent) (now position) ⌝ }
+    ensures { λ r. ⌜ SpawnsGiven jobs actions (before first) (before job) (before spawn)
+        ⇒ (λ p. (r ≡ spawnRules p) × (T r → Spawned p (after parent) (after position))) ⌝ }
 {
     if !spawns_kept(jobs, actions, first, job, spawn, parent, position) {
         return false;
@@ -114,8 +118,9 @@ fn join_rule(
     position: &[u8; 256],
     entering: &mut [u8; 2048],
 ) -> bool
-    requires { ⌜ ((p : Plan) × JoinsGiven p (total p) (now first) (now job) (now spawn) (now join) (now parent) (now position) × (k < total p) × Counted p k (now entering)) ⌝ }
-    ensures { λ r. ⌜ ((p : Plan) → JoinsGiven p (total p) (now (first .entry)) (now (job .entry)) (now (spawn .entry)) (now (join .entry)) (now (parent .entry)) (now (position .entry)) → k < total p → Counted p k (now (entering .entry)) → JoinTold p (suc k) r (now (entering .exit))) ⌝ }
+    requires { ⌜ Some (JoinAt k (now first) (now job) (now spawn) (now join) (now parent) (now position) (now entering)) ⌝ }
+    ensures { λ r. ⌜ JoinAt k (before first) (before job) (before spawn) (before join) (before parent) (before position) (before entering)
+        ⇒ JoinTold (suc k) r (after entering) ⌝ }
 {
     let j = wide8(job[k]);
     let sent = wide16(join[k]);
@@ -158,8 +163,9 @@ fn joins_kept(
     position: &[u8; 256],
     entering: &mut [u8; 2048],
 ) -> bool
-    requires { ⌜ ((p : Plan) × JoinsGiven p actions (now first) (now job) (now spawn) (now join) (now parent) (now position) × Counted p 0 (now entering)) ⌝ }
-    ensures { λ r. ⌜ ((p : Plan) → JoinsGiven p actions (now (first .entry)) (now (job .entry)) (now (spawn .entry)) (now (join .entry)) (now (parent .entry)) (now (position .entry)) → Counted p 0 (now (entering .entry)) → JoinTold p (total p) r (now (entering .exit))) ⌝ }
+    requires { ⌜ Some (JoinsFrom actions (now first) (now job) (now spawn) (now join) (now parent) (now position) (now entering)) ⌝ }
+    ensures { λ r. ⌜ JoinsFrom actions (before first) (before job) (before spawn) (before join) (before parent) (before position)
+        (before entering) ⇒ (λ p. JoinTold (total p) r (after entering) p) ⌝ }
 {
     let mut k = 0;
     while k < actions {
@@ -183,8 +189,10 @@ pub fn join_rules(
     position: &[u8; 256],
     entering: &mut [u8; 2048],
 ) -> bool
-    requires { ⌜ ((p : Plan) × JoinsGiven p actions (now first) (now job) (now spawn) (now join) (now parent) (now position)) × Unentered (now entering) ⌝ }
-    ensures { λ r. ⌜ ((p : Plan) → JoinsGiven p actions (now (first .entry)) (now (job .entry)) (now (spawn .entry)) (now (join .entry)) (now (parent .entry)) (now (position .entry)) → (r ≡ joinRules p) × (T r → Entered p (now (entering .exit)) × (length (now (entering .exit)) ≡ 2048))) ⌝ }
+    requires { ⌜ Some (JoinsGiven actions (now first) (now job) (now spawn) (now join) (now parent) (now position))
+        × Unentered (now entering) ⌝ }
+    ensures { λ r. ⌜ JoinsGiven actions (before first) (before job) (before spawn) (before join) (before parent) (before position)
+        ⇒ (λ p. (r ≡ joinRules p) × (T r → Entered p (after entering) × (length (after entering) ≡ 2048))) ⌝ }
 {
     joins_kept(actions, first, job, spawn, join, parent, position, entering)
 }

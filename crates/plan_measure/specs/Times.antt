@@ -1,11 +1,11 @@
 -- What functions that are no entries are given, and what they leave. No public entry cites these.
 --   at l k            == what stands at place k of an array
---   PathsGiven p ..   == the arrays hold the frames and the parents of the plan p
+--   PathsGiven .. p   == the arrays hold the frames and the parents of the plan p
 --   ends p j i        == when action i of job j is done at the earliest: the largest length of a chain that ends in it
 --   begins p j        == when the spawn of job j is done; 0 for the root
 --   placeOf p j       == the place of job j's first action
 --   TimesGiven p ..   == the arrays hold the actions of the plan p
---   MeasureGiven p .. == the arrays hold all that is measured of the plan p
+--   MeasureGiven .. p == the arrays hold all that is measured of the plan p
 --   JobGiven p j ..   == the same, with the places of the actions of job j
 --   TimedFrom p j ..  == the times of jobs j and up are known, from the spawn of each, and nothing told of when joins came
 --                        is too late
@@ -26,7 +26,7 @@ use Rattle.plan_measure.specs.Measure.{after}
 abbrev pub at : List ℕ → ℕ → ℕ
 at l k = getD l k 0
 
-pub record PathsGiven (p : Plan) (jobs : ℕ) (frameOf parentOf : List ℕ) : Type 0 where
+pub record PathsGiven (jobs : ℕ) (frameOf parentOf : List ℕ) (p : Plan) : Type 0 where
   pub rules : Accepted p
   pub count : jobs ≡ length p
   pub frames : Frames p frameOf
@@ -49,8 +49,8 @@ pub record TimesGiven (p : Plan) (first spawn join : List ℕ) : Type 0 where
   pub spawns : Spawns p spawn
   pub joins : Joins p join
 
-pub record MeasureGiven (p : Plan) (jobs actions : ℕ) (frameOf firstOf spawnOf joinOf parentOf : List ℕ) : Type 0 where
-  pub paths : PathsGiven p jobs frameOf parentOf
+pub record MeasureGiven (jobs actions : ℕ) (frameOf firstOf spawnOf joinOf parentOf : List ℕ) (p : Plan) : Type 0 where
+  pub paths : PathsGiven jobs frameOf parentOf p
   pub times : TimesGiven p firstOf spawnOf joinOf
   pub all : actions ≡ total p
 

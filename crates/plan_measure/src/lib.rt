@@ -2,13 +2,17 @@
 ghost use Prim.Native.Nat.{ℕ, suc, _+_, _-_, _<_, max};
 ghost use mathlib.Core.Path.{_≡_};
 ghost use lib.ListN.{length};
+ghost use Rattle.plan.specs.Contract.{Some, _⇒_, before, after};
 ghost use Rattle.plan.specs.Refusal.{accepted};
 ghost use Rattle.plan.specs.Plan.{Plan, size};
 ghost use Rattle.plan_measure.specs.Measure.{measured, measures, told, longest as longestOf, heaviest as heaviestOf};
-ghost use Rattle.plan_measure.specs.Times.{at, PathsGiven, ends, begins, TimesGiven, MeasureGiven, JobGiven, TimedFrom, SendGiven, Sent, PassGiven, Passed};
+ghost use Rattle.plan_measure.specs.Times.{at, PathsGiven, ends, begins, TimesGiven, MeasureGiven, JobGiven, TimedFrom};
+ghost use Rattle.plan_measure.specs.Times.{SendGiven, Sent, PassGiven, Passed};
+use numbers::larger;
+use numbers::units16;
+use numbers::wide8;
+use numbers::wide16;
 use plan::flat::Found;
-use plan::flat::wide8;
-use plan::flat::wide16;
 use plan::reader::read_into;
 use plan::refusal::Refusal;
 
@@ -24,12 +28,6 @@ pub enum Measured {
     Of(Measures),
 }
 
-fn larger(a: u32, b: u32) -> u32
-    ensures { λ r. ⌜ r ≡ max a b ⌝ }
-{
-    if a < b { b } else { a }
-}
-
 // Times are at most T∞, which is at most 2,048; 16 bits halve the arrays of `longest`.
 fn later(a: u16, b: u16) -> u16
     ensures { λ r. ⌜ r ≡ max a b ⌝ }
@@ -37,25 +35,19 @@ fn later(a: u16, b: u16) -> u16
     if a < b { b } else { a }
 }
 
-fn units(x: u16) -> u32
-    ensures { λ r. ⌜ (r ≡ x) × (r < 65536) ⌝ }
-{
-    x as u32
-}
-
 // S1: each job's path weight is its frame and its parent's path weight.
 fn heaviest<'a>(jobs: usize, frame: &'a [u16; 256], parent: &'a [u8; 256]) -> u32
-    requires { ⌜ ((p : Plan) × PathsGiven p jobs (now frame) (now parent)) ⌝ }
-    ensures { λ r. ⌜ ((p : Plan) → PathsGiven p jobs (now (frame .entry)) (now (parent .entry)) → r ≡ heaviestOf p) ⌝ }
+    requires { ⌜ Some (PathsGiven jobs (now frame) (now parent)) ⌝ }
+    ensures { λ r. ⌜ PathsGiven jobs (before frame) (before parent) ⇒ (λ p. r ≡ heaviestOf p) ⌝ }
 {
-    let root = units(frame[0]);
+    let root = units16(frame[0]);
     let mut path = [0u32; 256];
     path[0] = root;
     let mut most = root;
     let mut j = 1;
     while j < jobs {
         let q = wide8(parent[j]);
-        let weight = units(frame[j]) + path[q];
+        let weight = units16(frame[j]) + path[q];
         path[j] = weight;
         most = larger(most, weight);
         j += 1;
@@ -74,7 +66,8 @@ fn send_join(
     late: &mut [u16; 2048],
 )
     requires { ⌜ (length (now late) ≡ 2048) × SendGiven k (suc k) base spawned (at (now join)) (at (now time)) ⌝ }
-    ensures { λ _. ⌜ (length (now (late .exit)) ≡ 2048) × Sent k (suc k) base spawned (at (now (join .entry))) (at (now (time .entry))) (at (now (late .entry))) (at (now (late .exit))) ⌝ }
+    ensures { λ _. ⌜ (length (after late) ≡ 2048)
+        × Sent k (suc k) base spawned (at (before join)) (at (before time)) (at (before late)) (at (after late)) ⌝ }
 {
     let sent = wide16(join[k]);
     if sent == 0 {
@@ -95,7 +88,8 @@ fn send_joins(
     late: &mut [u16; 2048],
 )
     requires { ⌜ (length (now late) ≡ 2048) × SendGiven from end base spawned (at (now join)) (at (now time)) ⌝ }
-    ensures { λ _. ⌜ (length (now (late .exit)) ≡ 2048) × Sent from end base spawned (at (now (join .entry))) (at (now (time .entry))) (at (now (late .entry))) (at (now (late .exit))) ⌝ }
+    ensures { λ _. ⌜ (length (after late) ≡ 2048)
+        × Sent from end base spawned (at (before join)) (at (before time)) (at (before late)) (at (after late)) ⌝ }
 {
     let mut k = from;
     while k < end {
@@ -115,8 +109,11 @@ fn pass_child(
     time: &[u16; 2048],
     late: &mut [u16; 2048],
 )
-    requires { ⌜ (length (now late) ≡ 2048) × PassGiven k base spawned (at (now first)) (at (now spawn)) (at (now join)) (at (now time)) ⌝ }
-    ensures { λ _. ⌜ (length (now (late .exit)) ≡ 2048) × Passed k base spawned (at (now (first .entry))) (at (now (spawn .entry))) (at (now (join .entry))) (at (now (time .entry))) (at (now (late .entry))) (at (now (late .exit))) ⌝ }
+    requires { ⌜ (length (now late) ≡ 2048)
+        × PassGiven k base spawned (at (now first)) (at (now spawn)) (at (now join)) (at (now time)) ⌝ }
+    ensures { λ _. ⌜ (length (after late) ≡ 2048)
+        × Passed k base spawned (at (before first)) (at (before spawn)) (at (before join)) (at (before time)) (at (before late))
+        (at (after late)) ⌝ }
 {
     let child = wide16(spawn[k]);
     if child == 0 {
@@ -143,8 +140,13 @@ fn time_job(
     time: &mut [u16; 2048],
     late: &mut [u16; 2048],
 ) -> u16
-    requires { ⌜ (length (now time) ≡ 2048) × (length (now late) ≡ 2048) × ((p : Plan) × (j : ℕ) × JobGiven p j base end (now first) (now spawn) (now join) × TimedFrom p (suc j) (at (now time)) (at (now late))) ⌝ }
-    ensures { λ r. ⌜ (length (now (time .exit)) ≡ 2048) × (length (now (late .exit)) ≡ 2048) × ((p : Plan) (j : ℕ) → JobGiven p j base end (now (first .entry)) (now (spawn .entry)) (now (join .entry)) → TimedFrom p (suc j) (at (now (time .entry))) (at (now (late .entry))) → TimedFrom p j (at (now (time .exit))) (at (now (late .exit))) × (r + begins p j ≡ ends p j (size p j - 1))) ⌝ }
+    requires { ⌜ (length (now time) ≡ 2048) × (length (now late) ≡ 2048)
+        × ((p : Plan) × (j : ℕ) × JobGiven p j base end (now first) (now spawn) (now join)
+        × TimedFrom p (suc j) (at (now time)) (at (now late))) ⌝ }
+    ensures { λ r. ⌜ (length (after time) ≡ 2048) × (length (after late) ≡ 2048)
+        × ((p : Plan) (j : ℕ) → JobGiven p j base end (before first) (before spawn) (before join)
+        → TimedFrom p (suc j) (at (before time)) (at (before late))
+        → TimedFrom p j (at (after time)) (at (after late)) × (r + begins p j ≡ ends p j (size p j - 1))) ⌝ }
 {
     let mut done = 0;
     let mut k = base;
@@ -166,7 +168,8 @@ fn longest<'a>(
     join: &'a [u16; 2048],
 ) -> u32
     requires { ⌜ ((p : Plan) × TimesGiven p (now first) (now spawn) (now join) × (jobs ≡ length p)) ⌝ }
-    ensures { λ r. ⌜ ((p : Plan) → TimesGiven p (now (first .entry)) (now (spawn .entry)) (now (join .entry)) → jobs ≡ length p → r ≡ longestOf p) ⌝ }
+    ensures { λ r. ⌜ ((p : Plan) → TimesGiven p (before first) (before spawn) (before join) → jobs ≡ length p
+        → r ≡ longestOf p) ⌝ }
 {
     let mut time = [0u16; 2048];
     let mut late = [0u16; 2048];
@@ -184,7 +187,7 @@ fn longest<'a>(
             &mut late,
         );
     }
-    units(most)
+    units16(most)
 }
 
 // T1, T∞ and S1 of the plan that the arrays hold.
@@ -197,8 +200,9 @@ pub fn measure_read<'a>(
     join: &'a [u16; 2048],
     parent: &'a [u8; 256],
 ) -> Measures
-    requires { ⌜ ((p : Plan) × MeasureGiven p jobs actions (now frame) (now first) (now spawn) (now join) (now parent)) ⌝ }
-    ensures { λ r. ⌜ ((p : Plan) → MeasureGiven p jobs actions (now (frame .entry)) (now (first .entry)) (now (spawn .entry)) (now (join .entry)) (now (parent .entry)) → accepted r ≡ measured (accepted p)) ⌝ }
+    requires { ⌜ Some (MeasureGiven jobs actions (now frame) (now first) (now spawn) (now join) (now parent)) ⌝ }
+    ensures { λ r. ⌜ MeasureGiven jobs actions (before frame) (before first) (before spawn) (before join) (before parent)
+        ⇒ (λ p. accepted r ≡ measured (accepted p)) ⌝ }
 {
     Measures {
         actions: actions as u32,
@@ -209,7 +213,7 @@ pub fn measure_read<'a>(
 
 // T1, T∞ and S1 of the plan that the bytes hold, or why they are turned down.
 pub fn measure(bytes: &[u8]) -> Measured
-    ensures { λ r. ⌜ told r ≡ measures (now (bytes .entry)) ⌝ }
+    ensures { λ r. ⌜ told r ≡ measures (before bytes) ⌝ }
 {
     let mut frame = [0u16; 256];
     let mut first = [0u16; 257];

@@ -1,6 +1,4 @@
 -- What holds of the definitions in specs/, in named modules.
-pub mod Puts
-pub mod PlanBits
 pub mod OpenTable
 pub mod RoundTrip
 pub mod Rows

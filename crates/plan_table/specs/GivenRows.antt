@@ -1,9 +1,7 @@
--- What private functions that take rows over, write rows and write bytes are given and answer. No public entry cites these.
---   RowsGiven p ..   == the arrays that the rows are written from hold the plan p
+-- What private functions that take rows over and write rows are given and answer. No public entry cites these.
+--   RowsGiven .. p   == the arrays that the rows are written from hold the plan p
 --   rowAt t at       == the row whose four numbers stand at `at` of the table t
 --   fitsAt t at      == that row has small numbers and may stand where it stands: first, or below the row before it
---   Laid p ..        == the arrays hold the plan p, whose numbers are in range
---   BitsGiven p .., WriterGiven p .. == the arrays that the plan's bytes are written from hold the plan p
 --   TakeGiven t ..   == the table t keeps its row rules, and the arrays are ready to take its rows
 --   Taken rows r ..  == what taking rows over into the arrays answers: they hold the rows' plan, or a number is out of range
 use Prim.Native.Nat.{ℕ, _+_, _-_, _*_, _≤_}
@@ -20,9 +18,10 @@ use Rattle.plan.specs.Plan.{Plan, total}
 use Rattle.plan.specs.Rules.{inRange}
 use Rattle.plan.specs.Test.{both}
 use Rattle.plan_table.specs.Table.{Row, rowsOf, small, goesOn, rowRules, planOf}
-use Rattle.plan.specs.Flat.{Frames, Firsts, Jobs, Spawns, Joins}
+use Rattle.plan.specs.Flat.{Frames, Jobs, Spawns, Joins}
+use Rattle.plan_writer.specs.Given.{WriterGiven}
 
-pub record RowsGiven (p : Plan) (actions : ℕ) (frame job spawn join : List ℕ) : Type 0 where
+pub record RowsGiven (actions : ℕ) (frame job spawn join : List ℕ) (p : Plan) : Type 0 where
   pub few : total p ≤ 2048
   pub all : actions ≡ total p
   pub frames : Frames p frame
@@ -36,28 +35,6 @@ rowAt t at = record { job = getD t at 0; frame = getD t (at + 1) 0; spawn = getD
 unfoldable pub fitsAt : List ℕ → ℕ → Bool
 fitsAt t at =
     both (small (rowAt t at)) (elim (eqb at 0) [ true ↦ eqb (getD t at 0) 0 | false ↦ goesOn (rowAt t (at - 4)) (rowAt t at) ])
-
-pub record Laid (p : Plan) (jobs : ℕ) (frame first job spawn join : List ℕ) : Type 0 where
-  pub range : T (inRange p)
-  pub count : jobs ≡ length p
-  pub frames : Frames p frame
-  pub firsts : Firsts p first
-  pub owners : Jobs p job
-  pub spawns : Spawns p spawn
-  pub joins : Joins p join
-
-pub record BitsGiven (p : Plan) (jobs actions : ℕ) (spawn join : List ℕ) : Type 0 where
-  pub range : T (inRange p)
-  pub count : jobs ≡ length p
-  pub all : actions ≡ total p
-  pub spawns : Spawns p spawn
-  pub joins : Joins p join
-
-pub record WriterGiven (p : Plan) (jobs actions : ℕ) (frame first job spawn join : List ℕ) : Type 0 where
-  pub laid : Laid p jobs frame first job spawn join
-  pub all : actions ≡ total p
-  pub children : (k : ℕ) → getD spawn k 0 ≤ 256
-  pub targets : (k : ℕ) → getD join k 0 ≤ 256
 
 pub record TakeGiven (table : List ℕ) (rows : ℕ) (frame first job spawn join : List ℕ) : Type 0 where
   pub whole : length table ≡ 4 * rows
@@ -74,4 +51,4 @@ pub record TakeGiven (table : List ℕ) (rows : ℕ) (frame first job spawn join
 
 abbrev pub Taken : List Row → Counted → List ℕ → List ℕ → List ℕ → List ℕ → List ℕ → Type 0
 Taken rows (Refused cause) frame first job spawn join = (cause ≡ Range) × (inRange (planOf rows) ≡ false)
-Taken rows (Count n) frame first job spawn join = WriterGiven (planOf rows) n (length rows) frame first job spawn join
+Taken rows (Count n) frame first job spawn join = WriterGiven n (length rows) frame first job spawn join (planOf rows)

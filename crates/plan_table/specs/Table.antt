@@ -18,7 +18,7 @@ use Rattle.plan.specs.Test.{both, either, all}
 use Rattle.plan.specs.Plan.{Action, Job, Plan, total}
 use Rattle.plan.specs.Rules.{inRange, spawnRules, joinRules}
 use Rattle.plan.specs.Reader.{readPlan}
-use Rattle.plan.specs.Writer.{planBytes}
+use Rattle.plan_writer.specs.Writer.{planBytes}
 
 -- the rows of the actions of job j, whose frame is f
 abbrev pub tableIn : ℕ → ℕ → List Action → List ℕ

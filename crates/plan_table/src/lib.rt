@@ -1,23 +1,22 @@
 // The open table (document 01, "Plan"): a plan's bytes into a table, and a table into a plan's bytes.
 ghost use mathlib.Core.Path.{_≡_};
-ghost use Rattle.plan.specs.Plan.{Plan};
-ghost use Rattle.plan_table.specs.GivenRows.{WriterGiven};
+ghost use Rattle.plan.specs.Contract.{Some, _⇒_, before, after};
+ghost use Rattle.plan_writer.specs.Given.{WriterGiven};
 ghost use Rattle.plan_table.specs.Table.{toTable, toPlan, answerOf, encoded, ruled};
 
 mod rows;
-mod writer;
 
 use crate::rows::Jobs;
 use crate::rows::table_rules;
 use crate::rows::take_rows;
 use crate::rows::write_rows;
-use crate::writer::plan_bits;
-use crate::writer::write_plan;
 use plan::flat::Found;
 use plan::reader::read_into;
 use plan::refusal::Refusal;
 use plan::rules::join_rules;
 use plan::rules::spawn_rules;
+use plan_writer::plan_bits;
+use plan_writer::write_plan;
 
 // The number of rows or bytes written, or why nothing was.
 pub enum Answer {
@@ -27,7 +26,7 @@ pub enum Answer {
 
 // Writes the open table of the plan that the bytes hold, and tells the number of rows.
 pub fn plan_to_table(bytes: &[u8], rows: &mut [u16]) -> Answer
-    ensures { λ r. ⌜ record { answer = answerOf r; buffer = now (rows .exit) } ≡ toTable (now (bytes .entry)) (now (rows .entry)) ⌝ }
+    ensures { λ r. ⌜ record { answer = answerOf r; buffer = after rows } ≡ toTable (before bytes) (before rows) ⌝ }
 {
     let mut frame = [0u16; 256];
     let mut first = [0u16; 257];
@@ -70,8 +69,9 @@ fn encode(
     spawn: &[u16; 2048],
     join: &[u16; 2048],
 ) -> Answer
-    requires { ⌜ ((p : Plan) × WriterGiven p jobs rows (now frame) (now first) (now job) (now spawn) (now join)) ⌝ }
-    ensures { λ r. ⌜ ((p : Plan) → WriterGiven p jobs rows (now (frame .entry)) (now (first .entry)) (now (job .entry)) (now (spawn .entry)) (now (join .entry)) → record { answer = answerOf r; buffer = now (bytes .exit) } ≡ encoded (ruled p) (now (bytes .entry))) ⌝ }
+    requires { ⌜ Some (WriterGiven jobs rows (now frame) (now first) (now job) (now spawn) (now join)) ⌝ }
+    ensures { λ r. ⌜ WriterGiven jobs rows (before frame) (before first) (before job) (before spawn) (before join)
+        ⇒ (λ p. record { answer = answerOf r; buffer = after bytes } ≡ encoded (ruled p) (before bytes)) ⌝ }
 {
     let mut parent = [0u8; 256];
     let mut position = [255u8; 256];
@@ -99,7 +99,7 @@ fn encode(
 
 // Writes the plan bytes of the plan that an open table holds, and tells the number of bytes.
 pub fn table_to_plan(table: &[u16], bytes: &mut [u8]) -> Answer
-    ensures { λ r. ⌜ record { answer = answerOf r; buffer = now (bytes .exit) } ≡ toPlan (now (table .entry)) (now (bytes .entry)) ⌝ }
+    ensures { λ r. ⌜ record { answer = answerOf r; buffer = after bytes } ≡ toPlan (before table) (before bytes) ⌝ }
 {
     if !table_rules(table) {
         return Answer::Refused(Refusal::Table);

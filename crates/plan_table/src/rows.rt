@@ -5,18 +5,13 @@ ghost use mathlib.Core.List.{_++_};
 ghost use lib.ListN.{length, drop};
 ghost use lib.Dec.{eqb};
 ghost use Rattle.plan.specs.Test.{both};
-ghost use Rattle.plan.specs.Plan.{Plan};
+ghost use Rattle.plan.specs.Contract.{Some, _⇒_, before, after};
 ghost use Rattle.plan_table.specs.Table.{tableOf, rowRules, rowsOf};
 ghost use Rattle.plan_table.specs.GivenRows.{RowsGiven, fitsAt, TakeGiven, Taken};
-use plan::flat::wide8;
-use plan::flat::wide16;
+use numbers::double8;
+use numbers::wide8;
+use numbers::wide16;
 use plan::refusal::Refusal;
-
-fn narrow(x: u8) -> u16
-    ensures { λ r. ⌜ r ≡ x ⌝ }
-{
-    x as u16
-}
 
 // Writes the rows of the actions, in plan order.
 pub fn write_rows<'a>(
@@ -27,16 +22,17 @@ pub fn write_rows<'a>(
     join: &'a [u16; 2048],
     rows: &mut [u16],
 )
-    requires { ⌜ ((p : Plan) × RowsGiven p actions (now frame) (now job) (now spawn) (now join)) ⌝ }
+    requires { ⌜ Some (RowsGiven actions (now frame) (now job) (now spawn) (now join)) ⌝ }
     requires { ⌜ 4 * actions ≤ length (now rows) ⌝ }
-    ensures { λ r. ⌜ ((p : Plan) → RowsGiven p actions (now (frame .entry)) (now (job .entry)) (now (spawn .entry)) (now (join .entry)) → now (rows .exit) ≡ tableOf p ++ drop (4 * actions) (now (rows .entry))) ⌝ }
+    ensures { λ r. ⌜ RowsGiven actions (before frame) (before job) (before spawn) (before join)
+        ⇒ (λ p. after rows ≡ tableOf p ++ drop (4 * actions) (before rows)) ⌝ }
 {
     let mut k = 0;
     while k < actions {
         let at = 4 * k;
         let owner = job[k];
         let j = wide8(owner);
-        rows[at] = narrow(owner);
+        rows[at] = double8(owner);
         rows[at + 1] = frame[j];
         rows[at + 2] = spawn[k];
         rows[at + 3] = join[k];
@@ -47,7 +43,7 @@ pub fn write_rows<'a>(
 // A row may stand below the row before it.
 fn row_goes_on(table: &[u16], at: usize) -> bool
     requires { ⌜ (at % 4 ≡ 0) × (at + 4 ≤ length (now table)) ⌝ }
-    ensures { λ r. ⌜ r ≡ fitsAt (now (table .entry)) at ⌝ }
+    ensures { λ r. ⌜ r ≡ fitsAt (before table) at ⌝ }
 {
     if 256 < table[at + 2] {
         return false;
@@ -71,7 +67,7 @@ fn row_goes_on(table: &[u16], at: usize) -> bool
 
 // The table has whole rows, at least one, and keeps its row rules.
 pub fn table_rules(table: &[u16]) -> bool
-    ensures { λ r. ⌜ r ≡ both (eqb (length (now (table .entry)) % 4) 0) (rowRules (rowsOf (now (table .entry)))) ⌝ }
+    ensures { λ r. ⌜ r ≡ both (eqb (length (before table) % 4) 0) (rowRules (rowsOf (before table))) ⌝ }
 {
     if table.len() == 0 {
         return false;
@@ -107,7 +103,7 @@ pub fn take_rows(
     join: &mut [u16; 2048],
 ) -> Jobs
     requires { ⌜ TakeGiven (now table) rows (now frame) (now first) (now job) (now spawn) (now join) ⌝ }
-    ensures { λ r. ⌜ Taken (rowsOf (now (table .entry))) r (now (frame .exit)) (now (first .exit)) (now (job .exit)) (now (spawn .exit)) (now (join .exit)) ⌝ }
+    ensures { λ r. ⌜ Taken (rowsOf (before table)) r (after frame) (after first) (after job) (after spawn) (after join) ⌝ }
 {
     let mut k = 0;
     let mut jobs = 0;

@@ -2,9 +2,9 @@
 // order, and runs that tell the tempting errors apart. What it must print is written by tools/run_cases.rs, a second runner.
 mod cases;
 
-use scheduler::build::Built;
-use scheduler::build::Counts;
-use scheduler::build::build;
+use build::Built;
+use build::Counts;
+use build::build;
 
 fn main() {
     cases::group_0();

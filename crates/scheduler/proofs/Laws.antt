@@ -19,5 +19,3 @@ pub mod Standing
 pub mod Underway
 pub mod RunBytes
 pub mod RunAnswers
-pub mod Builds
-pub mod BuildClaim

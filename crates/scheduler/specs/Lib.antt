@@ -1,6 +1,5 @@
--- What a reader must believe of the entries: Entry and Build. The others say what private functions are given and leave.
+-- What a reader must believe of the entry: Entry. The others say what private functions are given and leave.
 pub mod Entry
-pub mod Build
 pub mod Machine
 pub mod TurnParts
 pub mod Requests

@@ -6,7 +6,7 @@ ghost use Prim.Native.Nat.{ℕ, _+_, _-_, _*_, _≤_, _<_};
 ghost use lib.ListN.{getD, set};
 ghost use Rattle.runs.specs.Turn.{takeBottom};
 ghost use Rattle.scheduler.specs.Machine.{Dequed, Given};
-use plan::flat::wide16;
+use numbers::wide16;
 use runs::worker::Worker;
 
 // Puts job j on the bottom of deque w. An empty deque starts at its first place again.

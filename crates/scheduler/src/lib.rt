@@ -1,7 +1,6 @@
 // The upper library of the build runner: it runs plans and writes their schedules. What a run is stands in crate `runs`.
 // It relies on what the crates below promise, and cites their laws only.
 mod account;
-pub mod build;
 mod count;
 mod deque;
 mod round;

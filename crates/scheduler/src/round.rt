@@ -21,8 +21,8 @@ use crate::seat::code_of;
 use crate::seat::worker_at;
 use crate::steal::second_half;
 use crate::turn::act;
-use plan::flat::wide8;
-use plan::flat::wide16;
+use numbers::wide8;
+use numbers::wide16;
 use runs::worker::Worker;
 
 // Writes the row of the action at place k: 12 bits of round and 4 of worker. It never sees the schedule's header.

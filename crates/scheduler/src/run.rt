@@ -12,9 +12,9 @@ ghost use Rattle.scheduler.specs.Loaded.{Loaded, Answered};
 ghost use Rattle.scheduler.specs.Header.{headerBytes};
 use crate::account::Account;
 use crate::round::round;
+use numbers::wide8;
+use numbers::wide16;
 use plan::flat::Found;
-use plan::flat::wide8;
-use plan::flat::wide16;
 use plan::reader::read_into;
 use plan::refusal::Refusal;
 use runs::tally::Tally;
@@ -141,7 +141,7 @@ fn write_header(schedule: &mut [u8], n: usize, actions: usize)
 }
 
 // Runs the plan that the arrays hold and writes its schedule. `missing` has how many joins enter each action.
-pub(crate) fn run_read<'a>(
+pub fn run_read<'a>(
     actions: usize,
     workers: u32,
     choices: &[u8],

@@ -18,7 +18,7 @@ use crate::account::Account;
 use crate::deque::take_top;
 use crate::seat::code_of;
 use crate::seat::worker_at;
-use plan::flat::wide8;
+use numbers::wide8;
 use runs::tally::Tally;
 use runs::worker::Worker;
 

@@ -12,8 +12,8 @@ ghost use Rattle.scheduler.specs.Machine.{Dequed, Acting, Acted};
 ghost use Rattle.scheduler.specs.TurnParts.{Sending, Sent, Settling};
 use crate::deque::push;
 use crate::deque::take_bottom;
-use plan::flat::wide8;
-use plan::flat::wide16;
+use numbers::wide8;
+use numbers::wide16;
 use runs::worker::Worker;
 
 // What a turn leaves of the worker, and the weight of the living frames after it.

@@ -9,15 +9,15 @@ use lib.Dec.{T}
 use Rattle.plan.specs.Refusal.{accepted}
 use Rattle.plan.specs.Plan.{Action, Plan, total}
 use Rattle.plan.specs.Rules.{inRange}
-use Rattle.plan.specs.Field.{bitsOf}
-use Rattle.plan.specs.Writer.{numberBits, actionsBits, jobsBits, planBits, planBytes}
+use Rattle.fields.specs.Field.{bitsOf}
+use Rattle.plan_writer.specs.Writer.{numberBits, actionsBits, jobsBits, planBits, planBytes}
 use Rattle.plan.proofs.Laws.Accepted.{accepted-kept}
-use Rattle.plan.proofs.Laws.Bits.{bitsOf-length}
-use Rattle.plan.proofs.Laws.PlanBytes.{planBytes-length}
+use Rattle.fields.proofs.Laws.Bits.{bitsOf-length}
+use Rattle.plan_writer.proofs.Laws.PlanBytes.{planBytes-length}
 use Rattle.plan.proofs.Laws.Spawning.{jobs-in-range, total-in-range}
 use Rattle.plan_table.specs.Table.{toTable, toPlan}
 use Rattle.plan_table.proofs.Laws.OpenTable.{readTable-rules}
-use Rattle.plan_table.proofs.Laws.Puts.{number-few}
+use Rattle.plan_writer.proofs.Laws.Numbers.{number-few}
 use Rattle.plan_table.proofs.Laws.RoundTrip.{toTable-told, toPlan-told}
 
 actions-few : (l : List Action) → length (actionsBits l) ≤ 18 * length l

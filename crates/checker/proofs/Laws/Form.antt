@@ -9,7 +9,7 @@ use lib.ListN.{length}
 use lib.Dec.{eqb}
 use borrow.Author.Tests.{eq-eqb, ne-eqb}
 use Rattle.plan.specs.Refusal.{refused}
-use Rattle.plan.specs.Field.{stop, Bytes}
+use Rattle.fields.specs.Field.{stop, Bytes}
 use Rattle.courses.specs.Schedule.{writtenAt, readSchedule}
 use Rattle.checker.specs.Formed.{Formed, Headed, word}
 use Rattle.checker.proofs.Laws.RowBytes.{rowsFrom, rows-read, rows-stop, rows-length, rows-held}

@@ -7,10 +7,10 @@ use native.Mathlib.Omega.{arith}
 use lib.Dec.{eqb, leb, eqb→eq, leb→le}
 use borrow.Author.Tests.{eq-eqb, le-leb}
 use Rattle.plan.specs.Test.{both}
-use Rattle.plan.specs.Field.{stop, step, then, fieldAt}
+use Rattle.fields.specs.Field.{stop, step, then, fieldAt}
 use Rattle.courses.specs.Schedule.{writtenAt}
 use Rattle.plan.proofs.Laws.Lists.{both-left, both-right, false-of}
-use Rattle.plan.proofs.Laws.Bits.{field-read}
+use Rattle.fields.proofs.Laws.Bits.{field-read}
 use Rattle.checker.specs.Formed.{Headed}
 
 not-headed : (s : List ℕ) (n k : ℕ) → writtenAt s n ≡ stop k → Headed s n 0

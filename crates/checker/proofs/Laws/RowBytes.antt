@@ -9,13 +9,13 @@ use lib.ListN.{length, getD, take, drop, take-append-drop, length-append}
 use lib.Seq.{drop-cons, length-take-le}
 use lib.Dec.{eqb}
 use borrow.Author.Tests.{eq-eqb, ne-eqb}
-use Rattle.plan.specs.Field.{bitsOf, bits, number, Bytes, stop, step, then, fieldAt}
+use Rattle.fields.specs.Field.{bitsOf, bits, number, Bytes, stop, step, then, fieldAt}
 use Rattle.courses.specs.Row.{Row, noRow}
 use Rattle.courses.specs.Schedule.{rowsAt}
 use Rattle.checker.specs.Rows.{RowsAt}
 use Rattle.checker.specs.Formed.{word}
 use Rattle.plan.proofs.Laws.Steps.{bool-cases}
-use Rattle.plan.proofs.Laws.Bits.{append-binary, bitsOf-binary, bitsOf-length, bits-length, bits-append, number-append, number-injective, number-bitsOf, field-seam, field-within}
+use Rattle.fields.proofs.Laws.Bits.{append-binary, bitsOf-binary, bitsOf-length, bits-length, bits-append, number-append, number-injective, number-bitsOf, field-seam, field-within}
 
 abbrev pub rowOfWord : ℕ → Row
 rowOfWord v = record { round = v / 16; worker = v % 16 }

@@ -11,13 +11,13 @@ use lib.Dec.{eqb, leb, le→leb, eqb-refl}
 use borrow.Author.Tests.{eq-eqb, ne-eqb}
 use Rattle.plan.specs.Refusal.{Outcome, refused, accepted}
 use Rattle.plan.specs.Test.{both}
-use Rattle.plan.specs.Field.{bitsOf, bits, Step, stop, step, fieldAt}
+use Rattle.fields.specs.Field.{bitsOf, bits, Step, stop, step, fieldAt}
 use Rattle.courses.specs.Row.{Row, noRow}
 use Rattle.courses.specs.Schedule.{rowsBits, scheduleBits, scheduleBytes, Written, rowsAt, writtenAt, readSchedule}
 use Rattle.plan.proofs.Laws.Lists.{true-of, both-intro}
-use Rattle.plan.proofs.Laws.Readings.{then-goes-on, unless-goes-on}
-use Rattle.plan.proofs.Laws.PlanBytes.{Rest, field-found}
-use Rattle.plan.proofs.Laws.Bits.{Binary, append-binary, bitsOf-binary, bitsOf-length, pack-length, bits-pack}
+use Rattle.fields.proofs.Laws.Readings.{then-goes-on, unless-goes-on}
+use Rattle.fields.proofs.Laws.Seams.{Rest, field-found}
+use Rattle.fields.proofs.Laws.Bits.{Binary, append-binary, bitsOf-binary, bitsOf-length, pack-length, bits-pack}
 
 -- a reading goes on
 when-goes-on : {B : Type 0} {r : Step B} (c : Bool) (k : ℕ) (m : Step B) → c ≡ true → m ≡ r

@@ -6,7 +6,7 @@ use mathlib.Core.List.{List}
 use lib.ListN.{length, take, drop, length-append}
 use Rattle.plan.specs.declared.refusal.Refusal.{Refusal}
 use Rattle.plan.specs.Refusal.{refused, numberOf}
-use Rattle.plan.specs.Field.{Bytes}
+use Rattle.fields.specs.Field.{Bytes}
 use Rattle.plan_table.specs.declared.Answer.{Answer}
 use Rattle.plan_table.specs.declared.Answer.the-variants.{Refused, Count}
 use Rattle.plan_table.specs.Table.{Written, written, toTable, toPlan, answerOf}

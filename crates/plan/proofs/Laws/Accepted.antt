@@ -8,7 +8,7 @@ use lib.Dec.{T}
 use Rattle.plan.specs.Refusal.{refused, accepted}
 use Rattle.plan.specs.Plan.{Plan}
 use Rattle.plan.specs.Rules.{inRange, spawnRules, joinRules, Accepted}
-use Rattle.plan.specs.Field.{stop, step}
+use Rattle.fields.specs.Field.{stop, step}
 use Rattle.plan.specs.Reader.{planAt, fills, judged, readPlan}
 use Rattle.plan.proofs.Laws.Steps.{bool-cases, step-cases, plan-next}
 

@@ -70,15 +70,15 @@ pub record Target (first parents positions : List ℕ) (j s d q w z : ℕ) : Typ
   pub begins : w ≡ getD first q 0
   pub ends : z ≡ getD first (q + 1) 0
 
-pub told-kept : (p : Plan) (k : ℕ) (l : List ℕ) → Counted p k l → JoinTold p k true l
+pub told-kept : (p : Plan) (k : ℕ) (l : List ℕ) → Counted p k l → JoinTold k true l p
 told-kept p k l r = record { kept = λ _. r; broken = λ f. absurd (f tt) }
 
-pub told-broken : (p : Plan) (k : ℕ) (l : List ℕ) → (T (joinRules p) → ⊥) → JoinTold p k false l
+pub told-broken : (p : Plan) (k : ℕ) (l : List ℕ) → (T (joinRules p) → ⊥) → JoinTold k false l p
 told-broken p k l f = record { kept = λ x. absurd x; broken = λ _. f }
 
 -- the arrays hold the plan's every action
-pub given-all : (p : Plan) (actions : ℕ) (first job spawn join parents positions : List ℕ) → JoinsGiven p actions first job spawn join parents positions
-    → JoinsGiven p (total p) first job spawn join parents positions
+pub given-all : (p : Plan) (actions : ℕ) (first job spawn join parents positions : List ℕ) → JoinsGiven actions first job spawn join parents positions p
+    → JoinsGiven (total p) first job spawn join parents positions p
 given-all p actions first job spawn join parents positions g =
     record {
       range = g .range;
@@ -91,7 +91,7 @@ given-all p actions first job spawn join parents positions g =
       spawned = g .spawned;
     }
 
-module _ (p : Plan) (k : ℕ) (first job spawn join parents positions : List ℕ) (g : JoinsGiven p (total p) first job spawn join parents positions) (h : k < total p) where
+module _ (p : Plan) (k : ℕ) (first job spawn join parents positions : List ℕ) (g : JoinsGiven (total p) first job spawn join parents positions p) (h : k < total p) where
   accepted : T (joinRules p) → Accepted p
   accepted t = record { range = g .range; spawns = g .rules; joins = t }
 
@@ -129,7 +129,7 @@ module _ (p : Plan) (k : ℕ) (first job spawn join parents positions : List ℕ
           few = r .few;
         }
 
-    pub counted-root : s ≡ 0 → j ≡ 0 → JoinTold p (suc k) true l
+    pub counted-root : s ≡ 0 → j ≡ 0 → JoinTold (suc k) true l p
     counted-root z y =
         told-kept p (suc k) l
         (counted-none z
@@ -137,7 +137,7 @@ module _ (p : Plan) (k : ℕ) (first job spawn join parents positions : List ℕ
         (rw (own ∙ y) (eqb-refl 0))))
 
     -- it must not be its job's last
-    pub told-last : s ≡ 0 → j ≢ 0 → (w : ℕ) → w ≡ getD first (j + 1) 0 → JoinTold p (suc k) (ltb (k + 1) w) l
+    pub told-last : s ≡ 0 → j ≢ 0 → (w : ℕ) → w ≡ getD first (j + 1) 0 → JoinTold (suc k) (ltb (k + 1) w) l p
     told-last z y w f =
         record {
           kept = λ t. let b = ltb→lt (k + 1) w t in counted-none z (later b);
@@ -167,12 +167,12 @@ module _ (p : Plan) (k : ℕ) (first job spawn join parents positions : List ℕ
           let st = placed-of p k h in
           rw own at (join-target p (accepted t) (here p k .job) (here p k .position) (s - 1) (st .known) (st .within) (omega (arith, st .join, sent)))
 
-      pub refused-root : j ≡ 0 → JoinTold p (suc k) false l
+      pub refused-root : j ≡ 0 → JoinTold (suc k) false l p
       refused-root z = told-broken p (suc k) l (λ t. omega (arith, allowed t .0))
 
       module _ (m : j ≢ 0) where
         -- the target is not after the spawn
-        pub refused-early : (d : ℕ) → d ≡ getD positions j 0 → s - 1 ≤ d → JoinTold p (suc k) false l
+        pub refused-early : (d : ℕ) → d ≡ getD positions j 0 → s - 1 ≤ d → JoinTold (suc k) false l p
         refused-early d f b =
             told-broken p (suc k) l (λ t. omega (arith, allowed t .2, g .spawned .spawns j (omega arith) known))
 
@@ -193,7 +193,7 @@ module _ (p : Plan) (k : ℕ) (first job spawn join parents positions : List ℕ
       allowed-there t = rw from (allowed (x .sends) t .1, allowed (x .sends) t .3)
 
       -- the parent has no such action
-      pub refused-outside : z ≤ w + (s - 1) → JoinTold p (suc k) false l
+      pub refused-outside : z ≤ w + (s - 1) → JoinTold (suc k) false l p
       refused-outside b = told-broken p (suc k) l (λ t. omega (arith, allowed-there t .0, begins, ends))
 
       module _ (inside : w + (s - 1) < z) where
@@ -214,7 +214,7 @@ module _ (p : Plan) (k : ℕ) (first job spawn join parents positions : List ℕ
             ∙ ap (λ a. a .spawn) (placed-at p q (s - 1 - 1) there b))
 
         -- the target is right after a spawn
-        pub refused-after-spawn : (getD spawn (w + (s - 1) - 1) 0 ≡ 0 → ⊥) → JoinTold p (suc k) false l
+        pub refused-after-spawn : (getD spawn (w + (s - 1) - 1) 0 ≡ 0 → ⊥) → JoinTold (suc k) false l p
         refused-after-spawn f = told-broken p (suc k) l (λ t. f (spawn-before ∙ allowed-there t .1))
 
         enters-here : T (enters p q (s - 1) (here p k))
@@ -225,7 +225,7 @@ module _ (p : Plan) (k : ℕ) (first job spawn join parents positions : List ℕ
         before = ap (λ n. getD l (n + (s - 1)) 0) begins ∙ r .counts q (s - 1) there within
 
         -- eight enter the target
-        pub refused-ninth : 8 ≤ getD l (w + (s - 1)) 0 → JoinTold p (suc k) false l
+        pub refused-ninth : 8 ≤ getD l (w + (s - 1)) 0 → JoinTold (suc k) false l p
         unfolding entering
         refused-ninth b =
             told-broken p (suc k) l
@@ -238,7 +238,7 @@ module _ (p : Plan) (k : ℕ) (first job spawn join parents positions : List ℕ
             ))
 
         pub counted-more : getD spawn (w + (s - 1) - 1) 0 ≡ 0 → getD l (w + (s - 1)) 0 < 8
-            → JoinTold p (suc k) true (set l (w + (s - 1)) (getD l (w + (s - 1)) 0 + 1))
+            → JoinTold (suc k) true (set l (w + (s - 1)) (getD l (w + (s - 1)) 0 + 1)) p
         counted-more f b =
             told-kept p (suc k) _
             (record {
@@ -327,6 +327,6 @@ module _ (p : Plan) (l : List ℕ) where
     all-entered =
         array-by (λ a. entering p (a .job) (a .position)) noPlaced l (placed p) (total p) (placed-length p) (r .long) (λ i b. entering-at i b .0)
 
-  pub joins-told : (told : Bool) → JoinTold p (total p) told l → (told ≡ joinRules p) × (T told → Entered p l × (length l ≡ 2048))
+  pub joins-told : (told : Bool) → JoinTold (total p) told l p → (told ≡ joinRules p) × (T told → Entered p l × (length l ≡ 2048))
   joins-told told t =
       (equal-tests told (joinRules p) (λ y. rules-kept (t .kept y)) (t .broken), λ y. (all-entered (t .kept y), t .kept y .whole))

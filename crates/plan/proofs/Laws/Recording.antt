@@ -30,15 +30,15 @@ spawner-at c (a ∷ l) (suc k) h e t =
     let n : T (spawning c a) → ⊥ = count-none (spawning c) (a ∷ take k l) e noPlaced 0 (omega arith) in
     spawner-miss c a l n ∙ spawner-at c l k (le-of-suc-le-suc h) (sym (count-miss (spawning c) a (take k l) n) ∙ e) t
 
-pub told-kept : (p : Plan) (k : ℕ) (P Q : List ℕ) → Recorded p k P Q → SpawnTold p k true P Q
+pub told-kept : (p : Plan) (k : ℕ) (P Q : List ℕ) → Recorded p k P Q → SpawnTold k true P Q p
 told-kept p k P Q r = record { kept = λ _. r; broken = λ f. absurd (f tt) }
 
-pub told-broken : (p : Plan) (k : ℕ) (P Q : List ℕ) → (T (spawnRules p) → ⊥) → SpawnTold p k false P Q
+pub told-broken : (p : Plan) (k : ℕ) (P Q : List ℕ) → (T (spawnRules p) → ⊥) → SpawnTold k false P Q p
 told-broken p k P Q f = record { kept = λ x. absurd x; broken = λ _. f }
 
 -- the arrays hold the plan's every action
-pub given-all : (p : Plan) (jobs actions : ℕ) (first job spawn : List ℕ) → SpawnsGiven p jobs actions first job spawn
-    → SpawnsGiven p jobs (total p) first job spawn
+pub given-all : (p : Plan) (jobs actions : ℕ) (first job spawn : List ℕ) → SpawnsGiven jobs actions first job spawn p
+    → SpawnsGiven jobs (total p) first job spawn p
 given-all p jobs actions first job spawn g =
     record { range = g .range; count = g .count; all = refl; firsts = g .firsts; owners = g .owners; spawns = g .spawns }
 
@@ -55,7 +55,7 @@ fits-by jobs a c e h b =
 fits-none : (jobs : ℕ) (a : Placed) → a .spawn ≡ 0 → T (spawnFits jobs a)
 fits-none jobs a e = rw e tt
 
-module _ (p : Plan) (jobs k : ℕ) (first job spawn : List ℕ) (g : SpawnsGiven p jobs (total p) first job spawn) (h : k < total p) where
+module _ (p : Plan) (jobs k : ℕ) (first job spawn : List ℕ) (g : SpawnsGiven jobs (total p) first job spawn p) (h : k < total p) where
   -- the action's position is its place less its job's first
   pub position-here : (q w : ℕ) → q ≡ getD job k 0 → w ≡ getD first q 0 → (w ≤ k) × (k - w ≡ here p k .position) × (k - w < 255)
   position-here q w e f =
@@ -87,7 +87,7 @@ module _ (p : Plan) (jobs k : ℕ) (first job spawn : List ℕ) (g : SpawnsGiven
     more-count c n = count-one-more (spawning c) (placed p) k noPlaced (omega (arith, placed-length p)) (spawns-here c n)
 
     -- the action spawns none
-    pub recorded-none : s ≡ 0 → SpawnTold p (suc k) true P Q
+    pub recorded-none : s ≡ 0 → SpawnTold (suc k) true P Q p
     recorded-none z =
         told-kept p (suc k) P Q
         (record {
@@ -102,16 +102,16 @@ module _ (p : Plan) (jobs k : ℕ) (first job spawn : List ℕ) (g : SpawnsGiven
       allowed t = spawn-fits (length p) (here p k) (s - 1) (spawn-allowed p t k h) (omega (arith, spawn-here))
 
       -- the child is no job
-      pub refused-many : jobs ≤ s - 1 → SpawnTold p (suc k) false P Q
+      pub refused-many : jobs ≤ s - 1 → SpawnTold (suc k) false P Q p
       refused-many m = told-broken p (suc k) P Q (λ t. omega (arith, allowed t, g .count))
 
       -- the child is not above its parent
-      pub refused-older : (q : ℕ) → q ≡ getD job k 0 → s - 1 ≤ q → SpawnTold p (suc k) false P Q
+      pub refused-older : (q : ℕ) → q ≡ getD job k 0 → s - 1 ≤ q → SpawnTold (suc k) false P Q p
       refused-older q o m = told-broken p (suc k) P Q (λ t. omega (arith, allowed t, job-at p job (g .owners) k h))
 
       module _ (b : s - 1 < jobs) where
         -- the child was spawned before
-        pub refused-twice : (getD Q (s - 1) 0 ≡ 255 → ⊥) → SpawnTold p (suc k) false P Q
+        pub refused-twice : (getD Q (s - 1) 0 ≡ 255 → ⊥) → SpawnTold (suc k) false P Q p
         refused-twice m =
             told-broken p (suc k) P Q
             (λ t. omega (
@@ -124,7 +124,7 @@ module _ (p : Plan) (jobs k : ℕ) (first job spawn : List ℕ) (g : SpawnsGiven
 
         -- the child is recorded
         pub recorded-new : (q w : ℕ) → q ≡ getD job k 0 → w ≡ getD first q 0 → q < s - 1 → getD Q (s - 1) 0 ≡ 255
-            → SpawnTold p (suc k) true (set P (s - 1) (getD job k 0)) (set Q (s - 1) (k - w))
+            → SpawnTold (suc k) true (set P (s - 1) (getD job k 0)) (set Q (s - 1) (k - w)) p
         unfolding parent spawnAt
         recorded-new q w o f l m =
             told-kept p (suc k) _ _

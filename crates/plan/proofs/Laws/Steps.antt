@@ -11,10 +11,10 @@ use lib.Dec.{T, eqb, ltb, leb, le→leb}
 use Rattle.plan.specs.Test.{both, either, all}
 use Rattle.plan.specs.Plan.{Action, Job, Plan, total}
 use Rattle.plan.specs.Rules.{jobInRange, inRange}
-use Rattle.plan.specs.Field.{Step, stop, step, then, fieldAt}
+use Rattle.fields.specs.Field.{Step, stop, step, then, fieldAt}
 use Rattle.plan.specs.Reader.{numberAt, actionAt, actionsAt, jobsAt, planAt}
 use Rattle.plan.specs.Progress.{Head, headerAt, jobAt}
-use Rattle.plan.proofs.Laws.Bits.{field-read, field-stop}
+use Rattle.fields.proofs.Laws.Bits.{field-read, field-stop}
 
 module _ {A B : Type 0} where
   -- what comes after a step that stands had a first step that stands

@@ -15,7 +15,7 @@ use Rattle.plan.proofs.Laws.Valid.{total-range}
 use Rattle.plan.proofs.Laws.Found.{Given}
 
 pub given-measured : (s : List ℕ) (f : FlatPlan) (g : Given s f)
-    → MeasureGiven (g .plan) (f .jobs) (f .actions) (f .frame) (f .first) (f .spawn) (f .join) (f .parent)
+    → MeasureGiven (f .jobs) (f .actions) (f .frame) (f .first) (f .spawn) (f .join) (f .parent) (g .plan)
 given-measured s f g =
     let h = g .holds in
     record {
@@ -24,7 +24,7 @@ given-measured s f g =
       all = h .actions;
     }
 
-module _ (p : Plan) (jobs actions : ℕ) (frame first spawn join parent : List ℕ) (g : MeasureGiven p jobs actions frame first spawn join parent) where
+module _ (p : Plan) (jobs actions : ℕ) (frame first spawn join parent : List ℕ) (g : MeasureGiven jobs actions frame first spawn join parent p) where
   pub measured-few : actions ≤ 2048
   measured-few = omega (arith, g .all, total-range p (g .paths .rules))
 

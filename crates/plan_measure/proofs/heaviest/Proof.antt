@@ -17,16 +17,16 @@ use Rattle.plan_measure.proofs.heaviest.Tie as tie
 abbrev Inv-loop : tie.InvT-loop
 Inv-loop jobs frame parent root path₀ most₀ j₀ path most j =
     (1 ≤ j) × (j ≤ jobs) × (jobs ≤ 256) × (length path ≡ 256)
-    × ((p : Plan) → PathsGiven p jobs frame parent → Weighed p j most (at path))
+    × ((p : Plan) → PathsGiven jobs frame parent p → Weighed p j most (at path))
 
 abbrev μ-loop : tie.MeasureT-loop
 μ-loop jobs frame parent root path₀ most₀ j₀ path most j = jobs - j
 
-element-copy-out-units : tie.Need-element-copy-out-units Inv-loop μ-loop
-element-copy-out-units c = search needs
+element-copy-out-units16 : tie.Need-element-copy-out-units16 Inv-loop μ-loop
+element-copy-out-units16 c = search needs
 
-units-requires : tie.Need-units-requires Inv-loop μ-loop
-units-requires c κs = search needs
+units16-requires : tie.Need-units16-requires Inv-loop μ-loop
+units16-requires c κs = search needs
 
 array-write-path : tie.Need-array-write-path Inv-loop μ-loop
 array-write-path c = search needs
@@ -42,7 +42,7 @@ loop-holds c =
       refl,
       λ p g.
           let ok = g .rules in
-          weighed-root p ok _ _ (c .units .ensures .0 ∙ frame-at p _ (g .frames) 0 (jobs-range p ok .0)) refl,
+          weighed-root p ok _ _ (c .units16 .ensures .0 ∙ frame-at p _ (g .frames) 0 (jobs-range p ok .0)) refl,
     )
 
 element-copy-out-wide8 : tie.Need-element-copy-out-wide8 Inv-loop μ-loop
@@ -51,14 +51,14 @@ element-copy-out-wide8 c = search needs
 wide8-requires : tie.Need-wide8-requires Inv-loop μ-loop
 wide8-requires c κs = search needs
 
-mul-units : tie.Need-mul-units Inv-loop μ-loop
-mul-units c = search needs
+mul-units16 : tie.Need-mul-units16 Inv-loop μ-loop
+mul-units16 c = search needs
 
-element-copy-out-units-2 : tie.Need-element-copy-out-units-2 Inv-loop μ-loop
-element-copy-out-units-2 c = search needs
+element-copy-out-units16-2 : tie.Need-element-copy-out-units16-2 Inv-loop μ-loop
+element-copy-out-units16-2 c = search needs
 
-units-requires-2 : tie.Need-units-requires-2 Inv-loop μ-loop
-units-requires-2 c κs = search needs
+units16-requires-2 : tie.Need-units16-requires-2 Inv-loop μ-loop
+units16-requires-2 c κs = search needs
 
 mul-weight : tie.Need-mul-weight Inv-loop μ-loop
 mul-weight c = omega (arith, c .before .before .wide8 .ensures)
@@ -77,7 +77,7 @@ add-weight c =
     let o = older p ok j (l .loop .inv .0) b in
     omega (
       arith,
-      c .units2 .ensures,
+      c .units162 .ensures,
       ap (at (l .loop .path)) q,
       l .loop .inv .4 p g .weights (parent p j) o,
       path-small p ok (parent p j) (omega arith),
@@ -112,7 +112,7 @@ loop-again c =
           let ok = g .rules in
           let b : j < length p = omega (arith, g .count) in
           let q : c .before .before .before .wide8 .result ≡ parent p j = c .before .before .before .wide8 .ensures .0 ∙ g .parents j (l .loop .inv .0) b in
-          let f : c .before .units2 .result ≡ job p j .frame = c .before .units2 .ensures .0 ∙ frame-at p _ (g .frames) j b in
+          let f : c .before .units162 .result ≡ job p j .frame = c .before .units162 .ensures .0 ∙ frame-at p _ (g .frames) j b in
           rw (c .larger .ensures) (weighed-more p ok j (l .loop .most) _ (at (l .loop .path)) _ (l .loop .inv .4 p g) (l .loop .inv .0) b
           (omega (arith, f, ap (at (l .loop .path)) q)) (getD-set-same (l .loop .path) j _ 0 (omega (arith, l .loop .inv, taken)))
           (λ k h. getD-set-other (l .loop .path) j k _ 0 (omega arith))),
@@ -130,15 +130,15 @@ heaviest-spec =
     (tie.spec
     Inv-loop
     μ-loop
-    element-copy-out-units
-    units-requires
+    element-copy-out-units16
+    units16-requires
     array-write-path
     loop-holds
     element-copy-out-wide8
     wide8-requires
-    mul-units
-    element-copy-out-units-2
-    units-requires-2
+    mul-units16
+    element-copy-out-units16-2
+    units16-requires-2
     mul-weight
     array-read-weight
     add-weight

@@ -89,13 +89,13 @@ loop-again c =
           (t, λ z. rw z at r),
     )
 
-units-requires : tie.Need-units-requires Inv-loop μ-loop
-units-requires c κs = tt
+units16-requires : tie.Need-units16-requires Inv-loop μ-loop
+units16-requires c κs = tt
 
 returns : tie.Need-returns Inv-loop μ-loop
 returns c = λ p g e.
     let l = c .before .before .loop in
-    c .units .ensures .0 ∙ root-longest p (g .rules) (l .most) (l .inv .4 p g e .1 (omega arith))
+    c .units16 .ensures .0 ∙ root-longest p (g .rules) (l .most) (l .inv .4 p g e .1 (omega arith))
 
 pub longest-spec : {M : Type 1} → statement M
 longest-spec =
@@ -115,5 +115,5 @@ longest-spec =
     time-job-requires
     loop-less
     loop-again
-    units-requires
+    units16-requires
     returns)

@@ -14,9 +14,9 @@ use Rattle.plan.specs.Flat.{Spawned}
 use Rattle.plan_table.specs.Table.{written, tableOf, tabled, toTable, rowsOf, rowRules, planOf, ruled, readTable, encoded, toPlan}
 use Rattle.plan.specs.Test.{both}
 use Rattle.plan.specs.Rules.{inRange, spawnRules, joinRules}
-use Rattle.plan.specs.Writer.{planBytes}
+use Rattle.plan_writer.specs.Writer.{planBytes}
 use Rattle.plan.specs.Given.{SpawnsGiven, JoinsGiven}
-use Rattle.plan_table.specs.GivenRows.{WriterGiven, BitsGiven}
+use Rattle.plan_writer.specs.Given.{WriterGiven, BitsGiven}
 use Rattle.plan.proofs.Laws.Lists.{true-of, of-true}
 use Rattle.plan_table.proofs.Laws.Rows.{table-length}
 
@@ -94,8 +94,8 @@ module _ (t buffer : List ℕ) where
 
 -- what the rules and the writer are given of the arrays
 
-module _ {p : Plan} {jobs actions : ℕ} {frame first job spawn join : List ℕ} (g : WriterGiven p jobs actions frame first job spawn join) where
-  pub spawns-given : SpawnsGiven p jobs actions first job spawn
+module _ {p : Plan} {jobs actions : ℕ} {frame first job spawn join : List ℕ} (g : WriterGiven jobs actions frame first job spawn join p) where
+  pub spawns-given : SpawnsGiven jobs actions first job spawn p
   spawns-given =
       record {
         range = g .laid .range;
@@ -107,7 +107,7 @@ module _ {p : Plan} {jobs actions : ℕ} {frame first job spawn join : List ℕ}
       }
 
   pub joins-given : (parent position : List ℕ) → spawnRules p ≡ true → Spawned p parent position
-      → JoinsGiven p actions first job spawn join parent position
+      → JoinsGiven actions first job spawn join parent position p
   joins-given parent position e s =
       record {
         range = g .laid .range;
@@ -120,6 +120,6 @@ module _ {p : Plan} {jobs actions : ℕ} {frame first job spawn join : List ℕ}
         spawned = s;
       }
 
-  pub bits-given : BitsGiven p jobs actions spawn join
+  pub bits-given : BitsGiven jobs actions spawn join p
   bits-given =
       record { range = g .laid .range; count = g .laid .count; all = g .all; spawns = g .laid .spawns; joins = g .laid .joins }

@@ -9,13 +9,13 @@ use lib.Seq.{take-at}
 use lib.Dec.{leb}
 use Rattle.plan.specs.Refusal.{Outcome, refused, accepted}
 use Rattle.plan.specs.Plan.{Plan, total}
-use Rattle.plan.specs.Field.{Bytes}
+use Rattle.fields.specs.Field.{Bytes}
 use Rattle.plan.specs.Reader.{readPlan}
-use Rattle.plan.specs.Writer.{planBytes}
+use Rattle.plan_writer.specs.Writer.{planBytes}
 use Rattle.plan_table.specs.Table.{tableOf, readTable, Written, written, tabled, toTable, encoded, toPlan}
 use Rattle.plan.proofs.Laws.Accepted.{accepted-kept}
 use Rattle.plan.proofs.Laws.Outcomes.{refused-accepted}
-use Rattle.plan.proofs.Laws.PlanBytes.{read-write, write-read}
+use Rattle.plan_writer.proofs.Laws.PlanBytes.{read-write, write-read}
 use Rattle.plan_table.proofs.Laws.Rows.{table-length}
 use Rattle.plan_table.proofs.Laws.OpenTable.{table-read-write, table-write-read, readTable-rules}
 

@@ -155,7 +155,7 @@ owners-few p l e =
     omega arith
 
 -- the k-th row of a plan's table, from the arrays that hold the plan
-pub row-given : (p : Plan) (n : ℕ) (frame owner spawn join : List ℕ) → RowsGiven p n frame owner spawn join → (k : ℕ) → k < n
+pub row-given : (p : Plan) (n : ℕ) (frame owner spawn join : List ℕ) → RowsGiven n frame owner spawn join p → (k : ℕ) → k < n
     → rowAt (tableOf p) (4 * k) ≡ record { job = getD owner k 0; frame = getD frame (getD owner k 0) 0; spawn = getD spawn k 0; join = getD join k 0 }
 row-given p n frame owner spawn join g k h =
     let l : k < total p = omega (arith, g .all) in

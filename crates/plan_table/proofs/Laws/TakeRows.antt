@@ -21,7 +21,9 @@ use Rattle.plan.specs.Plan.{Job, Plan, Placed, job, size, action, total, placed
 use Rattle.plan.specs.Rules.{jobInRange, inRange}
 use Rattle.plan.specs.Flat.{starts}
 use Rattle.plan_table.specs.Table.{Row, rowsOf, small, rowRules, planOf}
-use Rattle.plan_table.specs.GivenRows.{rowAt, WriterGiven, TakeGiven, Taken}
+use Rattle.plan_table.specs.GivenRows.{rowAt, TakeGiven, Taken}
+use Rattle.plan_writer.specs.Given.{WriterGiven}
+use Rattle.plan.proofs.Laws.Counts.{array-by}
 use Rattle.plan.proofs.Laws.Lists.{both-intro, both-left, both-right, all-at, all-by, false-of}
 use Rattle.plan.proofs.Laws.Placed.{
   start,
@@ -50,14 +52,6 @@ use Rattle.plan_table.proofs.Laws.Rows.{
 }
 
 -- lists by their places
-
-module _ {A : Type 0} where
-  pub array-by : (f : A → ℕ) (l : List ℕ) (m : List A) (d : A) → length m ≤ length l
-      → ((k : ℕ) → k < length m → getD l k 0 ≡ f (getD m k d)) → take (length m) l ≡ map f m
-  array-by f l [] d h e = refl
-  array-by f [] (x ∷ m) d h e = absurd (not-suc-le-zero h)
-  array-by f (y ∷ l) (x ∷ m) d h e =
-      ap₂ {C = List ℕ} (λ a b. a ∷ b) (e 0 (omega arith)) (array-by f l m d (le-of-suc-le-suc h) (λ k b. e (suc k) (omega arith)))
 
 starts-by : (o : ℕ) (p : List Job) (l : List ℕ) → length p < length l → ((j : ℕ) → j ≤ length p → getD l j 0 ≡ o + start p j)
     → take (suc (length p)) l ≡ starts o p
@@ -277,13 +271,13 @@ took-row p rows k jobs frame first owner spawn join a made filled t h few e g f 
 pub took-all : (p : Plan) (rows : List Row) (k jobs : ℕ) (frame first owner spawn join : List ℕ)
     → rowsFrom 0 p ≡ rows → Filled p → 1 ≤ length rows → length rows ≤ 2048 → k ≡ length rows
     → Took p rows k jobs frame first owner spawn join
-    → WriterGiven p jobs (length rows) frame first owner spawn join
+    → WriterGiven jobs (length rows) frame first owner spawn join p
 took-all p rows k jobs frame first owner spawn join made filled some few e g =
     record {
       laid = record {
         range = r;
         count = c;
-        frames = array-by (λ b. b .frame) frame p noJob (omega (arith, most, g .frames)) (λ j h. g .begun .framed j (omega (arith, c)));
+        frames = array-by (λ b. b .frame) noJob frame p (length p) refl (omega (arith, most, g .frames)) (λ j h. g .begun .framed j (omega (arith, c)));
         firsts = starts-by 0 p first (omega (arith, most, g .firsts)) (λ j h. begins j h (ℕ-discrete j (length p)));
         owners = placed-by (λ a. a .job) owner (omega (arith, n, g .owners)) (λ i h. g .jobs-copied i (omega (arith, n)) ∙ ap (λ a. a .job) (row i h));
         spawns = placed-by (λ a. a .spawn) spawn (omega (arith, n, g .spawns)) (λ i h. g .spawns-copied i (omega (arith, n)) ∙ ap (λ a. a .spawn) (row i h));
@@ -317,8 +311,7 @@ took-all p rows k jobs frame first owner spawn join made filled some few e g =
 
     placed-by : (f : Placed → ℕ) (l : List ℕ) → total p ≤ length l → ((i : ℕ) → i < total p → getD l i 0 ≡ f (getD (placed p) i noPlaced))
         → take (total p) l ≡ map f (placed p)
-    placed-by f l h e =
-        rw (← placed-length p) (array-by f l (placed p) noPlaced (omega (arith, placed-length p)) (λ i b. e i (omega (arith, placed-length p))))
+    placed-by f l h e = array-by f noPlaced l (placed p) (total p) (placed-length p) h e
 
 -- the rows of a table, taken over one by one
 
@@ -347,7 +340,7 @@ module _ (t : List ℕ) (n : ℕ) (whole : length t ≡ 4 * n) (few : n ≤ 2048
         took-row (planOf (rowsOf t)) (rowsOf t) k jobs frame first owner spawn join (rowAt t (4 * k)) (p .0) (p .1) (rows-small (rowsOf t) rules)
         (omega arith) (omega arith) (rowsOf-at t k (omega arith)) took f
 
-    pub table-taken : k ≡ n → WriterGiven (planOf (rowsOf t)) jobs (length (rowsOf t)) frame first owner spawn join
+    pub table-taken : k ≡ n → WriterGiven jobs (length (rowsOf t)) frame first owner spawn join (planOf (rowsOf t))
     unfolding rowRules
     table-taken e =
         let l = rowsOf-length t n whole in
@@ -387,7 +380,7 @@ module _ (t : List ℕ) (n : ℕ) (whole : length t ≡ 4 * n) (r : Counted) (fr
   pub taken-refused : (cause : Refusal) → r ≡ Refused cause → (cause ≡ Range) × (inRange (planOf (rowsOf t)) ≡ false)
   taken-refused cause e = rw e at taken
 
-  pub taken-count : (jobs : ℕ) → r ≡ Count jobs → WriterGiven (planOf (rowsOf t)) jobs n frame first owner spawn join
+  pub taken-count : (jobs : ℕ) → r ≡ Count jobs → WriterGiven jobs n frame first owner spawn join (planOf (rowsOf t))
   taken-count jobs e =
-      let g : WriterGiven (planOf (rowsOf t)) jobs (length (rowsOf t)) frame first owner spawn join = rw e at taken in
+      let g : WriterGiven jobs (length (rowsOf t)) frame first owner spawn join (planOf (rowsOf t)) = rw e at taken in
       rw (rowsOf-length t n whole) at g

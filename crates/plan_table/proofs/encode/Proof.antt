@@ -8,10 +8,10 @@ use borrow.Author.Tests.{not-true, not-false}
 use Rattle.plan.specs.Plan.{Plan}
 use Rattle.plan.specs.Rules.{spawnRules, joinRules}
 use Rattle.plan.specs.Flat.{Spawned}
-use Rattle.plan.specs.Writer.{planBytes}
-use Rattle.plan_table.specs.GivenRows.{WriterGiven}
+use Rattle.plan_writer.specs.Writer.{planBytes}
+use Rattle.plan_writer.specs.Given.{WriterGiven}
 use Rattle.plan.proofs.Laws.Lists.{of-true}
-use Rattle.plan.proofs.Laws.PlanBytes.{planBytes-length}
+use Rattle.plan_writer.proofs.Laws.PlanBytes.{planBytes-length}
 use Rattle.plan_table.proofs.Laws.Answers.{
   spawns-given,
   joins-given,
@@ -28,7 +28,7 @@ use Rattle.plan_table.proofs.encode.Tie as tie
 abbrev Given : tie.Start → Plan → Type 0
 Given s p =
     let a = s .args in
-    WriterGiven p (a .jobs) (a .rows) (a .frame .now) (a .first .now) (a .job .now) (a .spawn .now) (a .join .now)
+    WriterGiven (a .jobs) (a .rows) (a .frame .now) (a .first .now) (a .job .now) (a .spawn .now) (a .join .now) p
 
 -- the spawn rules are kept
 abbrev start : tie.Else1 → tie.Start
@@ -100,7 +100,7 @@ write-plan-requires : tie.Need-write-plan-requires
 write-plan-requires c κs =
     let b = c .before .before in
     let q = start (else1 (b .before)) .pre in
-    (q .0, q .1, omega (arith, bits b (q .0) (q .1), planBytes-length (q .0)))
+    (q .0, record { given = q .1; room = omega (arith, bits b (q .0) (q .1), planBytes-length (q .0)) })
 
 same-length : tie.Need-same-length
 same-length c = search needs

@@ -46,7 +46,7 @@ returns c =
     let g = given (c .before .before) in
     table-short _ _ (g .plan) (g .read) (omega (arith, g .holds .actions))
 
-rows-given : (c : tie.After-actions) → RowsGiven (given c .plan) (flat c .actions) (flat c .frame) (flat c .job) (flat c .spawn) (flat c .join)
+rows-given : (c : tie.After-actions) → RowsGiven (flat c .actions) (flat c .frame) (flat c .job) (flat c .spawn) (flat c .join) (given c .plan)
 rows-given c =
     let g = given c in
     let h = g .holds in

@@ -9,7 +9,7 @@ use lib.Dec.{T, eqb, eqb→eq}
 use borrow.Author.Tests.{not-true, not-false}
 use Rattle.plan.specs.Test.{both}
 use Rattle.plan_table.specs.Table.{rowsOf, rowRules, planOf}
-use Rattle.plan_table.specs.GivenRows.{WriterGiven}
+use Rattle.plan_writer.specs.Given.{WriterGiven}
 use Rattle.plan.proofs.Laws.Lists.{of-true, both-left, both-right}
 use Rattle.plan_table.proofs.Laws.TakeRows.{table-long, zeros-small, taken-refused, taken-count}
 use Rattle.plan_table.proofs.Laws.Answers.{plan-refused, plan-range, plan-ruled}
@@ -71,7 +71,7 @@ else1 c = c .before .before .before .before .before .before .before
 
 -- the arrays hold the rows' plan
 laid : (c : tie.After-jobs) → let l = c .before .before .take-rows .last .1 .1 in let t = table (else1 (c .before .before)) in
-    WriterGiven (planOf (rowsOf t)) (c .jobs .given .0 .0) (length t / 4) (l .0) (l .1 .0) (l .1 .1 .0) (l .1 .1 .1 .0) (l .1 .1 .1 .1 .0)
+    WriterGiven (c .jobs .given .0 .0) (length t / 4) (l .0) (l .1 .0) (l .1 .1 .0) (l .1 .1 .1 .0) (l .1 .1 .1 .1 .0) (planOf (rowsOf t))
 laid c =
     let r = c .before .before in
     let t = table (else1 r) in

@@ -6,12 +6,12 @@ use mathlib.Core.Path.{_≡_, refl, sym, ap, ap₂, _∙_}
 use mathlib.Core.List.{List, [], _∷_, _++_, append-assoc}
 use native.Mathlib.Omega.{arith}
 use lib.ListN.{length, getD}
-use Rattle.plan.specs.Field.{bitsOf, bits, number, Bytes}
-use Rattle.plan.specs.Writer.{pack}
+use Rattle.fields.specs.Field.{bitsOf, bits, number, Bytes}
+use Rattle.fields.specs.Field.{pack}
 use Rattle.courses.specs.Row.{Row, noRow}
 use Rattle.scheduler.specs.Header.{headerBytes}
 use Rattle.courses.specs.Schedule.{rowsBits, scheduleBits, scheduleBytes}
-use Rattle.plan.proofs.Laws.Bits.{append-binary, bitsOf-binary, number-append, number-injective, number-bitsOf, pack-bits}
+use Rattle.fields.proofs.Laws.Bits.{append-binary, bitsOf-binary, number-append, number-injective, number-bitsOf, pack-bits}
 
 abbrev pub rowBytes : List Row → List ℕ
 rowBytes [] = []

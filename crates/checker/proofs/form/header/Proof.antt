@@ -3,8 +3,8 @@ use native.Mathlib.Omega.{arith}
 use mathlib.Core.Path.{_≡_, ap, sym, _∙_}
 use borrow.Author.Needs.{needs}
 use denote.Ref.{now}
-use Rattle.plan.specs.Field.{PowersOfTwo, step, fieldAt, stepOf}
-use Rattle.plan.proofs.Laws.Bits.{field-read}
+use Rattle.fields.specs.Field.{PowersOfTwo, step, fieldAt, stepOf}
+use Rattle.fields.proofs.Laws.Bits.{field-read}
 use Rattle.checker.proofs.Laws.Header.{no-form, no-workers, no-actions, no-zeros, HeaderRead, headed-not, headed-by}
 use Rattle.checker.proofs.form.header.Statement.{statement}
 use Rattle.checker.proofs.form.header.Tie as tie

@@ -13,9 +13,9 @@ use lib.ListN.{length, drop, length-drop}
 use lib.Seq.{take-all}
 use lib.Dec.{eqb}
 use Rattle.plan.specs.Test.{both}
-use Rattle.plan.specs.Field.{step, fieldAt, stepOf, bits, number}
+use Rattle.fields.specs.Field.{step, fieldAt, stepOf, bits, number}
 use Rattle.plan.specs.Reader.{fills}
-use Rattle.plan.proofs.Laws.Bits.{bits-length, number-bitsOf, field-read, field-stop}
+use Rattle.fields.proofs.Laws.Bits.{bits-length, number-bitsOf, field-read, field-stop}
 use Rattle.plan.proofs.reader.filled.Statement.{statement}
 use Rattle.plan.proofs.reader.filled.Tie as tie
 

@@ -6,9 +6,9 @@ use mathlib.Core.Path.{_≡_, refl, ap, sym, _∙_}
 use mathlib.Core.List.{List}
 use borrow.Author.Needs.{needs}
 use denote.Ref.{now}
-use Rattle.plan.specs.Field.{step, then, fieldAt, stepOf}
+use Rattle.fields.specs.Field.{step, then, fieldAt, stepOf}
 use Rattle.plan.specs.Reader.{numberAt}
-use Rattle.plan.proofs.Laws.Bits.{field-read}
+use Rattle.fields.proofs.Laws.Bits.{field-read}
 use Rattle.plan.proofs.reader.number_at.Statement.{statement}
 use Rattle.plan.proofs.reader.number_at.Tie as tie
 

@@ -5,7 +5,7 @@ use mathlib.Core.Path.{_≡_, ap, sym, _∙_}
 use mathlib.Core.List.{List}
 use borrow.Author.Needs.{needs}
 use denote.Ref.{now}
-use Rattle.plan.specs.Field.{stop, step}
+use Rattle.fields.specs.Field.{stop, step}
 use Rattle.plan.specs.Reader.{numberAt, actionAt}
 use Rattle.plan.specs.Progress.{numberStep}
 use Rattle.plan.proofs.Laws.Steps.{number-stop, number-next}

@@ -10,7 +10,7 @@ use borrow.Author.Needs.{needs}
 use lib.ListN.{length, length-append}
 use Rattle.plan.specs.declared.reader.Progress.{Progress}
 use Rattle.plan.specs.Plan.{Action, placedIn}
-use Rattle.plan.specs.Field.{Step, stop, step}
+use Rattle.fields.specs.Field.{Step, stop, step}
 use Rattle.plan.specs.Reader.{actionAt, actionsAt}
 use Rattle.plan.specs.Progress.{Rows, RowsLong, Laid, ActionRead}
 use Rattle.plan.proofs.Laws.Steps.{after, action-next, actions-more, actions-out}

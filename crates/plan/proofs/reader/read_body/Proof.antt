@@ -10,9 +10,9 @@ use denote.Ref.{now}
 use lib.Dec.{eqb, ltb}
 use Rattle.plan.specs.Test.{either}
 use Rattle.plan.specs.Plan.{Plan}
-use Rattle.plan.specs.Field.{Step, stop, step, then, fieldAt, stepOf}
+use Rattle.fields.specs.Field.{Step, stop, step, then, fieldAt, stepOf}
 use Rattle.plan.specs.Reader.{jobsAt, planAt}
-use Rattle.plan.proofs.Laws.Bits.{field-read}
+use Rattle.fields.proofs.Laws.Bits.{field-read}
 use Rattle.plan.proofs.Laws.Steps.{either-right}
 use Rattle.plan.proofs.reader.read_body.Statement.{statement}
 use Rattle.plan.proofs.reader.read_body.Tie as tie

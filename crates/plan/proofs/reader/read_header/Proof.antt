@@ -9,9 +9,9 @@ use borrow.Author.Tests.{ne-eqb, lt-ltb, le-ltb}
 use denote.Ref.{now}
 use lib.Dec.{eqb, ltb}
 use Rattle.plan.specs.Test.{either}
-use Rattle.plan.specs.Field.{Step, stop, step, then, fieldAt, stepOf}
+use Rattle.fields.specs.Field.{Step, stop, step, then, fieldAt, stepOf}
 use Rattle.plan.specs.Progress.{Head, headerAt}
-use Rattle.plan.proofs.Laws.Bits.{field-read}
+use Rattle.fields.proofs.Laws.Bits.{field-read}
 use Rattle.plan.proofs.Laws.Steps.{either-right}
 use Rattle.plan.proofs.Laws.Written.{wrote-one}
 use Rattle.plan.proofs.reader.read_header.Statement.{statement}
@@ -72,7 +72,7 @@ enum-told-2 c = search needs
 
 -- the way on after a weight that is not 0
 went-on :
-    (c : tie.Else1) → headerAt (now (c .before .before .before .before .before .before .args .s)) (c .before .before .before .before .before .before .args .before) (c .before .before .before .before .before .before .args .at) ≡ sizeAt (now (c .before .before .before .before .before .before .args .s)) (c .before .before .before .before .before .before .args .before) (c .before .before .weight .given .0 .0) (c .before .before .weight .given .0 .1 .0)
+    (c : tie.Else1) → headerAt (now (c .before .before .before .before .before .before .args .s)) (c .before .before .before .before .before .before .args .earlier) (c .before .before .before .before .before .before .args .at) ≡ sizeAt (now (c .before .before .before .before .before .before .args .s)) (c .before .before .before .before .before .before .args .earlier) (c .before .before .weight .given .0 .0) (c .before .before .weight .given .0 .1 .0)
 went-on c = heavy _ _ _ _ _ (weight-read (c .before .before)) (c .if1 .left)
 
 returns-3 : tie.Need-returns-3

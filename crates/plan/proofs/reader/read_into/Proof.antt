@@ -12,7 +12,7 @@ use lib.Dec.{T}
 use Rattle.plan.specs.declared.reader.Body.{Body}
 use Rattle.plan.specs.Refusal.{refused, accepted}
 use Rattle.plan.specs.Plan.{Plan}
-use Rattle.plan.specs.Field.{Step}
+use Rattle.fields.specs.Field.{Step}
 use Rattle.plan.specs.Rules.{spawnRules, joinRules}
 use Rattle.plan.specs.Reader.{planAt, fills, readPlan}
 use Rattle.plan.specs.Flat.{Spawned, Entered, Holds}
@@ -30,7 +30,7 @@ module _ (s : List ℕ) (jobs actions next : ℕ) (a : Arrays) (b : PlanRead (pl
   ends : (next < 2 ^ 16) × (next ≤ 8 * length s)
   ends = let r = plan-next s (b .0) next (b .1) in (r .1, r .2)
 
-  spawns-given : SpawnsGiven (b .0) jobs actions (a .first) (a .rows .job) (a .rows .spawn)
+  spawns-given : SpawnsGiven jobs actions (a .first) (a .rows .job) (a .rows .spawn) (b .0)
   spawns-given =
       record {
         range = planAt-range s (b .0) next (b .1);
@@ -47,7 +47,7 @@ module _ (s : List ℕ) (jobs actions next : ℕ) (a : Arrays) (b : PlanRead (pl
   module _
       (kept : Bool)
       (parents positions : List ℕ)
-      (q : (p : Plan) → SpawnsGiven p jobs actions (a .first) (a .rows .job) (a .rows .spawn) → (kept ≡ spawnRules p) × (T kept → Spawned p parents positions)) where
+      (q : (p : Plan) → SpawnsGiven jobs actions (a .first) (a .rows .job) (a .rows .spawn) p → (kept ≡ spawnRules p) × (T kept → Spawned p parents positions)) where
     no-spawns : (r : Bool) → r ≡ fills s next → not r ≡ false → not kept ≡ true → readPlan s ≡ refused 4
     no-spawns r e f g =
         read-spawn s (b .0) next (b .1) (sym e ∙ not-false r f) (sym (q (b .0) spawns-given .0) ∙ not-true kept g)
@@ -56,7 +56,7 @@ module _ (s : List ℕ) (jobs actions next : ℕ) (a : Arrays) (b : PlanRead (pl
       keeps-spawns : spawnRules (b .0) ≡ true
       keeps-spawns = sym (q (b .0) spawns-given .0) ∙ not-false kept g
 
-      joins-given : JoinsGiven (b .0) actions (a .first) (a .rows .job) (a .rows .spawn) (a .rows .join) parents positions
+      joins-given : JoinsGiven actions (a .first) (a .rows .job) (a .rows .spawn) (a .rows .join) parents positions (b .0)
       joins-given =
           record {
             range = planAt-range s (b .0) next (b .1);
@@ -72,7 +72,7 @@ module _ (s : List ℕ) (jobs actions next : ℕ) (a : Arrays) (b : PlanRead (pl
       module _
           (kept′ : Bool)
           (entering : List ℕ)
-          (q′ : (p : Plan) → JoinsGiven p actions (a .first) (a .rows .job) (a .rows .spawn) (a .rows .join) parents positions → (kept′ ≡ joinRules p) × (T kept′ → Entered p entering × (length entering ≡ 2048)))
+          (q′ : (p : Plan) → JoinsGiven actions (a .first) (a .rows .job) (a .rows .spawn) (a .rows .join) parents positions p → (kept′ ≡ joinRules p) × (T kept′ → Entered p entering × (length entering ≡ 2048)))
           (r : Bool)
           (e : r ≡ fills s next)
           (f : not r ≡ false) where

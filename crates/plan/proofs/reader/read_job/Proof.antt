@@ -6,7 +6,7 @@ use mathlib.Core.List.{List, [], _∷_}
 use borrow.Author.Needs.{needs}
 use Rattle.plan.specs.declared.reader.Header.{Header}
 use Rattle.plan.specs.declared.reader.Progress.{Progress}
-use Rattle.plan.specs.Field.{stop}
+use Rattle.fields.specs.Field.{stop}
 use Rattle.plan.specs.Reader.{actionsAt}
 use Rattle.plan.specs.Progress.{Rows, Wrote, jobAt, HeaderRead, ActionsRead, JobRead}
 use Rattle.plan.proofs.Laws.Steps.{header-next, actions-next}
@@ -43,7 +43,7 @@ cast-read-actions : tie.Need-cast-read-actions
 cast-read-actions c = search needs
 
 roomy :
-    (c : tie.After-size) → (c .size .given .0 .0 ≤ 255) × (c .before .before .before .before .before .args .before + c .size .given .0 .0 ≤ 2048) × (c .size .given .0 .1 .0 ≡ c .before .before .before .before .before .args .at + 24)
+    (c : tie.After-size) → (c .size .given .0 .0 ≤ 255) × (c .before .before .before .before .before .args .earlier + c .size .given .0 .0 ≤ 2048) × (c .size .given .0 .1 .0 ≡ c .before .before .before .before .before .args .at + 24)
 roomy c = room _ _ _ _ _ _ _ _ (rw (c .size .given .1) at (c .before .before .read-header .ensures))
 
 read-actions-requires : tie.Need-read-actions-requires

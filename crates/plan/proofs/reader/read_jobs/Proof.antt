@@ -11,7 +11,7 @@ use lib.ListN.{getD, length-append}
 use lib.Seq.{take-suc}
 use Rattle.plan.specs.declared.reader.Header.{Header}
 use Rattle.plan.specs.Plan.{Job, Plan}
-use Rattle.plan.specs.Field.{Step, stop, step}
+use Rattle.fields.specs.Field.{Step, stop, step}
 use Rattle.plan.specs.Reader.{jobsAt}
 use Rattle.plan.specs.Progress.{Arrays, ArraysLong, Held, JobRead, JobLaid, jobAt}
 use Rattle.plan.proofs.Laws.Steps.{after, job-next, jobs-more, jobs-stop}

@@ -26,29 +26,29 @@ target c =
 small : (c : tie.Else5) → c .before .before .before .wide163 .result + (c .before .before .before .before .before .before .before .before .before .before .before .before .wide16 .result - 1) < 2048
 small c =
     let x = c .before .before .before .before .before .before .before .before .before .before .before .before .before .before .before .before .pre in
-    target-small (x .0) _ _ _ _ _ _ _ (x .1) (x .2) _ (x .3) _ _ (c .before .before .before .before .before .before .before .before .before .before .before .before .before .before .wide8 .ensures .0) (c .before .before .before .before .before .before .before .before .before .before .before .before .wide16 .ensures .0) _ _ _ _ (target (c .before)) (c .if5 .left)
+    target-small (x .0) _ _ _ _ _ _ _ (x .1 .given) (x .1 .here) _ (x .1 .counted) _ _ (c .before .before .before .before .before .before .before .before .before .before .before .before .before .before .wide8 .ensures .0) (c .before .before .before .before .before .before .before .before .before .before .before .before .wide16 .ensures .0) _ _ _ _ (target (c .before)) (c .if5 .left)
 
 element-copy-out-wide8 : tie.Need-element-copy-out-wide8
-element-copy-out-wide8 c = let x = c .pre in omega (arith, total-in-range (x .0) (x .1 .range), x .2)
+element-copy-out-wide8 c = let x = c .pre in omega (arith, total-in-range (x .0) (x .1 .given .range), x .1 .here)
 
 wide8-requires : tie.Need-wide8-requires
 wide8-requires c κs = tt
 
 mul-wide16 : tie.Need-mul-wide16
-mul-wide16 c = let x = c .before .before .pre in omega (arith, total-in-range (x .0) (x .1 .range), x .2)
+mul-wide16 c = let x = c .before .before .pre in omega (arith, total-in-range (x .0) (x .1 .given .range), x .1 .here)
 
 element-copy-out-wide16 : tie.Need-element-copy-out-wide16
-element-copy-out-wide16 c = let x = c .before .before .pre in omega (arith, total-in-range (x .0) (x .1 .range), x .2)
+element-copy-out-wide16 c = let x = c .before .before .pre in omega (arith, total-in-range (x .0) (x .1 .given .range), x .1 .here)
 
 wide16-requires : tie.Need-wide16-requires
 wide16-requires c κs = tt
 
 returns : tie.Need-returns
 returns c =
-    λ p g b r. counted-root p _ _ _ _ _ _ _ g b _ r _ _ (c .before .before .before .before .wide8 .ensures .0) (c .before .before .wide16 .ensures .0) (c .before .if1 .taken) (c .if2 .taken)
+    λ p s. counted-root p _ _ _ _ _ _ _ (s .given) (s .here) _ (s .counted) _ _ (c .before .before .before .before .wide8 .ensures .0) (c .before .before .wide16 .ensures .0) (c .before .if1 .taken) (c .if2 .taken)
 
 add-result : tie.Need-add-result
-add-result c = let x = c .before .before .before .before .before .before .pre in omega (arith, total-in-range (x .0) (x .1 .range), x .2)
+add-result c = let x = c .before .before .before .before .before .before .pre in omega (arith, total-in-range (x .0) (x .1 .given .range), x .1 .here)
 
 add-wide16 : tie.Need-add-wide16
 add-wide16 c = omega arith
@@ -64,11 +64,11 @@ wide16-requires-2 c κs = tt
 
 returns-2 : tie.Need-returns-2
 returns-2 c =
-    λ p g h r. told-last p _ _ _ _ _ _ _ g h _ r _ _ (c .before .before .before .before .before .before .wide8 .ensures .0) (c .before .before .before .before .wide16 .ensures .0) (c .before .before .before .if1 .taken) (c .before .before .if2 .left) _ (c .wide162 .ensures .0)
+    λ p s. told-last p _ _ _ _ _ _ _ (s .given) (s .here) _ (s .counted) _ _ (c .before .before .before .before .before .before .wide8 .ensures .0) (c .before .before .before .before .wide16 .ensures .0) (c .before .before .before .if1 .taken) (c .before .before .if2 .left) _ (c .wide162 .ensures .0)
 
 returns-3 : tie.Need-returns-3
 returns-3 c =
-    λ p g h r. refused-root p _ _ _ _ _ _ _ g h _ r _ _ (c .before .before .before .before .wide8 .ensures .0) (c .before .before .wide16 .ensures .0) (c .before .if1 .left) (c .if3 .taken)
+    λ p s. refused-root p _ _ _ _ _ _ _ (s .given) (s .here) _ (s .counted) _ _ (c .before .before .before .before .wide8 .ensures .0) (c .before .before .wide16 .ensures .0) (c .before .if1 .left) (c .if3 .taken)
 
 sub-t : tie.Need-sub-t
 sub-t c = omega arith
@@ -81,7 +81,7 @@ wide8-requires-2 c κs = tt
 
 returns-4 : tie.Need-returns-4
 returns-4 c =
-    λ p g h r. refused-early p _ _ _ _ _ _ _ g h _ r _ _ (c .before .before .before .before .before .before .before .wide8 .ensures .0) (c .before .before .before .before .before .wide16 .ensures .0) (c .before .before .before .before .if1 .left) (c .before .before .before .if3 .left) _ (c .before .wide82 .ensures .0) (c .if4 .taken)
+    λ p s. refused-early p _ _ _ _ _ _ _ (s .given) (s .here) _ (s .counted) _ _ (c .before .before .before .before .before .before .before .wide8 .ensures .0) (c .before .before .before .before .before .wide16 .ensures .0) (c .before .before .before .before .if1 .left) (c .before .before .before .if3 .left) _ (c .before .wide82 .ensures .0) (c .if4 .taken)
 
 element-copy-out-wide8-3 : tie.Need-element-copy-out-wide8-3
 element-copy-out-wide8-3 c = omega arith
@@ -114,8 +114,8 @@ wide16-requires-4 : tie.Need-wide16-requires-4
 wide16-requires-4 c κs = tt
 
 returns-5 : tie.Need-returns-5
-returns-5 c = λ p g h r.
-    refused-outside p _ _ _ _ _ _ _ g h _ r _ _ (c .before .before .before .before .before .before .before .before .before .before .before .before .before .before .wide8 .ensures .0) (c .before .before .before .before .before .before .before .before .before .before .before .before .wide16 .ensures .0)
+returns-5 c = λ p s.
+    refused-outside p _ _ _ _ _ _ _ (s .given) (s .here) _ (s .counted) _ _ (c .before .before .before .before .before .before .before .before .before .before .before .before .before .before .wide8 .ensures .0) (c .before .before .before .before .before .before .before .before .before .before .before .before .wide16 .ensures .0)
     _ _ _ _ (target (c .before)) (c .if5 .taken)
 
 sub-if6 : tie.Need-sub-if6
@@ -128,16 +128,16 @@ element-copy-out-if6 : tie.Need-element-copy-out-if6
 element-copy-out-if6 c = omega (arith, small c)
 
 returns-6 : tie.Need-returns-6
-returns-6 c = λ p g h r.
-    refused-after-spawn p _ _ _ _ _ _ _ g h _ r _ _ (c .before .before .before .before .before .before .before .before .before .before .before .before .before .before .before .before .wide8 .ensures .0) (c .before .before .before .before .before .before .before .before .before .before .before .before .before .before .wide16 .ensures .0)
+returns-6 c = λ p s.
+    refused-after-spawn p _ _ _ _ _ _ _ (s .given) (s .here) _ (s .counted) _ _ (c .before .before .before .before .before .before .before .before .before .before .before .before .before .before .before .before .wide8 .ensures .0) (c .before .before .before .before .before .before .before .before .before .before .before .before .before .before .wide16 .ensures .0)
     _ _ _ _ (target (c .before .before .before)) (c .before .before .if5 .left) (c .if6 .taken)
 
 element-copy-out-if7 : tie.Need-element-copy-out-if7
 element-copy-out-if7 c = small (c .before .before)
 
 returns-7 : tie.Need-returns-7
-returns-7 c = λ p g h r.
-    refused-ninth p _ _ _ _ _ _ _ g h _ r _ _ (c .before .before .before .before .before .before .before .before .before .before .before .before .before .before .before .before .before .before .wide8 .ensures .0) (c .before .before .before .before .before .before .before .before .before .before .before .before .before .before .before .before .wide16 .ensures .0)
+returns-7 c = λ p s.
+    refused-ninth p _ _ _ _ _ _ _ (s .given) (s .here) _ (s .counted) _ _ (c .before .before .before .before .before .before .before .before .before .before .before .before .before .before .before .before .before .before .wide8 .ensures .0) (c .before .before .before .before .before .before .before .before .before .before .before .before .before .before .before .before .wide16 .ensures .0)
     _ _ _ _ (target (c .before .before .before .before .before)) (c .before .before .before .before .if5 .left) (c .if7 .taken)
 
 element-copy-out-entering : tie.Need-element-copy-out-entering
@@ -150,8 +150,8 @@ element-write-entering : tie.Need-element-write-entering
 element-write-entering c = small (c .before .before .before .before .before)
 
 returns-8 : tie.Need-returns-8
-returns-8 c = λ p g h r.
-    counted-more p _ _ _ _ _ _ _ g h _ r _ _ (c .before .before .before .before .before .before .before .before .before .before .before .before .before .before .before .before .before .before .before .wide8 .ensures .0) (c .before .before .before .before .before .before .before .before .before .before .before .before .before .before .before .before .before .wide16 .ensures .0)
+returns-8 c = λ p s.
+    counted-more p _ _ _ _ _ _ _ (s .given) (s .here) _ (s .counted) _ _ (c .before .before .before .before .before .before .before .before .before .before .before .before .before .before .before .before .before .before .before .wide8 .ensures .0) (c .before .before .before .before .before .before .before .before .before .before .before .before .before .before .before .before .before .wide16 .ensures .0)
     _ _ _ _ (target (c .before .before .before .before .before .before)) (c .before .before .before .before .before .if5 .left) (c .before .before .before .if6 .left) (c .before .if7 .left)
 
 pub join-rule-spec : {M : Type 1} → statement M

@@ -15,7 +15,7 @@ use Rattle.plan.proofs.rules.joins_kept.Tie as tie
 abbrev Inv-loop : tie.InvT-loop
 Inv-loop actions first job spawn join parent position entering₀ k₀ entering k =
     (k ≤ actions)
-    × ((p : Plan) → JoinsGiven p actions first job spawn join parent position → Counted p 0 entering₀ → Counted p k entering)
+    × ((p : Plan) → JoinsGiven actions first job spawn join parent position p → Counted p 0 entering₀ → Counted p k entering)
 
 abbrev μ-loop : tie.MeasureT-loop
 μ-loop actions first job spawn join parent position entering₀ k₀ entering k = actions - k
@@ -25,13 +25,21 @@ loop-holds c = (omega arith, λ p g r. r)
 
 join-rule-requires : tie.Need-join-rule-requires Inv-loop μ-loop
 join-rule-requires c κs =
-    let x = c .before .before .before .pre in
-    (x .0, given-all (x .0) _ _ _ _ _ _ _ (x .1), omega (arith, x .1 .all), c .before .before .loop .inv .1 (x .0) (x .1) (x .2))
+    let x = c .before .before .before .pre in (
+      x .0,
+      record {
+        given = given-all (x .0) _ _ _ _ _ _ _ (x .1 .given);
+        here = omega (arith, x .1 .given .all);
+        counted = c .before .before .loop .inv .1 (x .0) (x .1 .given) (x .1 .counted);
+      },
+    )
 
 returns : tie.Need-returns Inv-loop μ-loop
-returns c = λ p g r.
+returns c = λ p s.
+    let g = s .given in
+    let r = s .counted in
     told-broken p _ _
-    (c .before .join-rule .ensures p (given-all p _ _ _ _ _ _ _ g) (omega (arith, g .all)) (c .before .before .before .before .loop .inv .1 p g r) .broken
+    (c .before .join-rule .ensures p (record { given = given-all p _ _ _ _ _ _ _ g; here = omega (arith, g .all); counted = c .before .before .before .before .loop .inv .1 p g r }) .broken
     (not-passed (c .before .join-rule .result) (c .if1 .taken)))
 
 add-k : tie.Need-add-k Inv-loop μ-loop
@@ -44,12 +52,14 @@ loop-again : tie.Need-loop-again Inv-loop μ-loop
 loop-again c = (
   omega arith,
   λ p g r. rw add-one
-      (c .before .join-rule .ensures p (given-all p _ _ _ _ _ _ _ g) (omega (arith, g .all)) (c .before .before .before .before .loop .inv .1 p g r) .kept
+      (c .before .join-rule .ensures p (record { given = given-all p _ _ _ _ _ _ _ g; here = omega (arith, g .all); counted = c .before .before .before .before .loop .inv .1 p g r }) .kept
       (passed (c .before .join-rule .result) (c .if1 .left))),
 )
 
 returns-2 : tie.Need-returns-2 Inv-loop μ-loop
-returns-2 c = λ p g r.
+returns-2 c = λ p s.
+    let g = s .given in
+    let r = s .counted in
     let e : c .before .loop .k ≡ total p = omega (arith, g .all) in
     told-kept p _ _ (rw e at (c .before .loop .inv .1 p g r))
 

@@ -12,14 +12,14 @@ use Rattle.plan.proofs.rules.spawn_rules.Tie as tie
 spawns-kept-requires : tie.Need-spawns-kept-requires
 spawns-kept-requires c κs =
     let x = c .before .before .pre in
-    (x .0 .0, x .0 .1, recorded-start (x .0 .0) (x .0 .1 .range) _ _ (x .1))
+    (x .0 .0, record { given = x .0 .1; recorded = recorded-start (x .0 .0) (x .0 .1 .range) _ _ (x .1) })
 
 returns : tie.Need-returns
 returns c = λ p g.
     let k = c .before in (
       sym
           (false-of (spawnRules p)
-          (k .spawns-kept .ensures p g (recorded-start p (g .range) _ _ (k .before .before .before .pre .1)) .broken
+          (k .spawns-kept .ensures p (record { given = g; recorded = recorded-start p (g .range) _ _ (k .before .before .before .pre .1) }) .broken
           (not-passed (k .spawns-kept .result) (c .if1 .taken)))),
       λ x. absurd x,
     )
@@ -32,7 +32,7 @@ returns-2 : tie.Need-returns-2
 returns-2 c = λ p g.
     let k = c .before .before .before in
     spawns-told p _ _ _ (g .count)
-    (k .spawns-kept .ensures p g (recorded-start p (g .range) _ _ (k .before .before .before .pre .1)) .kept
+    (k .spawns-kept .ensures p (record { given = g; recorded = recorded-start p (g .range) _ _ (k .before .before .before .pre .1) }) .kept
     (passed (k .spawns-kept .result) (c .before .before .if1 .left))) _ (c .all-spawned .ensures)
 
 pub spawn-rules-spec : {M : Type 1} → statement M

@@ -16,7 +16,7 @@ use Rattle.plan_table.proofs.rows.write_rows.Tie as tie
 abbrev Inv-loop : tie.InvT-loop
 Inv-loop actions frame job spawn join rows₀ k₀ rows k =
     (k ≤ actions) × (actions ≤ 2048) × (4 * actions ≤ length rows₀) × (length rows ≡ length rows₀)
-    × ((p : Plan) → RowsGiven p actions frame job spawn join → rows ≡ take (4 * k) (tableOf p) ++ drop (4 * k) rows₀)
+    × ((p : Plan) → RowsGiven actions frame job spawn join p → rows ≡ take (4 * k) (tableOf p) ++ drop (4 * k) rows₀)
 
 abbrev μ-loop : tie.MeasureT-loop
 μ-loop actions frame job spawn join rows₀ k₀ rows k = actions - k
@@ -40,8 +40,8 @@ element-copy-out-owner c = omega (arith, room c)
 wide8-requires : tie.Need-wide8-requires Inv-loop μ-loop
 wide8-requires c κs = tt
 
-narrow-requires : tie.Need-narrow-requires Inv-loop μ-loop
-narrow-requires c κs = tt
+double8-requires : tie.Need-double8-requires Inv-loop μ-loop
+double8-requires c κs = tt
 
 mul-rows : tie.Need-mul-rows Inv-loop μ-loop
 mul-rows c = omega (arith, room (c .before .before .before))
@@ -111,7 +111,7 @@ loop-again c =
       omega arith,
       simp length-set (omega arith),
       λ p g.
-          rw (c .before .before .before .narrow .ensures, c .before .before .before .before .wide8 .ensures .0, e)
+          rw (c .before .before .before .double8 .ensures .0, c .before .before .before .before .wide8 .ensures .0, e)
           (written-row (tableOf p) (a .rows .now) (l .loop .rows) (4 * k) _ (omega (arith, table-length p, g .all)) (omega arith)
           (row-given p (a .actions) (a .frame .now) (a .job .now) (a .spawn .now) (a .join .now) g k (omega arith)) (l .loop .inv .4 p g)),
     )
@@ -134,7 +134,7 @@ write-rows-spec =
     mul-at
     element-copy-out-owner
     wide8-requires
-    narrow-requires
+    double8-requires
     mul-rows
     slice-write-rows
     mul-rows-2

@@ -1,0 +1,87 @@
+-- Demand 3's claim and the two sums, of the counts that a build answers.
+--   counts-bounded == they hold of the counts of a run
+--   build-claimed  == so of what `build` answers, whatever its input
+use Prim.Native.Nat.{ℕ, _+_}
+use mathlib.Core.Path.{_≡_, refl, sym, ap, _∙_}
+use mathlib.Core.Logic.{_⊎_, inl, inr}
+use mathlib.Core.Bool.{Bool, true, false}
+use mathlib.Core.List.{List}
+use native.Mathlib.Omega.{arith}
+use lib.ListN.{length, getD}
+use lib.Dec.{ltb}
+use Rattle.plan.specs.Refusal.{Outcome, refused, accepted}
+use Rattle.plan.specs.Plan.{Plan}
+use Rattle.plan.specs.Reader.{readPlan}
+use Rattle.plan.proofs.Laws.Accepted.{accepted-kept}
+use Rattle.plan.proofs.Laws.Outcomes.{refused-accepted}
+use Rattle.plan_measure.specs.declared.Measures.{Measures}
+use Rattle.plan_measure.specs.Measure.{work, longest, heaviest}
+use Rattle.runs.specs.Setting.{Setting, setting}
+use Rattle.runs.specs.Run.{run, admitted, runOf}
+use Rattle.runs.proofs.Laws.Fit.{Fit}
+use Rattle.runs.proofs.Laws.Admitted.{Stopped, Went, outcome}
+use Rattle.runs.proofs.Laws.Whole.{run-trace}
+use Rattle.runs.proofs.Laws.Coursed.{most-peak}
+use Rattle.runs.proofs.Laws.Demand3.{run-bounds}
+use Rattle.build.specs.declared.Counts.{Counts}
+use Rattle.build.specs.declared.Built.{Built}
+use Rattle.build.specs.Build.{countsOf, ranWith, choiceCount, planIn, choicesIn, buildOf, builtOf, CountBounds, Claimed}
+use Rattle.build.proofs.Laws.Builds.{counted}
+
+counts-bounded : {S : Setting} → Fit S
+    → CountBounds S (counted (run S .tally) (record { actions = work (S .plan); longest = longest (S .plan); path = heaviest (S .plan) }))
+counts-bounded {S} fit =
+    let b = run-bounds fit in
+    let (r, began, t, e, q) = run-trace fit in
+    record {
+      actions = b .actions;
+      longest-chain = refl;
+      heaviest-path = refl;
+      over = b .over;
+      most-rounds = omega (arith, b .most-rounds, b .actions);
+      least-rounds = b .least-rounds;
+      space = most-peak fit t e;
+      lone-peak = b .lone-peak;
+      lone-rounds = λ l. b .lone-rounds l ∙ sym (b .actions);
+      turns = b .turns;
+      requests = b .requests;
+    }
+
+module _ (plan : List ℕ) (n : ℕ) (choices : List ℕ) (c : Counts) where
+  abbrev Holds : Type 0
+  Holds = (p : Plan) × (readPlan plan ≡ accepted p) × CountBounds (setting p n choices) c
+
+  ran-claimed : ranWith plan n choices ≡ accepted c → Holds
+  unfolding ranWith countsOf runOf
+  ran-claimed e = by-plan (readPlan plan) refl e
+    where
+      by-run : (p : Plan) → readPlan plan ≡ accepted p → Stopped p n choices ⊎ Went p n choices
+          → countsOf (accepted p) (admitted (accepted p) n choices) ≡ accepted c → Holds
+      by-run p f (inl s) e = refused-accepted (sym (ap (countsOf (accepted p)) (s .not-run)) ∙ e)
+      by-run p f (inr w) e =
+          let fit : Fit (setting p n choices) = record { plan = accepted-kept plan p f; some = w .some; most = w .most } in
+          let measures : Measures = record { actions = work p; longest = longest p; path = heaviest p } in
+          let told : Counts = counted (run (setting p n choices) .tally) measures in
+          let x : _≡_ {A = Outcome Counts} (accepted told) (accepted c) = sym (ap (countsOf (accepted p)) (w .ran)) ∙ e in
+          let same : told ≡ c = cc in
+          (p, f, rw same at (counts-bounded fit))
+
+      by-plan : (o : Outcome Plan) → readPlan plan ≡ o → countsOf o (admitted o n choices) ≡ accepted c → Holds
+      by-plan (refused k) f e = refused-accepted e
+      by-plan (accepted p) f e = by-run p f (outcome p n choices) e
+
+-- the first three tests turn the input down
+tested : {A : Type 0} (a b c : Bool) (o : Outcome A) {x : A}
+    → elim a [ true ↦ refused 1 | false ↦ elim b [ true ↦ refused 8 | false ↦ elim c [ true ↦ refused 1 | false ↦ o ] ] ] ≡ accepted x
+    → o ≡ accepted x
+tested true b c o e = refused-accepted e
+tested false true c o e = refused-accepted e
+tested false false true o e = refused-accepted e
+tested false false false o e = e
+
+pub build-claimed : (input : List ℕ) (r : Built) → builtOf r ≡ buildOf input → Claimed input r
+unfolding buildOf
+build-claimed input r e c f =
+    ran-claimed (planIn input) (getD input 0 0) (choicesIn input) c
+    (tested (ltb (length input) 3) (ltb 4096 (choiceCount input)) (ltb (length input) (3 + choiceCount input))
+    (ranWith (planIn input) (getD input 0 0) (choicesIn input)) (sym e ∙ ap builtOf f))

@@ -1,0 +1,150 @@
+-- What a run into a schedule of 4,100 bytes tells of the build: the schedule fits, so what was answered is the build's own
+-- outcome. Then what the build's input asks for.
+use Prim.Native.Nat.{ℕ, _+_, _-_, _≤_, _<_}
+use mathlib.Core.Path.{_≡_, sym, ap, ap₂, _∙_}
+use mathlib.Core.Logic.{_⊎_, inl, inr}
+use mathlib.Core.List.{List, _++_}
+use native.Mathlib.Omega.{arith}
+use lib.ListN.{length, getD, take, drop, length-drop}
+use lib.Seq.{take-all}
+use borrow.Author.Tests.{le-leb, lt-ltb, le-ltb}
+use Rattle.plan.specs.Refusal.{Outcome, refused, accepted}
+use Rattle.plan.specs.Plan.{Plan}
+use Rattle.plan.specs.Rules.{Accepted}
+use Rattle.plan.specs.Reader.{readPlan}
+use Rattle.plan.proofs.Laws.Valid.{total-range}
+use Rattle.plan_measure.specs.declared.Measures.{Measures}
+use Rattle.plan_measure.specs.Measure.{work, longest, heaviest, measured}
+use Rattle.plan_measure.specs.Times.{MeasureGiven}
+use Rattle.runs.specs.Setting.{setting}
+use Rattle.runs.specs.declared.tally.Tally.{Tally}
+use Rattle.runs.specs.Run.{run, admitted, runOf}
+use Rattle.courses.specs.Schedule.{scheduleBytes}
+use Rattle.runs.proofs.Laws.Admitted.{Stopped, Went, outcome}
+use Rattle.scheduler.specs.Entry.{Result, resulted}
+use Rattle.scheduler.specs.Loaded.{Loaded}
+use Rattle.build.specs.declared.Counts.{Counts}
+use Rattle.build.specs.Build.{countsOf, ranWith, choiceCount, buildOf}
+use Rattle.scheduler.proofs.Laws.RunBytes.{run-fits}
+
+-- the counts that are printed, of a tally and of measures
+abbrev pub counted : Tally → Measures → Counts
+counted t m =
+    record {
+      rounds = t .rounds;
+      actions = t .actions;
+      longest = m .longest;
+      path = m .path;
+      peak = t .peak;
+      idle = t .idle;
+      requests = t .requests;
+      steals = t .steals;
+      misses = t .misses;
+    }
+
+-- the arrays that are run are measured too
+pub loaded-measured : (p : Plan) (jobs actions : ℕ) (frame first spawn join parent missing : List ℕ)
+    → Loaded p actions frame first spawn join parent missing → jobs ≡ length p → MeasureGiven jobs actions frame first spawn join parent p
+loaded-measured p jobs actions frame first spawn join parent missing g e =
+    let h = g .planned in
+    record {
+      paths = record { rules = h .accepted; count = e; frames = h .frames; parents = h .parents };
+      times = record { rules = h .accepted; firsts = h .firsts; spawns = h .spawns; joins = h .joins };
+      all = g .all;
+    }
+
+module _ (p : Plan) (ok : Accepted p) (n : ℕ) (choices schedule : List ℕ) (long : 4100 ≤ length schedule) where
+  abbrev answer : Outcome Tally
+  answer = resulted (admitted (accepted p) n choices) n schedule .answer
+
+  abbrev built : Outcome Counts
+  built = countsOf (accepted p) (admitted (accepted p) n choices)
+
+  -- the run is turned down, or its tally is answered
+  stopped-answer : (s : Stopped p n choices) → answer ≡ refused (s .cause)
+  unfolding resulted
+  stopped-answer s = ap (λ o. resulted o n schedule .answer) (s .not-run)
+
+  went-answer : Went p n choices → answer ≡ accepted (run (setting p n choices) .tally)
+  unfolding resulted
+  went-answer w =
+      let fits : length (scheduleBytes n (run (setting p n choices) .rows)) ≤ length schedule =
+      omega (arith, run-fits p n choices (record { plan = ok; some = w .some; most = w .most }), total-range p ok) in
+      let whole : resulted (admitted (accepted p) n choices) n schedule ≡ record {
+        answer = accepted (run (setting p n choices) .tally);
+        schedule = scheduleBytes n (run (setting p n choices) .rows) ++ drop (length (scheduleBytes n (run (setting p n choices) .rows))) schedule;
+      } = rw (w .ran, resulted, le-leb _ _ fits) in
+      ap (λ (r : Result). r .answer) whole
+
+  pub build-refused : (k : ℕ) → _≡_ {A = Outcome Tally} (refused k) answer → _≡_ {A = Outcome Counts} (refused k) built
+  unfolding countsOf
+  build-refused k e = go (outcome p n choices)
+    where
+      go : Stopped p n choices ⊎ Went p n choices → _≡_ {A = Outcome Counts} (refused k) built
+      go (inl s) =
+          let x : _≡_ {A = Outcome Tally} (refused k) (refused (s .cause)) = e ∙ stopped-answer s in
+          let i : k ≡ s .cause = cc in
+          ap (λ m. refused m) i ∙ sym (ap (countsOf (accepted p)) (s .not-run))
+      go (inr w) =
+          let x : _≡_ {A = Outcome Tally} (refused k) (accepted (run (setting p n choices) .tally)) = e ∙ went-answer w in
+          absurd (let z : _≡_ {A = ℕ} 0 1 = cc in omega arith)
+
+  pub build-counted : (t : Tally) (m : Measures) → _≡_ {A = Outcome Tally} (accepted t) answer
+      → _≡_ {A = Outcome Measures} (accepted m) (measured (accepted p)) → accepted (counted t m) ≡ built
+  unfolding countsOf measured
+  build-counted t m e q = go (outcome p n choices)
+    where
+      go : Stopped p n choices ⊎ Went p n choices → accepted (counted t m) ≡ built
+      go (inl s) =
+          let x : _≡_ {A = Outcome Tally} (accepted t) (refused (s .cause)) = e ∙ stopped-answer s in
+          absurd (let z : _≡_ {A = ℕ} 0 1 = cc in omega arith)
+      go (inr w) =
+          let x : _≡_ {A = Outcome Tally} (accepted t) (accepted (run (setting p n choices) .tally)) = e ∙ went-answer w in
+          let i : t ≡ run (setting p n choices) .tally = cc in
+          let j : m ≡ record { actions = work p; longest = longest p; path = heaviest p } = cc in
+          ap₂ (λ t m. accepted (counted t m)) i j ∙ sym (ap (countsOf (accepted p)) (w .ran))
+
+-- the build of bytes, by what reading them tells
+module _ (bytes : List ℕ) (n : ℕ) (choices : List ℕ) where
+  pub ran-refused : (k : ℕ) → readPlan bytes ≡ refused k → refused k ≡ ranWith bytes n choices
+  unfolding ranWith countsOf
+  ran-refused k e = rw e
+
+  pub ran-read : (p : Plan) (o : Outcome Counts) → readPlan bytes ≡ accepted p → o ≡ countsOf (accepted p) (admitted (accepted p) n choices)
+      → o ≡ ranWith bytes n choices
+  unfolding ranWith runOf
+  ran-read p o e q = q ∙ sym (ap (λ r. countsOf r (admitted r n choices)) e)
+
+-- what the input asks for, by its length and its choice count
+module _ (input : List ℕ) where
+  pub build-short : length input < 3 → refused 1 ≡ buildOf input
+  unfolding buildOf
+  build-short h = rw (buildOf, lt-ltb _ _ h)
+
+  module _ (count : ℕ) (e : count ≡ choiceCount input) (headed : 3 ≤ length input) where
+    pub build-crowded : 4096 < count → refused 8 ≡ buildOf input
+    unfolding buildOf
+    build-crowded h =
+        let g : 4096 < choiceCount input = rw e at h in
+        rw (buildOf, le-ltb _ _ headed, lt-ltb _ _ g)
+
+    module _ (few : count ≤ 4096) where
+      pub build-lacking : length input < 3 + count → refused 1 ≡ buildOf input
+      unfolding buildOf
+      build-lacking h =
+          let f : choiceCount input ≤ 4096 = rw e at few in
+          let g : length input < 3 + choiceCount input = rw e at h in
+          rw (buildOf, le-ltb _ _ headed, le-ltb _ _ f, lt-ltb _ _ g)
+
+      -- the parts that are lent: the choices, and all that is behind them
+      pub build-runs : (n : ℕ) → n ≡ getD input 0 0 → 3 + count ≤ length input
+          → ranWith (take (length input - (3 + count)) (drop (3 + count) input)) n (take (3 + count - 3) (drop 3 input)) ≡ buildOf input
+      unfolding buildOf
+      build-runs n u h =
+          let f : choiceCount input ≤ 4096 = rw e at few in
+          let g : 3 + choiceCount input ≤ length input = rw e at h in
+          let rest = take-all (length input - (3 + count)) (drop (3 + count) input) (omega (arith, length-drop (3 + count) input)) in
+          let long : 3 + count - 3 ≡ count = omega arith in
+          ap₂ (λ (plan : List ℕ) (k : ℕ). ranWith plan n (take k (drop 3 input))) rest long
+          ∙ (ap₂ (λ (k m : ℕ). ranWith (drop (3 + k) input) m (take k (drop 3 input))) e u
+          ∙ rw (buildOf, le-ltb _ _ headed, le-ltb _ _ f, le-ltb _ _ g))

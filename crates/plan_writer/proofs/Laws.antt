@@ -1,0 +1,4 @@
+-- What holds of the definitions in specs/, in named modules.
+pub mod PlanBytes
+pub mod Numbers
+pub mod PlanBits

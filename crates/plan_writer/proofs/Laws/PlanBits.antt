@@ -1,0 +1,187 @@
+-- The bits of a plan by the arrays that hold it, action by action in plan order.
+use Prim.Native.Nat.{ℕ, zero, suc, _+_, _*_, _-_, _/_, _≤_, _<_}
+use mathlib.Core.Path.{_≡_, sym, ap, ap₂, _∙_}
+use mathlib.Core.List.{List, [], _∷_, _++_, append-assoc, append-nil}
+use native.Mathlib.Omega.{arith}
+use native.Mathlib.Nat.{add-assoc, add-suc, suc-add, add-zero, zero-add, not-suc-le-zero}
+use native.Mathlib.Numerals.{add-one}
+use native.Mathlib.Decide.{decLe}
+use borrow.Author.Tests.{eq-eqb, ne-eqb}
+use lib.ListN.{length, getD, length-append}
+use Rattle.plan.specs.Plan.{Action, Job, Plan, job, size, action, total, noAction, noPlaced, placed}
+use Rattle.fields.specs.Field.{bitsOf}
+use Rattle.plan_writer.specs.Writer.{numberBits, actionsBits, jobsBits, planBits}
+use Rattle.plan.specs.Flat.{Spawns, Joins}
+use Rattle.plan_writer.specs.Given.{BitsGiven, WriterGiven}
+use Rattle.plan_writer.specs.ActionBits.{openingBits, actionBits, Writable}
+use Rattle.plan.proofs.Laws.Placed.{start, start-suc, placed-at, placed-of, place-below, first-at, frame-at, job-at, spawn-at, join-at}
+use Rattle.plan.proofs.Laws.Spawning.{jobs-in-range, size-in-range, total-in-range}
+use Rattle.plan_writer.proofs.Laws.Numbers.{number-few}
+
+-- f 0 ++ f 1 ++ .., the first k of them
+abbrev pub upTo : (ℕ → List ℕ) → ℕ → List ℕ
+upTo f zero = []
+upTo f (suc k) = upTo f k ++ f k
+
+pub upTo-rises : (f : ℕ → List ℕ) (k n : ℕ) → k ≤ n → length (upTo f k) ≤ length (upTo f n)
+upTo-rises f k zero h = let e : k ≡ 0 = omega arith in rw e (omega arith)
+upTo-rises f k (suc n) h = go (decLe k n) (upTo-rises f k n)
+  where
+    go : Dec (k ≤ n) → (k ≤ n → length (upTo f k) ≤ length (upTo f n)) → length (upTo f k) ≤ length (upTo f (suc n))
+    go (yes l) r = omega (arith, r l, length-append (upTo f n) (f n))
+    go (no m) r = let e : k ≡ suc n = omega arith in rw e (omega arith)
+
+abbrev numbers : Action → List ℕ
+numbers a = numberBits (a .spawn) ++ numberBits (a .join)
+
+-- what the action at position i of job b adds
+abbrev opening : Job → ℕ → List ℕ
+opening b zero = bitsOf 16 (b .frame) ++ bitsOf 8 (length (b .actions))
+opening b (suc i) = []
+
+abbrev added : Plan → ℕ → ℕ → List ℕ
+added p j i = opening (job p j) i ++ numbers (action p j i)
+
+regroup : (u a b c d : List ℕ) → (u ++ ((a ++ b) ++ c)) ++ d ≡ u ++ (a ++ (b ++ (c ++ d)))
+regroup u a b c d = simp append-assoc
+
+module _ (f : ℕ → List ℕ) where
+  actions-upTo : (s : ℕ) (l : List Action) → ((i : ℕ) → i < length l → f (s + i) ≡ numbers (getD l i noAction))
+      → upTo f (s + length l) ≡ upTo f s ++ actionsBits l
+  unfolding actionsBits
+  actions-upTo s [] h = rw (add-zero, append-nil)
+  actions-upTo s (a ∷ l) h =
+      let e : s + suc (length l) ≡ suc s + length l = omega arith in
+      let r : upTo f (suc s + length l) ≡ upTo f (suc s) ++ actionsBits l
+      = actions-upTo (suc s) l (λ i b. ap f (suc-add s i ∙ sym (add-suc s i)) ∙ h (suc i) (omega arith)) in
+      let g : f s ≡ numbers a = ap f (sym (add-zero s)) ∙ h 0 (omega arith) in
+      rw (e, r, g, append-assoc, append-assoc)
+
+  opened-upTo : (s : ℕ) (l : List Action) (x : List ℕ) → 1 ≤ length l → f s ≡ x ++ numbers (getD l 0 noAction)
+      → ((i : ℕ) → suc i < length l → f (suc s + i) ≡ numbers (getD l (suc i) noAction))
+      → upTo f (s + length l) ≡ upTo f s ++ (x ++ actionsBits l)
+  unfolding actionsBits
+  opened-upTo s [] x n g h = absurd (not-suc-le-zero n)
+  opened-upTo s (a ∷ l) x n g h =
+      let e : s + suc (length l) ≡ suc s + length l = omega arith in
+      let r = actions-upTo (suc s) l (λ i b. h i (omega arith)) in
+      rw (e, r, g, append-assoc, append-assoc, append-assoc)
+
+  jobs-upTo : (s : ℕ) (p : Plan) → ((j : ℕ) → j < length p → 1 ≤ size p j)
+      → ((j i : ℕ) → j < length p → i < size p j → f (s + (start p j + i)) ≡ added p j i)
+      → upTo f (s + total p) ≡ upTo f s ++ jobsBits p
+  unfolding jobsBits
+  jobs-upTo s [] n h = rw (add-zero, append-nil)
+  jobs-upTo s (b ∷ p) n h =
+      ap (λ (k : ℕ). upTo f k) (sym (add-assoc s (length (b .actions)) (total p)))
+      ∙ jobs-upTo (s + length (b .actions)) p (λ j l. n (suc j) (omega arith)) (λ j i l m. ap f (omega arith) ∙ h (suc j) i (omega arith) m)
+      ∙ ap (λ (l : List ℕ). l ++ jobsBits p)
+      (opened-upTo s (b .actions) (opening b 0) (n 0 (omega arith)) (ap f (sym (add-zero s)) ∙ h 0 0 (omega arith) (n 0 (omega arith)))
+      (λ i l. ap f (omega arith) ∙ h 0 (suc i) (omega arith) l))
+      ∙ regroup (upTo f s) (bitsOf 16 (b .frame)) (bitsOf 8 (length (b .actions))) (actionsBits (b .actions)) (jobsBits p)
+
+  -- with no headers
+  jobs-count : (s : ℕ) (p : Plan) → ((j i : ℕ) → j < length p → i < size p j → f (s + (start p j + i)) ≡ numbers (action p j i))
+      → length (upTo f (s + total p)) + 24 * length p ≡ length (upTo f s) + length (jobsBits p)
+  unfolding jobsBits
+  jobs-count s [] h = rw (add-zero s)
+  jobs-count s (b ∷ p) h =
+      let r = jobs-count (s + length (b .actions)) p (λ j i l m. ap f (omega arith) ∙ h (suc j) i (omega arith) m) in
+      let o = actions-upTo s (b .actions) (λ i l. ap f (omega arith) ∙ h 0 i (omega arith) l) in
+      let e = add-assoc s (length (b .actions)) (total p) in
+      let m : length (upTo f (s + length (b .actions))) ≡ length (upTo f s) + length (actionsBits (b .actions)) = rw o (length-append (upTo f s) (actionsBits (b .actions))) in
+      let n = length-append (actionsBits (b .actions)) (jobsBits p) in
+      rw (← e) (omega arith)
+
+pub opening-first : (frame first : List ℕ) (j k : ℕ) → getD first j 0 ≡ k
+    → openingBits frame first j k ≡ bitsOf 16 (getD frame j 0) ++ bitsOf 8 (getD first (j + 1) 0 - getD first j 0)
+unfolding openingBits
+opening-first frame first j k e = rw (openingBits, eq-eqb (getD first j 0) k e)
+
+pub opening-later : (frame first : List ℕ) (j k : ℕ) → (getD first j 0 ≡ k → ⊥) → openingBits frame first j k ≡ []
+unfolding openingBits
+opening-later frame first j k n = rw (openingBits, ne-eqb (getD first j 0) k n)
+
+-- what the two arrays of numbers hold at the place of action i of job j
+module _ (p : Plan) (spawn join : List ℕ) (spawns : Spawns p spawn) (joins : Joins p join) where
+  numbers-at : (j i : ℕ) → j < length p → i < size p j
+      → numberBits (getD spawn (start p j + i) 0) ++ numberBits (getD join (start p j + i) 0) ≡ numbers (action p j i)
+  numbers-at j i h b =
+      let l = place-below p j i h b in
+      let a = placed-at p j i h b in
+      let s = spawn-at p spawn spawns (start p j + i) l in
+      let t = join-at p join joins (start p j + i) l in
+      rw (s, t, a)
+
+-- the bits of the numbers alone, by place
+abbrev pub numbersAt : List ℕ → List ℕ → ℕ → List ℕ
+numbersAt spawn join k = numberBits (getD spawn k 0) ++ numberBits (getD join k 0)
+
+pub numbers-more : (spawn join : List ℕ) (k : ℕ)
+    → length (upTo (numbersAt spawn join) (k + 1)) ≡ length (upTo (numbersAt spawn join) k) + (length (numberBits (getD spawn k 0)) + length (numberBits (getD join k 0)))
+numbers-more spawn join k = rw (add-one, length-append, length-append)
+
+pub numbers-few : (spawn join : List ℕ) (k : ℕ) → length (upTo (numbersAt spawn join) k) ≤ 18 * k
+numbers-few spawn join zero = omega arith
+numbers-few spawn join (suc k) =
+    let m = rw add-one at (numbers-more spawn join k) in
+    omega (arith, numbers-few spawn join k, number-few (getD spawn k 0), number-few (getD join k 0))
+
+pub bits-bounds : (p : Plan) (jobs actions : ℕ) (spawn join : List ℕ) → BitsGiven jobs actions spawn join p → (jobs ≤ 256) × (actions ≤ 2048)
+bits-bounds p jobs actions spawn join g =
+    (rw (g .count) (jobs-in-range p (g .range) .1), rw (g .all) (total-in-range p (g .range) .1))
+
+pub plan-count : (p : Plan) (jobs actions : ℕ) (spawn join : List ℕ) → BitsGiven jobs actions spawn join p
+    → length (planBits p) ≡ 17 + 24 * jobs + length (upTo (numbersAt spawn join) actions)
+unfolding planBits
+plan-count p jobs actions spawn join g =
+    let c = jobs-count (numbersAt spawn join) 0 p (λ j i h b. rw zero-add (numbers-at p spawn join (g .spawns) (g .joins) j i h b)) in
+    rw (g .all, g .count) (omega (arith, rw (zero-add (total p)) at c))
+
+module _ (p : Plan) (jobs actions : ℕ) (frame first owner spawn join : List ℕ) (g : WriterGiven jobs actions frame first owner spawn join p) where
+  opening-at : (j i : ℕ) → j < length p → openingBits frame first j (start p j + i) ≡ opening (job p j) i
+  opening-at j zero h =
+      let a = first-at p first (g .laid .firsts) j (omega arith) in
+      let b = first-at p first (g .laid .firsts) (suc j) h in
+      let c = frame-at p frame (g .laid .frames) j h in
+      let d : start p (suc j) - start p j ≡ size p j = omega (arith, start-suc p j h) in
+      rw (opening-first frame first j (start p j + 0) (omega arith), add-one, b, a, d, c)
+  opening-at j (suc i) h = opening-later frame first j (start p j + suc i) (omega (arith, first-at p first (g .laid .firsts) j (omega arith)))
+
+  action-at : (j i : ℕ) → j < length p → i < size p j → actionBits frame first owner spawn join (start p j + i) ≡ added p j i
+  action-at j i h b =
+      let o = job-at p owner (g .laid .owners) (start p j + i) (place-below p j i h b) in
+      let a = placed-at p j i h b in
+      let e : getD owner (start p j + i) 0 ≡ j = rw a at o in
+      rw e (ap₂ (λ (x y : List ℕ). x ++ y) (opening-at j i h) (numbers-at p spawn join (g .laid .spawns) (g .laid .joins) j i h b))
+
+  -- all bits of the plan
+  pub plan-upTo : planBits p ≡ bitsOf 8 1 ++ (bitsOf 9 jobs ++ upTo (actionBits frame first owner spawn join) actions)
+  unfolding planBits
+  plan-upTo =
+      let f = actionBits frame first owner spawn join in
+      let u = jobs-upTo f 0 p (λ j h. size-in-range p (g .laid .range) j h .0) (λ j i h b. rw zero-add (action-at j i h b)) in
+      rw (g .all, g .laid .count, rw zero-add at u)
+
+  pub plan-room : (n : ℕ) → (length (planBits p) + 7) / 8 ≤ n → 17 + length (upTo (actionBits frame first owner spawn join) actions) ≤ 8 * n
+  plan-room n h = let e = ap (λ (l : List ℕ). length l) plan-upTo in omega arith
+
+  pub few-jobs : jobs ≤ 256
+  few-jobs = rw (g .laid .count) (jobs-in-range p (g .laid .range) .1)
+
+  pub place-writable : (k : ℕ) → k < actions → Writable first owner spawn join k
+  place-writable k h =
+      let l : k < total p = rw (g .all) at h in
+      let s = placed-of p k l in
+      let o = job-at p owner (g .laid .owners) k l in
+      let a = first-at p first (g .laid .firsts) (getD (placed p) k noPlaced .job) (omega (arith, s .known)) in
+      let b = first-at p first (g .laid .firsts) (suc (getD (placed p) k noPlaced .job)) (s .known) in
+      let c = start-suc p (getD (placed p) k noPlaced .job) (s .known) in
+      let z = size-in-range p (g .laid .range) (getD (placed p) k noPlaced .job) (s .known) in
+      record {
+        place = omega (arith, total-in-range p (g .laid .range));
+        rises = rw (o, add-one, a, b) (omega arith);
+        few = rw (o, add-one, a, b) (omega arith);
+        child = g .children k;
+        target = g .targets k;
+      }
