@@ -11,6 +11,7 @@ use Rattle.courses.specs.Row.{Row, noRow}
 use Rattle.runs.specs.declared.tally.Tally.{Tally}
 use Rattle.runs.specs.declared.worker.Worker.{Worker}
 use Rattle.runs.specs.declared.worker.Worker.the-variants.{Idle, Holding}
+use Rattle.runs.specs.Tally.{noCounts}
 
 -- each deque as its jobs, the bottom one first; a job that is stolen is taken from the other end, the top
 pub record State : Type 0 where
@@ -37,5 +38,5 @@ start p = record {
   workers = Holding 0 ∷ replicate 15 Idle;
   deques = replicate 16 [];
   rows = replicate (total p) noRow;
-  tally = record { rounds = 0; actions = 0; idle = 0; requests = 0; steals = 0; misses = 0; peak = job p 0 .frame };
+  tally = noCounts (job p 0 .frame);
 }

@@ -12,6 +12,7 @@ use lib.Dec.{eqb, ltb}
 use Rattle.runs.specs.declared.worker.Worker.{Worker}
 use Rattle.runs.specs.declared.worker.Worker.the-variants.{Idle, Holding, Waiting}
 use Rattle.runs.specs.Setting.{Setting, countIn}
+use Rattle.runs.specs.Tally.{withRequest, withSteal, withMiss}
 use Rattle.runs.specs.State.{State, dequeOf}
 
 -- "request number k (from 0) reads entry k modulo the length"
@@ -24,15 +25,7 @@ laid S r w s =
       workers = set (s .workers) w (Waiting (getD choices ((t .requests) % length choices) 0) r);
       deques = s .deques;
       rows = s .rows;
-      tally = record {
-        rounds = t .rounds;
-        actions = t .actions;
-        idle = t .idle;
-        requests = suc (t .requests);
-        steals = t .steals;
-        misses = t .misses;
-        peak = t .peak;
-      };
+      tally = withRequest t;
     }
 
 -- "the other workers that hold nothing since the round's start .. each lay a request if they have none"
@@ -88,15 +81,7 @@ given v w [] s =
       workers = set (s .workers) w Idle;
       deques = s .deques;
       rows = s .rows;
-      tally = record {
-        rounds = t .rounds;
-        actions = t .actions;
-        idle = t .idle;
-        requests = t .requests;
-        steals = t .steals;
-        misses = suc (t .misses);
-        peak = t .peak;
-      };
+      tally = withMiss t;
     }
 given v w (x ∷ d) s =
     let t = s .tally in
@@ -105,15 +90,7 @@ given v w (x ∷ d) s =
       workers = set (s .workers) w (Holding (topOf x d));
       deques = set (s .deques) v (dropTop (x ∷ d));
       rows = s .rows;
-      tally = record {
-        rounds = t .rounds;
-        actions = t .actions;
-        idle = t .idle;
-        requests = t .requests;
-        steals = suc (t .steals);
-        misses = t .misses;
-        peak = t .peak;
-      };
+      tally = withSteal t;
     }
 
 unfoldable pub serve : ℕ → ℕ → State → State

@@ -2,7 +2,7 @@
 --   wakes            == rule 1's test; seatAfter == what rules 2 and 3 leave of a worker and its deque
 --   turn p r w j s   == worker w, which holds job j, takes its turn in round r
 --   turns p r k b s  == the turns of the workers below k, where b are the workers as the round began
-use Prim.Native.Nat.{ℕ, zero, suc, max}
+use Prim.Native.Nat.{ℕ, zero, suc}
 use mathlib.Core.Bool.{Bool, true, false, not}
 use mathlib.Core.List.{List, [], _∷_}
 use lib.ListN.{getD, set}
@@ -13,6 +13,7 @@ use Rattle.runs.specs.declared.worker.Worker.{Worker}
 use Rattle.runs.specs.declared.worker.Worker.the-variants.{Idle, Holding, Waiting}
 use Rattle.courses.specs.Row.{place}
 use Rattle.courses.specs.Ready.{ready, weight}
+use Rattle.runs.specs.Tally.{withAction, withIdle}
 use Rattle.runs.specs.State.{State, nextOf, dequeOf}
 
 -- 1. "If the action sends a join and this was the last one missing to a stalled parent": the parent's next action was not
@@ -58,15 +59,7 @@ turn p r w j s =
       workers = set (s .workers) w (seat .worker);
       deques = set (s .deques) w (seat .deque);
       rows = set (s .rows) (place p j i) (record { round = r; worker = w });
-      tally = record {
-        rounds = r;
-        actions = suc (t .actions);
-        idle = t .idle;
-        requests = t .requests;
-        steals = t .steals;
-        misses = t .misses;
-        peak = max (t .peak) (weight p after);
-      };
+      tally = withAction t r (weight p after);
     }
 
 -- "Idle turns are turns of workers that held nothing when the round began."
@@ -78,15 +71,7 @@ idled r s =
       workers = s .workers;
       deques = s .deques;
       rows = s .rows;
-      tally = record {
-        rounds = r;
-        actions = t .actions;
-        idle = suc (t .idle);
-        requests = t .requests;
-        steals = t .steals;
-        misses = t .misses;
-        peak = t .peak;
-      };
+      tally = withIdle t r;
     }
 
 unfoldable pub turnOf : Plan → ℕ → ℕ → Worker → State → State

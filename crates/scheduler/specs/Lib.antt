@@ -4,5 +4,4 @@ pub mod Machine
 pub mod TurnParts
 pub mod Requests
 pub mod Header
-pub mod Count
 pub mod Loaded

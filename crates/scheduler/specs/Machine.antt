@@ -53,7 +53,7 @@ missingTo p done j i = count (λ a. both (enters p j i a) (leb (getD done (a .jo
 pub record Progressed (p : Plan) (done next missing : List ℕ) : Type 0 where
   pub long : (length next ≡ 256) × (length missing ≡ 2048)
   pub nexts : (j : ℕ) → j < length p → getD next j 0 ≡ getD done j 0
-  pub misses : (j i : ℕ) → j < length p → i < size p j → getD missing (place p j i) 0 ≡ missingTo p done j i
+  pub joins-missing : (j i : ℕ) → j < length p → i < size p j → getD missing (place p j i) 0 ≡ missingTo p done j i
 
 pub record Dequed (deques : List (List ℕ)) (slots top len : List ℕ) : Type 0 where
   pub sixteen : length deques ≡ 16

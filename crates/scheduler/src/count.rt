@@ -1,10 +1,27 @@
-// Every turn moves its counts where the tally stands (document 01, "Worker and round"): the tally is lent by `&mut` to one of the
-// two functions that count. Their proofs, and those of the two that lend it, are walks by hand; whoever calls `acted` or `idled`
-// passes a tally by value and needs none.
+// The counts of a run, and what each event makes of them (document 01, "Worker and round"). Each event has one update by value; no
+// other function names a count that it moves.
+// Every turn moves its counts where the tally stands: the tally is lent by `&mut` to one of two functions, which apply the update.
+// Their proofs, and those of the two that lend it, are walks by hand that know no count; whoever calls `acted` or `idled` passes a
+// tally by value and needs none.
 ghost use mathlib.Core.Path.{_≡_};
 ghost use Prim.Native.Nat.{_<_, max};
-ghost use Rattle.scheduler.specs.Count.{actionCounted, idleCounted};
+ghost use Rattle.runs.specs.Tally.{noCounts, withAction, withIdle, withRequest, withSteal, withMiss};
 use runs::tally::Tally;
+
+// As a run begins; `frame` is job 0's.
+pub fn no_counts(frame: u32) -> Tally
+    ensures { λ r. ⌜ r ≡ noCounts frame ⌝ }
+{
+    Tally {
+        rounds: 0,
+        actions: 0,
+        idle: 0,
+        requests: 0,
+        steals: 0,
+        misses: 0,
+        peak: frame,
+    }
+}
 
 fn larger(a: u32, b: u32) -> u32
     ensures { λ r. ⌜ r ≡ max a b ⌝ }
@@ -13,28 +30,73 @@ fn larger(a: u32, b: u32) -> u32
 }
 
 // A turn that did an action; `weight` is that of the living frames after it.
-fn count_action(t: &mut Tally, round: u32, weight: u32)
-    requires { ⌜ now t .actions < 4294967295 ⌝ }
-    ensures { λ _. ⌜ now (t .exit) ≡ actionCounted (now (t .entry)) round weight ⌝ }
+fn with_action(t: Tally, round: u32, weight: u32) -> Tally
+    requires { ⌜ t .actions < 4294967295 ⌝ }
+    ensures { λ r. ⌜ r ≡ withAction t round weight ⌝ }
 {
-    t.rounds = round;
-    t.actions += 1;
-    t.peak = larger(t.peak, weight);
+    let mut u = t;
+    u.rounds = round;
+    u.actions = t.actions + 1;
+    u.peak = larger(t.peak, weight);
+    u
 }
 
 // A turn of a worker that held nothing when the round began.
+fn with_idle(t: Tally, round: u32) -> Tally
+    requires { ⌜ t .idle < 4294967295 ⌝ }
+    ensures { λ r. ⌜ r ≡ withIdle t round ⌝ }
+{
+    let mut u = t;
+    u.rounds = round;
+    u.idle = t.idle + 1;
+    u
+}
+
+pub fn with_request(t: Tally) -> Tally
+    requires { ⌜ t .requests < 4294967295 ⌝ }
+    ensures { λ r. ⌜ r ≡ withRequest t ⌝ }
+{
+    let mut u = t;
+    u.requests = t.requests + 1;
+    u
+}
+
+pub fn with_steal(t: Tally) -> Tally
+    requires { ⌜ t .steals < 4294967295 ⌝ }
+    ensures { λ r. ⌜ r ≡ withSteal t ⌝ }
+{
+    let mut u = t;
+    u.steals = t.steals + 1;
+    u
+}
+
+pub fn with_miss(t: Tally) -> Tally
+    requires { ⌜ t .misses < 4294967295 ⌝ }
+    ensures { λ r. ⌜ r ≡ withMiss t ⌝ }
+{
+    let mut u = t;
+    u.misses = t.misses + 1;
+    u
+}
+
+fn count_action(t: &mut Tally, round: u32, weight: u32)
+    requires { ⌜ now t .actions < 4294967295 ⌝ }
+    ensures { λ _. ⌜ now (t .exit) ≡ withAction (now (t .entry)) round weight ⌝ }
+{
+    *t = with_action(*t, round, weight);
+}
+
 fn count_idle(t: &mut Tally, round: u32)
     requires { ⌜ now t .idle < 4294967295 ⌝ }
-    ensures { λ _. ⌜ now (t .exit) ≡ idleCounted (now (t .entry)) round ⌝ }
+    ensures { λ _. ⌜ now (t .exit) ≡ withIdle (now (t .entry)) round ⌝ }
 {
-    t.rounds = round;
-    t.idle += 1;
+    *t = with_idle(*t, round);
 }
 
 // The tally after a turn that did an action.
 pub fn acted(t: Tally, round: usize, weight: u32) -> Tally
     requires { ⌜ (round < 4294967296) × (t .actions < 4294967295) ⌝ }
-    ensures { λ r. ⌜ r ≡ actionCounted t round weight ⌝ }
+    ensures { λ r. ⌜ r ≡ withAction t round weight ⌝ }
 {
     let mut t = t;
     count_action(&mut t, round as u32, weight);
@@ -44,7 +106,7 @@ pub fn acted(t: Tally, round: usize, weight: u32) -> Tally
 // The tally after an idle turn.
 pub fn idled(t: Tally, round: usize) -> Tally
     requires { ⌜ (round < 4294967296) × (t .idle < 4294967295) ⌝ }
-    ensures { λ r. ⌜ r ≡ idleCounted t round ⌝ }
+    ensures { λ r. ⌜ r ≡ withIdle t round ⌝ }
 {
     let mut t = t;
     count_idle(&mut t, round as u32);

@@ -11,6 +11,7 @@ ghost use Rattle.scheduler.specs.Machine.{RunGiven, Printed, Kept};
 ghost use Rattle.scheduler.specs.Loaded.{Loaded, Answered};
 ghost use Rattle.scheduler.specs.Header.{headerBytes};
 use crate::account::Account;
+use crate::count::no_counts;
 use crate::round::round;
 use numbers::wide8;
 use numbers::wide16;
@@ -74,15 +75,7 @@ fn rounds<'a>(
     let weight = units(frame[0]);
     let mut a = Account {
         weight,
-        tally: Tally {
-            rounds: 0,
-            actions: 0,
-            idle: 0,
-            requests: 0,
-            steals: 0,
-            misses: 0,
-            peak: weight,
-        },
+        tally: no_counts(weight),
     };
     while wide8(next[0]) < wide16(first[1]) {
         a = round(

@@ -15,28 +15,14 @@ ghost use Rattle.runs.specs.Trace.{laying, serving};
 ghost use Rattle.scheduler.specs.Machine.{InRun, Manned, Dequed, codeOf, Fitting, isIdle, Seated};
 ghost use Rattle.scheduler.specs.Requests.{Calm, Fits, Noted, Pointed, askedIn, idleIn, Queued, Serving};
 use crate::account::Account;
+use crate::count::with_miss;
+use crate::count::with_request;
+use crate::count::with_steal;
 use crate::deque::take_top;
 use crate::seat::code_of;
 use crate::seat::worker_at;
 use numbers::wide8;
-use runs::tally::Tally;
 use runs::worker::Worker;
-
-// The counts after a request.
-fn asked(t: Tally) -> Tally
-    requires { ⌜ t .requests < 4294967295 ⌝ }
-    ensures { λ r. ⌜ r ≡ record { rounds = t .rounds; actions = t .actions; idle = t .idle; requests = suc (t .requests); steals = t .steals; misses = t .misses; peak = t .peak } ⌝ }
-{
-    Tally {
-        rounds: t.rounds,
-        actions: t.actions,
-        idle: t.idle,
-        requests: t.requests + 1,
-        steals: t.steals,
-        misses: t.misses,
-        peak: t.peak,
-    }
-}
 
 // The place after `at` among `count` places, and after the last one the first.
 fn onward(at: usize, count: usize) -> usize
@@ -116,7 +102,7 @@ fn lay(
     *cursor = onward(at, choices.len());
     Account {
         weight: account.weight,
-        tally: asked(account.tally),
+        tally: with_request(account.tally),
     }
 }
 
@@ -177,37 +163,6 @@ fn lays(
     a
 }
 
-// The counts after a steal, and after a miss.
-fn stole(t: Tally) -> Tally
-    requires { ⌜ t .steals < 4294967295 ⌝ }
-    ensures { λ r. ⌜ r ≡ record { rounds = t .rounds; actions = t .actions; idle = t .idle; requests = t .requests; steals = suc (t .steals); misses = t .misses; peak = t .peak } ⌝ }
-{
-    Tally {
-        rounds: t.rounds,
-        actions: t.actions,
-        idle: t.idle,
-        requests: t.requests,
-        steals: t.steals + 1,
-        misses: t.misses,
-        peak: t.peak,
-    }
-}
-
-fn missed(t: Tally) -> Tally
-    requires { ⌜ t .misses < 4294967295 ⌝ }
-    ensures { λ r. ⌜ r ≡ record { rounds = t .rounds; actions = t .actions; idle = t .idle; requests = t .requests; steals = t .steals; misses = suc (t .misses); peak = t .peak } ⌝ }
-{
-    Tally {
-        rounds: t.rounds,
-        actions: t.actions,
-        idle: t.idle,
-        requests: t.requests,
-        steals: t.steals,
-        misses: t.misses + 1,
-        peak: t.peak,
-    }
-}
-
 // The top job of victim v's deque goes to worker w, or it is a miss.
 fn give(
     account: Account,
@@ -226,15 +181,15 @@ fn give(
     match worker {
         Worker::Holding(_) => Account {
             weight: account.weight,
-            tally: stole(account.tally),
+            tally: with_steal(account.tally),
         },
         Worker::Idle => Account {
             weight: account.weight,
-            tally: missed(account.tally),
+            tally: with_miss(account.tally),
         },
         Worker::Waiting { victim: _, laid: _ } => Account {
             weight: account.weight,
-            tally: missed(account.tally),
+            tally: with_miss(account.tally),
         },
     }
 }

@@ -12,6 +12,7 @@ use Rattle.runs.specs.declared.worker.Worker.the-variants.{Idle, Holding
 use Rattle.plan.specs.Plan.{Plan, total}
 use Rattle.plan_measure.proofs.Laws.Work.{work-total}
 use Rattle.runs.specs.Setting.{setting, countIn}
+use Rattle.runs.specs.Tally.{withRequest}
 use Rattle.runs.specs.State.{State, start}
 use Rattle.runs.specs.Turn.{turns}
 use Rattle.runs.specs.Steal.{laid, lay, lays, oldest, serve, serves}
@@ -25,15 +26,7 @@ plainLay choices r w Idle s =
       workers = set (s .workers) w (Waiting (getD choices ((t .requests) % length choices) 0) r);
       deques = s .deques;
       rows = s .rows;
-      tally = record {
-        rounds = t .rounds;
-        actions = t .actions;
-        idle = t .idle;
-        requests = suc (t .requests);
-        steals = t .steals;
-        misses = t .misses;
-        peak = t .peak;
-      };
+      tally = withRequest t;
     }
 plainLay choices r w (Holding j) s = s
 plainLay choices r w (Waiting v l) s = s

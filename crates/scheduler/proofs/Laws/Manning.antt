@@ -13,6 +13,7 @@ use Rattle.runs.specs.Setting.{Setting, countIn}
 use Rattle.runs.specs.declared.tally.Tally.{Tally}
 use Rattle.runs.specs.declared.worker.Worker.{Worker}
 use Rattle.runs.specs.declared.worker.Worker.the-variants.{Idle, Holding, Waiting}
+use Rattle.runs.specs.Tally.{withRequest, withSteal, withMiss}
 use Rattle.runs.specs.State.{State, workerOf, dequeOf}
 use Rattle.runs.specs.Steal.{laid, lay, topOf, given, serve}
 use Rattle.runs.specs.Trace.{served}
@@ -29,40 +30,6 @@ lay-rests S r w Idle s f = absurd (true≢false f)
 lay-rests S r w (Holding j) s f = refl
 lay-rests S r w (Waiting v l) s f = refl
 
--- the counts after a request, a steal and a miss
-abbrev pub asked : Tally → Tally
-asked t = record {
-  rounds = t .rounds;
-  actions = t .actions;
-  idle = t .idle;
-  requests = suc (t .requests);
-  steals = t .steals;
-  misses = t .misses;
-  peak = t .peak;
-}
-
-abbrev pub stolen : Tally → Tally
-stolen t = record {
-  rounds = t .rounds;
-  actions = t .actions;
-  idle = t .idle;
-  requests = t .requests;
-  steals = suc (t .steals);
-  misses = t .misses;
-  peak = t .peak;
-}
-
-abbrev pub missed : Tally → Tally
-missed t = record {
-  rounds = t .rounds;
-  actions = t .actions;
-  idle = t .idle;
-  requests = t .requests;
-  steals = t .steals;
-  misses = suc (t .misses);
-  peak = t .peak;
-}
-
 module _ (p : Plan) (s : State) (c : Account) (seats : List ℕ) (sixteen : length (s .workers) ≡ 16) (m : Manned p s c seats) (w : ℕ) (h : w < 16) where
   reseated : (x : Worker) → Seated (set (s .workers) w x) (set seats w (codeOf x))
   reseated x =
@@ -74,7 +41,7 @@ module _ (p : Plan) (s : State) (c : Account) (seats : List ℕ) (sixteen : leng
     abbrev pub asker : Worker
     asker = Waiting (getD (S .choices) ((s .tally .requests) % length (S .choices)) 0) r
 
-    pub laid-manned : (t : Tally) → t ≡ asked (c .tally) → Manned p (lay S r w Idle s) (record { weight = c .weight; tally = t }) (set seats w (codeOf asker))
+    pub laid-manned : (t : Tally) → t ≡ withRequest (c .tally) → Manned p (lay S r w Idle s) (record { weight = c .weight; tally = t }) (set seats w (codeOf asker))
     unfolding lay laid
     laid-manned t e =
         rw (e, m .counts) (record { seated = reseated _; weighs = m .weighs; counts = refl })
@@ -93,7 +60,7 @@ module _ (p : Plan) (s : State) (c : Account) (seats : List ℕ) (sixteen : leng
         go [] (i, q) = getD-set-same (s .workers) w Idle Idle (omega arith) ∙ sym i
         go (y ∷ d) (i, q) = getD-set-same (s .workers) w (Holding (topOf y d)) Idle (omega arith) ∙ sym i
 
-    pub steal-served : (t : Tally) → t ≡ stolen (c .tally) → (j : ℕ) → x ≡ Holding j → Given (s .deques) v (dequeOf s v) x slots top len
+    pub steal-served : (t : Tally) → t ≡ withSteal (c .tally) → (j : ℕ) → x ≡ Holding j → Given (s .deques) v (dequeOf s v) x slots top len
         → Manned p (serve v (suc w) s) (record { weight = c .weight; tally = t }) (set seats w (codeOf x)) × Dequed (serve v (suc w) s .deques) slots top len
     unfolding serve given
     steal-served t f j e = go (dequeOf s v)
@@ -103,7 +70,7 @@ module _ (p : Plan) (s : State) (c : Account) (seats : List ℕ) (sixteen : leng
         go [] (i, q) = let z : _≡_ {A = ℕ} 0 1 = cc in absurd (omega arith)
         go (y ∷ d) (i, q) = (rw (i, f, m .counts) (record { seated = reseated _; weighs = m .weighs; counts = refl }), q)
 
-    pub miss-served : (t : Tally) → t ≡ missed (c .tally) → ((j : ℕ) → x ≡ Holding j → ⊥) → Given (s .deques) v (dequeOf s v) x slots top len
+    pub miss-served : (t : Tally) → t ≡ withMiss (c .tally) → ((j : ℕ) → x ≡ Holding j → ⊥) → Given (s .deques) v (dequeOf s v) x slots top len
         → Manned p (serve v (suc w) s) (record { weight = c .weight; tally = t }) (set seats w (codeOf x)) × Dequed (serve v (suc w) s .deques) slots top len
     unfolding serve given
     miss-served t f g = go (dequeOf s v)

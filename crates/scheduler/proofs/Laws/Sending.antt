@@ -110,7 +110,7 @@ module _ {p : Plan} {n : ℕ} {choices : List ℕ} {r : ℕ} {b : List Worker} {
         progressed = record {
           long = (long, g .acting .progressed .long .1);
           nexts = counted;
-          misses = λ h x l m. g .acting .progressed .misses h x l m ∙ sym (kept h x (λ t. omega (arith, t .1)));
+          joins-missing = λ h x l m. g .acting .progressed .joins-missing h x l m ∙ sym (kept h x (λ t. omega (arith, t .1)));
         };
         dequed = still (λ t. omega (arith, t .sends));
       }
@@ -137,9 +137,9 @@ module _ {p : Plan} {n : ℕ} {choices : List ℕ} {r : ℕ} {b : List Worker} {
     send-place = omega (arith, is-place, place-below p (parentOf p j) (sent - 1) (target .3) (target .1), total-range p ok′)
 
     -- one less is missing there
-    pub send-misses : getD missing (f + (sent - 1)) 0 ≡ suc (missingTo p (afterOf s j) (parentOf p j) (sent - 1))
-    send-misses =
-        rw is-place (g .acting .progressed .misses (parentOf p j) (sent - 1) (target .3) (target .1)
+    pub send-missing : getD missing (f + (sent - 1)) 0 ≡ suc (missingTo p (afterOf s j) (parentOf p j) (sent - 1))
+    send-missing =
+        rw is-place (g .acting .progressed .joins-missing (parentOf p j) (sent - 1) (target .3) (target .1)
         ∙ missing-sent p ok′ (s .next) (afterOf s j) j (nextOf s j) (mine .0) (mine .1) refl (acting-next (g .acting)) (acting-others (g .acting))
         (sent - 1) sends)
 
@@ -147,9 +147,9 @@ module _ {p : Plan} {n : ℕ} {choices : List ℕ} {r : ℕ} {b : List Worker} {
     send-counts = record {
       long = (long, length-set missing _ _ ∙ g .acting .progressed .long .1);
       nexts = counted;
-      misses = λ h x l m. by-cases (ℕ-discrete (place p h x) (f + (sent - 1))) (there h x l m) (λ y.
+      joins-missing = λ h x l m. by-cases (ℕ-discrete (place p h x) (f + (sent - 1))) (there h x l m) (λ y.
           getD-set-other missing _ (place p h x) _ 0 y
-          ∙ (g .acting .progressed .misses h x l m ∙ sym (kept h x (λ c. y (same h x c ∙ sym is-place)))));
+          ∙ (g .acting .progressed .joins-missing h x l m ∙ sym (kept h x (λ c. y (same h x c ∙ sym is-place)))));
     }
       where
         there : (h x : ℕ) → h < length p → x < size p h → place p h x ≡ f + (sent - 1)
@@ -157,7 +157,7 @@ module _ {p : Plan} {n : ℕ} {choices : List ℕ} {r : ℕ} {b : List Worker} {
         there h x l m y =
             let (c, d) = place-apart p h x (parentOf p j) (sent - 1) l m (target .3) (target .1) (y ∙ is-place) in
             rw y (getD-set-same missing (f + (sent - 1)) _ 0 (omega (arith, g .acting .progressed .long, send-place))
-            ∙ (omega (arith, send-misses) ∙ sym (ap₂ (missingTo p (afterOf s j)) c d)))
+            ∙ (omega (arith, send-missing) ∙ sym (ap₂ (missingTo p (afterOf s j)) c d)))
 
         same : (h x : ℕ) → (h ≡ parentOf p j) × (action p j (nextOf s j) .join ≡ suc x) → place p h x ≡ place p (parentOf p j) (sent - 1)
         same h x (c, d) = let y : x ≡ sent - 1 = omega (arith, sends) in ap₂ (place p) c y
@@ -178,7 +178,7 @@ module _ {p : Plan} {n : ℕ} {choices : List ℕ} {r : ℕ} {b : List Worker} {
           let x : nextOf s (parentOf p j) ≡ sent - 1 = omega (arith, c .sends, sends) in
           let z : missingTo p (afterOf s j) (parentOf p j) (sent - 1) ≡ 0 = rw (parent-next, x) at
           (missing-no p ok′ (afterOf s j) (parentOf p j) (getD (afterOf s j) (parentOf p j) 0) (c .ready)) in
-          y (omega (arith, send-misses)));
+          y (omega (arith, send-missing)));
     }
 
     -- or that is not the parent's next action
@@ -198,7 +198,7 @@ module _ {p : Plan} {n : ℕ} {choices : List ℕ} {r : ℕ} {b : List Worker} {
           wakes-by ok′ (acting-sound (g .acting)) w (g .acting .holding) (record {
             sends = omega (arith, sends);
             ready = missing-none p ok′ (afterOf s j) (parentOf p j) (getD (afterOf s j) (parentOf p j) 0)
-                (rw (parent-next, x) (omega (arith, send-misses)));
+                (rw (parent-next, x) (omega (arith, send-missing)));
           })
 
       pub send-empty : dequeOf s w ≡ []

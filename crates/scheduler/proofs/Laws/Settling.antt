@@ -181,10 +181,10 @@ module _ {p : Plan} {n : ℕ} {choices : List ℕ} {r : ℕ} {b : List Worker} {
     settle-room =
         omega (arith, g .acting .here, place-below p j (suc (nextOf s j)) (known .0) more, total-range p (g .acting .planned .accepted))
 
-    misses : getD missing (k + 1) 0 ≡ missingTo p (afterOf s j) j (suc (nextOf s j))
-    misses =
+    next-missing : getD missing (k + 1) 0 ≡ missingTo p (afterOf s j) j (suc (nextOf s j))
+    next-missing =
         let e : k + 1 ≡ place p j (suc (nextOf s j)) = omega (arith, g .acting .here) in
-        rw e (g .sent .progressed .misses j (suc (nextOf s j)) (known .0) more)
+        rw e (g .sent .progressed .joins-missing j (suc (nextOf s j)) (known .0) more)
 
     same-weight : weighs ≡ weight p (afterOf s j)
     same-weight = g .acting .weighed ∙ sym (weight-same (g .acting .run) w j (g .acting .holding) (g .none) (λ e. omega (arith, more)))
@@ -195,7 +195,7 @@ module _ {p : Plan} {n : ℕ} {choices : List ℕ} {r : ℕ} {b : List Worker} {
     settle-goes e x v z =
         let d = acting-next (g .acting) in
         let t = both-intro (ltb (suc (nextOf s j)) (size p j)) (ready p (afterOf s j) j) (lt→ltb (suc (nextOf s j)) (size p j) more)
-        (missing-ready p (g .acting .planned .accepted) (afterOf s j) j (rw d (sym misses ∙ e)) (λ y. absurd (omega arith))) in
+        (missing-ready p (g .acting .planned .accepted) (afterOf s j) j (rw d (sym next-missing ∙ e)) (λ y. absurd (omega arith))) in
         seated (g .acting) (record { worker = Holding j; deque = aboveOf p s w j }) (stays ∙ ap (λ c. stay c j (aboveOf p s w j)) (true-of goes t))
         x v (z ∙ same-weight) (g .sent .progressed) (g .sent .dequed)
 
@@ -203,5 +203,5 @@ module _ {p : Plan} {n : ℕ} {choices : List ℕ} {r : ℕ} {b : List Worker} {
     pub settle-stalls : getD missing (k + 1) 0 ≢ 0 → (x : Turned) {len′ : List ℕ} → x .weight ≡ weighs → Taken (x .worker) len′
         → Acted p (turn p r w j s) w x next missing slots top len′
     settle-stalls e x z =
-        takes (λ t. e (misses ∙ rw (acting-next (g .acting)) at (ready-missing p (g .acting .planned .accepted) (afterOf s j) j
+        takes (λ t. e (next-missing ∙ rw (acting-next (g .acting)) at (ready-missing p (g .acting .planned .accepted) (afterOf s j) j
         (both-right (ltb (suc (nextOf s j)) (size p j)) _ t)))) x (z ∙ same-weight)

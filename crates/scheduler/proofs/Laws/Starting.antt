@@ -10,6 +10,7 @@ use Rattle.plan.proofs.Laws.Placed.{placed-length, placed-at, place-below, fram
 use Rattle.plan.proofs.Laws.Valid.{jobs-range}
 use Rattle.scheduler.specs.declared.account.Account.{Account}
 use Rattle.runs.specs.declared.worker.Worker.the-variants.{Idle, Holding}
+use Rattle.runs.specs.Tally.{noCounts}
 use Rattle.runs.specs.State.{start}
 use Rattle.courses.specs.Row.{place}
 use Rattle.scheduler.specs.Machine.{dequeAt, missingTo, Progressed, Dequed, codeOf, Seated, Manned, Machine, RunGiven}
@@ -22,7 +23,7 @@ abbrev pub firstAccount : ℕ → Account
 firstAccount weight =
     record {
       weight = weight;
-      tally = record { rounds = 0; actions = 0; idle = 0; requests = 0; steals = 0; misses = 0; peak = weight };
+      tally = noCounts weight;
     }
 
 abbrev pub firstSeats : List ℕ
@@ -64,7 +65,7 @@ module _ (p : Plan) (n : ℕ) (choices frame first spawn join parent entering : 
       record {
         long = (refl, g .long);
         nexts = λ j h. getD-replicate 256 j 0 0 (omega (arith, jobs-range p (g .planned .accepted))) ∙ sym (getD-replicate (length p) j 0 0 h);
-        misses = first-missing;
+        joins-missing = first-missing;
       }
 
   first-manned : (weight : ℕ) → weight ≡ getD frame 0 0 → Manned p (start p) (firstAccount weight) firstSeats

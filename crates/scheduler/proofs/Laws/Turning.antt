@@ -1,7 +1,7 @@
 -- What a worker's turn does to the runner's arrays: one row is written, one seat and the counts change.
 --   Ahead p r w j s == what is known where worker w, which holds job j, is about to act in round r
 --   written         == the bytes after the row of the action at place k is written
-use Prim.Native.Nat.{ℕ, suc, _+_, _*_, _/_, _%_, _≤_, _<_, max}
+use Prim.Native.Nat.{ℕ, suc, _+_, _*_, _/_, _%_, _≤_, _<_}
 use mathlib.Core.Path.{_≡_, refl, ap, sym, _∙_}
 use mathlib.Core.Logic.{_≢_, ⊎-elim}
 use mathlib.Core.List.{List}
@@ -18,6 +18,7 @@ use Rattle.runs.specs.Setting.{setting, countIn}
 use Rattle.runs.specs.declared.tally.Tally.{Tally}
 use Rattle.runs.specs.declared.worker.Worker.{Worker}
 use Rattle.runs.specs.declared.worker.Worker.the-variants.{Idle, Holding, Waiting}
+use Rattle.runs.specs.Tally.{withAction}
 use Rattle.runs.specs.State.{State, nextOf, workerOf}
 use Rattle.courses.specs.Row.{place}
 use Rattle.runs.specs.Turn.{turn, idled, turnOf}
@@ -148,15 +149,7 @@ module _ (p : Plan) (n : ℕ) (choices : List ℕ) (r w : ℕ) (b : List Worker)
 
     -- the arrays after the turn
     pub turning-machine : (k : ℕ) → k ≡ place p j (nextOf s j) → (c : Account) (seats rows next missing slots top len : List ℕ) (after : Turned)
-        (t : Tally) (x : ℕ) → t ≡ record {
-          rounds = r;
-          actions = suc (c .tally .actions);
-          idle = c .tally .idle;
-          requests = c .tally .requests;
-          steals = c .tally .steals;
-          misses = c .tally .misses;
-          peak = max (c .tally .peak) (after .weight);
-        } → x ≡ codeOf (after .worker) → w < n → Manned p s c seats → Printed p s rows
+        (t : Tally) (x : ℕ) → t ≡ withAction (c .tally) r (after .weight) → x ≡ codeOf (after .worker) → w < n → Manned p s c seats → Printed p s rows
         → Acted p (turn p r w j s) w after next missing slots top len
         → Machine p (turn p r w j s) (record { weight = after .weight; tally = t }) (set seats w x) (written rows k r w) next missing slots top len
         × Kept p rows (written rows k r w)

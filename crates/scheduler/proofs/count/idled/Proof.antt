@@ -34,8 +34,8 @@ use denote.Exit.{yes}
 use Rattle.runs.specs.declared.tally.Tally.{Tally}
 use Rattle.runs.proofs.tally.Tally as T
 use Rattle.runs.proofs.tally.Tally.Laws as T′
-use Rattle.scheduler.specs.Count.{idleCounted}
-use Rattle.scheduler.proofs.Laws.TallyCell.{mach, Small, small, is, typed, lent, lends-tally}
+use Rattle.runs.specs.Tally.{withIdle}
+use Rattle.scheduler.proofs.Laws.TallyCell.{mach, Small, typed, lent, lends-tally}
 use Rattle.scheduler.proofs.count.count_idle as count
 use Rattle.scheduler.proofs.count.count_idle.Symbol as count-def
 use Rattle.scheduler.proofs.count.count_idle.Symbol.{name as #count-idle}
@@ -54,7 +54,7 @@ Count 𝓤 H A at-mem run = tripleOf 𝓤 H A count.signature (count.spec 𝓤 H
 
 module _ {M : Type 1} (𝓤 : URA M) (H : Heap 𝓤) (A : Atoms 𝓤) (W : Given 𝓤 H A) (at-mem : Memory → SProp 𝓤) (run : Routine → Fun 𝓤) (h : Tally) (n : ℕ) (n-wide : n < 2 ^ 64) (s : Small h) (ok : (n < 4294967296) × (h .idle < 4294967295)) where
   abbrev h′ : Tally
-  h′ = idleCounted h n
+  h′ = withIdle h n
 
   abbrev Arg : Type 0
   Arg = Tally × (ℕ × Unit {0})
@@ -75,7 +75,7 @@ module _ {M : Type 1} (𝓤 : URA M) (H : Heap 𝓤) (A : Atoms 𝓤) (W : Given
   exits s′ =
       qed W (‵ (owns (T.the-row ∷ usize ∷ []) a vals) ∷ []) ∵
       suffices ! _ (ends-at 𝓤 H A f.ended stayed (f.clauses 𝓤 H A at-mem run) W ((tt, tt, tt, a, vals), tt) (mach h′) h′ (tt, (tt, tt)) (tt, (tt, tt))) $ says ! refl $
-      owned ! T.the-row (Is T.the-row) ((LL.makes T.the-type T′.the-plain) 𝓤 H A) h′ _ (is h′ s′) $ move ! (1 ∷ 0 ∷ []) $ nothing ! $ done !
+      owned ! T.the-row (Is T.the-row) ((LL.makes T.the-type T′.the-plain) 𝓤 H A) h′ _ s′ $ move ! (1 ∷ 0 ∷ []) $ nothing ! $ done !
 
   -- what `count_idle`'s triple binds outside
   abbrev to-count : ℕ → ℕ → GName → Count 𝓤 H A at-mem run .Ghost
@@ -108,7 +108,7 @@ module _ {M : Type 1} (𝓤 : URA M) (H : Heap 𝓤) (A : Atoms 𝓤) (W : Given
 module _ {M : Type 1} (𝓤 : URA M) (H : Heap 𝓤) (A : Atoms 𝓤) (W : Given 𝓤 H A) (at-mem : Memory → SProp 𝓤) (run : Routine → Fun 𝓤) where
   walks : (C : Calls 𝓤 H) (Λ : Loops 𝓤 H) → FmC 𝓤 H (W .laws) C → Triple 𝓤 (C #count-idle) (Count 𝓤 H A at-mem run) → Walks 𝓤 H A f.ended stayed (WpFn 𝓤 H C Λ code.function) (f.clauses 𝓤 H A at-mem run)
   walks C Λ fm known = walked 𝓤 H A f.ended stayed (f.clauses 𝓤 H A at-mem run) (WpFn 𝓤 H C Λ code.function) (λ κs. (LL.vals T.the-type T′.the-laws, (uint-vals w64, tt))) (λ κs. (LL.tells T.the-type T′.the-laws, (uint-tells w64, tt)))
-      (λ κs qs bounds a _ are. needs 𝓤 _ _ (λ ok. walk 𝓤 H A W at-mem run (a .0) (a .1 .0) (are .1 .0 .1) (small (a .0) (are .0)) ok C Λ fm known))
+      (λ κs qs bounds a _ are. needs 𝓤 _ _ (λ ok. walk 𝓤 H A W at-mem run (a .0) (a .1 .0) (are .1 .0 .1) (are .0) ok C Λ fm known))
 
   goes-on : AllGo 𝓤 H A W 0 (f.signature .params) (f.ended .kept) stayed
   goes-on = (goes-none 𝓤 H A W 0 (λ _. T.the-row) yes (λ κs x f. refl), (goes-none 𝓤 H A W 0 (λ _. usize) yes (λ κs x f. refl), tt))

@@ -29,10 +29,13 @@ element-copy-out-units c = search needs
 units-requires : tie.Need-units-requires Inv-loop μ-loop
 units-requires c κs = tt
 
+no-counts-requires : tie.Need-no-counts-requires Inv-loop μ-loop
+no-counts-requires c κs = tt
+
 loop-holds : tie.Need-loop-holds Inv-loop μ-loop
 loop-holds c = (
-  c .before .before .before .before .pre,
-  λ p g room. first-stands p _ _ _ _ _ _ _ _ g _ _ (c .units .ensures .0) room,
+  c .before .before .before .before .before .pre,
+  λ p g room. rw (c .no-counts .ensures) (first-stands p _ _ _ _ _ _ _ _ g _ _ (c .before .units .ensures .0) room),
 )
 
 array-read-wide8 : tie.Need-array-read-wide8 Inv-loop μ-loop
@@ -48,7 +51,7 @@ wide16-requires : tie.Need-wide16-requires Inv-loop μ-loop
 wide16-requires c κs = tt
 
 -- the loop's test, of what the arrays hold
-test : (c : tie.Then1 Inv-loop μ-loop) → getD (c .before .before .before .before .loop .next) 0 0 < getD (c .before .before .before .before .before .before .before .before .before .args .first .now) 1 0
+test : (c : tie.Then1 Inv-loop μ-loop) → getD (c .before .before .before .before .loop .next) 0 0 < getD (c .before .before .before .before .before .before .before .before .before .before .args .first .now) 1 0
 test c = omega (arith, c .if1 .taken, c .before .wide16 .ensures, c .before .before .before .wide8 .ensures)
 
 round-requires : tie.Need-round-requires Inv-loop μ-loop
@@ -88,6 +91,7 @@ rounds-spec =
     array-write-seats
     element-copy-out-units
     units-requires
+    no-counts-requires
     loop-holds
     array-read-wide8
     wide8-requires

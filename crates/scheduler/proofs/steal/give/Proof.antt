@@ -41,29 +41,29 @@ element-write-seats c = served-below (c .before .before .before .before .pre .6)
 enum-told : tie.Need-enum-told
 enum-told c = search needs
 
-stole-requires : tie.Need-stole-requires
-stole-requires c κs =
+with-steal-requires : tie.Need-with-steal-requires
+with-steal-requires c κs =
     let (p, n, choices, r, b, s, g) = c .before .before .before .before .before .before .pre in
     omega (arith, run-counts (g .run), ap (λ t. t .steals) (g .manned .counts))
 
 enum-told-2 : tie.Need-enum-told-2
 enum-told-2 c = search needs
 
-missed-requires : tie.Need-missed-requires
-missed-requires c κs = missable (c .before .before .before .before .before .before)
+with-miss-requires : tie.Need-with-miss-requires
+with-miss-requires c κs = missable (c .before .before .before .before .before .before)
 
 enum-told-3 : tie.Need-enum-told-3
 enum-told-3 c = search needs
 
-missed-requires-2 : tie.Need-missed-requires-2
-missed-requires-2 c κs = missable (c .before .before .before .before .before .before)
+with-miss-requires-2 : tie.Need-with-miss-requires-2
+with-miss-requires-2 c κs = missable (c .before .before .before .before .before .before)
 
 returns : tie.Need-returns
 returns c =
     let a = c .before .before .before .before .before .before .before .args in
     λ p n choices r b s g.
     rw (c .before .before .before .code-of .ensures)
-    (steal-served p s (a .account) _ (run-sound (g .run) .workers) (g .manned) (a .w) (served-below g) (a .v) _ _ _ _ _ (c .stole .ensures) _ (c .before .enum-told .given .1)
+    (steal-served p s (a .account) _ (run-sound (g .run) .workers) (g .manned) (a .w) (served-below g) (a .v) _ _ _ _ _ (c .with-steal .ensures) _ (c .before .enum-told .given .1)
     (c .before .before .before .before .take-top .ensures (s .deques) (g .dequed)))
 
 returns-2 : tie.Need-returns-2
@@ -71,7 +71,7 @@ returns-2 c =
     let a = c .before .before .before .before .before .before .before .args in
     λ p n choices r b s g.
     rw (c .before .before .before .code-of .ensures)
-    (miss-served p s (a .account) _ (run-sound (g .run) .workers) (g .manned) (a .w) (served-below g) (a .v) _ _ _ _ _ (c .missed .ensures) (idle-unheld _ (c .before .enum-told2 .given .1))
+    (miss-served p s (a .account) _ (run-sound (g .run) .workers) (g .manned) (a .w) (served-below g) (a .v) _ _ _ _ _ (c .with-miss .ensures) (idle-unheld _ (c .before .enum-told2 .given .1))
     (c .before .before .before .before .take-top .ensures (s .deques) (g .dequed)))
 
 returns-3 : tie.Need-returns-3
@@ -79,7 +79,7 @@ returns-3 c =
     let a = c .before .before .before .before .before .before .before .args in
     λ p n choices r b s g.
     rw (c .before .before .before .code-of .ensures)
-    (miss-served p s (a .account) _ (run-sound (g .run) .workers) (g .manned) (a .w) (served-below g) (a .v) _ _ _ _ _ (c .missed2 .ensures) (waiting-unheld _ _ _ (c .before .enum-told3 .given .1))
+    (miss-served p s (a .account) _ (run-sound (g .run) .workers) (g .manned) (a .w) (served-below g) (a .v) _ _ _ _ _ (c .with-miss2 .ensures) (waiting-unheld _ _ _ (c .before .enum-told3 .given .1))
     (c .before .before .before .before .take-top .ensures (s .deques) (g .dequed)))
 
 pub give-spec : {M : Type 1} → statement M
@@ -91,11 +91,11 @@ give-spec =
     mul-seats
     element-write-seats
     enum-told
-    stole-requires
+    with-steal-requires
     enum-told-2
-    missed-requires
+    with-miss-requires
     enum-told-3
-    missed-requires-2
+    with-miss-requires-2
     returns
     returns-2
     returns-3)

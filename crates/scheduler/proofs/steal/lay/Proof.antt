@@ -58,8 +58,8 @@ line-up-requires c κs =
 onward-requires : tie.Need-onward-requires
 onward-requires c κs = let o = begins (c .before .before .before .before .before .before) in (chooses o, run-few (o .pre .4))
 
-asked-requires : tie.Need-asked-requires
-asked-requires c κs =
+with-request-requires : tie.Need-with-request-requires
+with-request-requires c κs =
     let (p, n, b, s, run, manned, idle, pointed, queued, h) = begins (c .before .before .before .before .before .before .before) .pre in
     omega (arith, run-counts run, ap (λ t. t .requests) (manned .counts))
 
@@ -73,7 +73,7 @@ returns c =
     let chosen = t .choice-at .ensures in
     let lined = c .before .before .line-up .ensures _ (s .workers) (o .args .round) queued sixteen (laying-calm (o .args .w) run idle) (le-refl _) in
     rw (idle, c .before .before .before .before .before .before .code-of .ensures) (
-      rw (chosen, pointed) (laid-manned p s (o .args .account) _ sixteen manned (o .args .w) there (setting p n (o .args .choices .now)) (o .args .round) _ (c .asked .ensures)),
+      rw (chosen, pointed) (laid-manned p s (o .args .account) _ sixteen manned (o .args .w) there (setting p n (o .args .choices .now)) (o .args .round) _ (c .with-request .ensures)),
       laid-pointed p s (o .args .account) _ sixteen manned (o .args .w) there (setting p n (o .args .choices .now)) (o .args .round) _
           (c .before .onward .ensures (s .tally .requests) pointed),
       lay-queued (setting p n (o .args .choices .now)) (o .args .round) (o .args .w) _ s _ _
@@ -92,5 +92,5 @@ lay-spec =
     wide8-requires
     line-up-requires
     onward-requires
-    asked-requires
+    with-request-requires
     returns)

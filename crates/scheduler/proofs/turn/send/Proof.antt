@@ -3,7 +3,7 @@ use Prim.Native.Nat.{ℕ}
 use mathlib.Core.Path.{_≡_, sym, _∙_}
 use native.Mathlib.Omega.{arith}
 use borrow.Author.Needs.{needs}
-use Rattle.scheduler.proofs.Laws.Sending.{acting-room, send-skips, send-place, send-misses, send-stalls, send-later, send-empty, send-wakes}
+use Rattle.scheduler.proofs.Laws.Sending.{acting-room, send-skips, send-place, send-missing, send-stalls, send-later, send-empty, send-wakes}
 use Rattle.scheduler.proofs.turn.send.Statement.{statement}
 use Rattle.scheduler.proofs.turn.send.Tie as tie
 
@@ -49,7 +49,7 @@ sub-left : tie.Need-sub-left
 sub-left c =
     let l = c .before in
     let t = l .before .before .before .before .before in
-    omega (arith, send-misses (t .before .before .pre .6) _ _ _ (t .wide16 .ensures .0) (omega arith) (l .before .before .wide8 .ensures .0) (l .wide162 .ensures .0))
+    omega (arith, send-missing (t .before .before .pre .6) _ _ _ (t .wide16 .ensures .0) (omega arith) (l .before .before .wide8 .ensures .0) (l .wide162 .ensures .0))
 
 element-write-missing : tie.Need-element-write-missing
 element-write-missing c =

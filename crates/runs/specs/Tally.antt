@@ -1,0 +1,68 @@
+-- What each event makes of the counts (document 01, "Worker and round"). A count stands in the record `Tally` of src/, in `noCounts`
+-- and in the updates below, and nowhere else is a tally written out.
+--   noCounts frame        == the counts as a run begins, where job 0 has that frame
+--   withAction t r weight == after a turn of round r that did an action, after which the living frames weigh `weight`
+--   withIdle t r          == after a turn of round r of a worker that held nothing when the round began
+--   withRequest t         == after a request
+--   withSteal t           == after a service that gave the top job of the victim's deque
+--   withMiss t            == after a service that gave none
+use Prim.Native.Nat.{ℕ, suc, max}
+use Rattle.runs.specs.declared.tally.Tally.{Tally}
+
+abbrev pub noCounts : ℕ → Tally
+noCounts frame = record { rounds = 0; actions = 0; idle = 0; requests = 0; steals = 0; misses = 0; peak = frame }
+
+abbrev pub withAction : Tally → ℕ → ℕ → Tally
+withAction t r weight = record {
+  rounds = r;
+  actions = suc (t .actions);
+  idle = t .idle;
+  requests = t .requests;
+  steals = t .steals;
+  misses = t .misses;
+  peak = max (t .peak) weight;
+}
+
+abbrev pub withIdle : Tally → ℕ → Tally
+withIdle t r = record {
+  rounds = r;
+  actions = t .actions;
+  idle = suc (t .idle);
+  requests = t .requests;
+  steals = t .steals;
+  misses = t .misses;
+  peak = t .peak;
+}
+
+abbrev pub withRequest : Tally → Tally
+withRequest t = record {
+  rounds = t .rounds;
+  actions = t .actions;
+  idle = t .idle;
+  requests = suc (t .requests);
+  steals = t .steals;
+  misses = t .misses;
+  peak = t .peak;
+}
+
+abbrev pub withSteal : Tally → Tally
+withSteal t = record {
+  rounds = t .rounds;
+  actions = t .actions;
+  idle = t .idle;
+  requests = t .requests;
+  steals = suc (t .steals);
+  misses = t .misses;
+  peak = t .peak;
+}
+
+abbrev pub withMiss : Tally → Tally
+withMiss t = record {
+  rounds = t .rounds;
+  actions = t .actions;
+  idle = t .idle;
+  requests = t .requests;
+  steals = t .steals;
+  misses = suc (t .misses);
+  peak = t .peak;
+}
