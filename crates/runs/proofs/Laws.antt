@@ -3,6 +3,7 @@ pub mod Fit
 pub mod Admitted
 pub mod Start
 pub mod Least
+pub mod Picks
 pub mod Lined
 pub mod TurnSound
 pub mod Stores

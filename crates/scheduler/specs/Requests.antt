@@ -5,7 +5,7 @@
 --   Pointed          == k is the place of the next request's choice
 --   Queue, Queued    == the line of the requests at a victim, and the sixteen lines, in the order in which they are served: by the
 --                       round they were laid in, then by the worker. The line of victim v begins behind place 16 + v.
---   Serving          == victim v is about to serve: `who` is the worker that its oldest request is of, plus 1, or 0
+--   Serving          == victim v is about to serve: `who` is a worker that waits on it, plus 1, or 0
 use Prim.Native.Nat.{ℕ, zero, suc, _+_, _*_, _≤_, _<_, _%_}
 use mathlib.Core.Path.{_≡_}
 use mathlib.Core.Bool.{Bool, true, false}
@@ -18,7 +18,7 @@ use Rattle.scheduler.specs.declared.account.Account.{Account}
 use Rattle.runs.specs.declared.worker.Worker.{Worker}
 use Rattle.runs.specs.declared.worker.Worker.the-variants.{Idle, Waiting}
 use Rattle.runs.specs.State.{State}
-use Rattle.runs.specs.Steal.{oldest}
+use Rattle.runs.specs.Parts.{Picks}
 use Rattle.runs.specs.Trace.{serving}
 use Rattle.scheduler.specs.Machine.{InRun, Fitting, isIdle, Manned, Dequed}
 
@@ -85,4 +85,4 @@ pub record Serving (p : Plan) (n : ℕ) (choices : List ℕ) (r : ℕ) (began : 
   pub known : v < n
   pub manned : Manned p s c seats
   pub dequed : Dequed (s .deques) slots top len
-  pub picked : who ≡ oldest v n (s .workers) .who
+  pub picks : Picks v n (s .workers) who

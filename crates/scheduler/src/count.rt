@@ -4,8 +4,9 @@
 // Their proofs, and those of the two that lend it, are walks by hand that know no count; whoever calls `acted` or `idled` passes a
 // tally by value and needs none.
 ghost use mathlib.Core.Path.{_≡_};
-ghost use Prim.Native.Nat.{_<_, max};
+ghost use Prim.Native.Nat.{_<_};
 ghost use Rattle.runs.specs.Tally.{noCounts, withAction, withIdle, withRequest, withSteal, withMiss};
+use numbers::larger;
 use runs::tally::Tally;
 
 // As a run begins; `frame` is job 0's.
@@ -21,12 +22,6 @@ pub fn no_counts(frame: u32) -> Tally
         misses: 0,
         peak: frame,
     }
-}
-
-fn larger(a: u32, b: u32) -> u32
-    ensures { λ r. ⌜ r ≡ max a b ⌝ }
-{
-    if a < b { b } else { a }
 }
 
 // A turn that did an action; `weight` is that of the living frames after it.

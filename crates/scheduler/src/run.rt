@@ -13,6 +13,7 @@ ghost use Rattle.scheduler.specs.Header.{headerBytes};
 use crate::account::Account;
 use crate::count::no_counts;
 use crate::round::round;
+use numbers::units16;
 use numbers::wide8;
 use numbers::wide16;
 use plan::flat::Found;
@@ -24,12 +25,6 @@ use runs::tally::Tally;
 pub enum Ran {
     Refused(Refusal),
     Done(Tally),
-}
-
-fn units(x: u16) -> u32
-    ensures { λ r. ⌜ (r ≡ x) × (r < 65536) ⌝ }
-{
-    x as u32
 }
 
 fn rounds<'a>(
@@ -72,7 +67,7 @@ fn rounds<'a>(
         30,
         31,
     ];
-    let weight = units(frame[0]);
+    let weight = units16(frame[0]);
     let mut a = Account {
         weight,
         tally: no_counts(weight),

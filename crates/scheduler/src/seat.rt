@@ -1,8 +1,8 @@
 // A worker as one number, so that the sixteen workers stand in one lent array.
 ghost use mathlib.Core.Path.{_≡_};
-ghost use Prim.Native.Nat.{_<_};
 ghost use Rattle.runs.specs.declared.worker.Worker.{Worker};
 ghost use Rattle.scheduler.specs.Machine.{codeOf, Fitting};
+use numbers::double8;
 use runs::worker::Worker;
 
 // The worker that a number is of.
@@ -27,13 +27,7 @@ pub fn code_of(worker: Worker) -> u16
 {
     match worker {
         Worker::Idle => 256,
-        Worker::Holding(j) => units(j),
-        Worker::Waiting { victim, laid } => (laid + 32) * 16 + units(victim),
+        Worker::Holding(j) => double8(j),
+        Worker::Waiting { victim, laid } => (laid + 32) * 16 + double8(victim),
     }
-}
-
-fn units(x: u8) -> u16
-    ensures { λ r. ⌜ (r ≡ x) × (r < 256) ⌝ }
-{
-    x as u16
 }

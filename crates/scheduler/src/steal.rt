@@ -10,7 +10,8 @@ ghost use Rattle.runs.specs.declared.worker.Worker.{Worker};
 ghost use Rattle.runs.specs.declared.worker.Worker.the-variants.{Idle, Waiting};
 ghost use Rattle.runs.specs.State.{State};
 ghost use Rattle.runs.specs.Setting.{setting};
-ghost use Rattle.runs.specs.Steal.{lay as layOf, lays as laysOf, oldest, serve as serveOf, serves as servesOf};
+ghost use Rattle.runs.specs.Steal.{lay as layOf, lays as laysOf, serve as serveOf, serves as servesOf};
+ghost use Rattle.runs.specs.Parts.{pickOf};
 ghost use Rattle.runs.specs.Trace.{laying, serving};
 ghost use Rattle.scheduler.specs.Machine.{InRun, Manned, Dequed, codeOf, Fitting, isIdle, Seated};
 ghost use Rattle.scheduler.specs.Requests.{Calm, Fits, Noted, Pointed, askedIn, idleIn, Queued, Serving};
@@ -213,7 +214,7 @@ fn serve(
     len: &mut [u16; 16],
 ) -> Account
     requires { ⌜ ((p : Plan) × (n : ℕ) × (choices : List ℕ) × (r : ℕ) × (b : List Worker) × (hi : ℕ) × (s : State) × InRun p n choices r b (serving v) s × (v < n) × Manned p s account (now seats) × Queued hi (s .workers) (now after) (now last) × Dequed (s .deques) (now slots) (now top) (now len)) ⌝ }
-    ensures { λ a. ⌜ ((p : Plan) (n : ℕ) (choices : List ℕ) (r : ℕ) (b : List Worker) (hi : ℕ) (s : State) → InRun p n choices r b (serving v) s → (v < n) → Manned p s account (now (seats .entry)) → Queued hi (s .workers) (now (after .entry)) (now (last .entry)) → Dequed (s .deques) (now (slots .entry)) (now (top .entry)) (now (len .entry)) → Manned p (serveOf v (oldest v n (s .workers) .who) s) a (now (seats .exit)) × Queued hi (serveOf v (oldest v n (s .workers) .who) s .workers) (now (after .exit)) (now (last .exit)) × Dequed (serveOf v (oldest v n (s .workers) .who) s .deques) (now (slots .entry)) (now (top .exit)) (now (len .exit))) × ((u : ℕ) → u ≢ v → getD (now (after .exit)) (16 + u) 0 ≡ getD (now (after .entry)) (16 + u) 0) ⌝ }
+    ensures { λ a. ⌜ ((p : Plan) (n : ℕ) (choices : List ℕ) (r : ℕ) (b : List Worker) (hi : ℕ) (s : State) → InRun p n choices r b (serving v) s → (v < n) → Manned p s account (now (seats .entry)) → Queued hi (s .workers) (now (after .entry)) (now (last .entry)) → Dequed (s .deques) (now (slots .entry)) (now (top .entry)) (now (len .entry)) → Manned p (serveOf v (pickOf (setting p n choices) r v (s .workers)) s) a (now (seats .exit)) × Queued hi (serveOf v (pickOf (setting p n choices) r v (s .workers)) s .workers) (now (after .exit)) (now (last .exit)) × Dequed (serveOf v (pickOf (setting p n choices) r v (s .workers)) s .deques) (now (slots .entry)) (now (top .exit)) (now (len .exit))) × ((u : ℕ) → u ≢ v → getD (now (after .exit)) (16 + u) 0 ≡ getD (now (after .entry)) (16 + u) 0) ⌝ }
 {
     let who = first_in_line(v, after);
     if who == 0 {

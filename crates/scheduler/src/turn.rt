@@ -12,6 +12,8 @@ ghost use Rattle.scheduler.specs.Machine.{Dequed, Acting, Acted};
 ghost use Rattle.scheduler.specs.TurnParts.{Sending, Sent, Settling};
 use crate::deque::push;
 use crate::deque::take_bottom;
+use numbers::byte;
+use numbers::units16;
 use numbers::wide8;
 use numbers::wide16;
 use runs::worker::Worker;
@@ -20,19 +22,6 @@ use runs::worker::Worker;
 pub struct Turned {
     pub worker: Worker,
     pub weight: u32,
-}
-
-fn units(x: u16) -> u32
-    ensures { λ r. ⌜ (r ≡ x) × (r < 65536) ⌝ }
-{
-    x as u32
-}
-
-fn narrow(x: usize) -> u8
-    requires { ⌜ x < 256 ⌝ }
-    ensures { λ r. ⌜ r ≡ x ⌝ }
-{
-    x as u8
 }
 
 // 1. The action at place k sends its join; where that was the last one missing to the parent's next action, the parent goes on
@@ -86,7 +75,7 @@ fn leave(
     if child == 0 {
         return;
     }
-    push(slots, top, len, w, narrow(j));
+    push(slots, top, len, w, byte(j));
 }
 
 // 3, where the action did not spawn: the job goes on, or the worker takes the bottom job of its own deque, or has none.
@@ -107,7 +96,7 @@ fn settle(
 {
     if k + 1 == wide16(first[j + 1]) {
         let worker = take_bottom(slots, top, len, w);
-        let lighter = weight - units(frame[j]);
+        let lighter = weight - units16(frame[j]);
         return Turned {
             worker,
             weight: lighter,
@@ -115,7 +104,7 @@ fn settle(
     }
     if missing[k + 1] == 0 {
         return Turned {
-            worker: Worker::Holding(narrow(j)),
+            worker: Worker::Holding(byte(j)),
             weight,
         };
     }
@@ -143,14 +132,14 @@ pub fn act(
     requires { ⌜ ((p : Plan) × (n : ℕ) × (choices : List ℕ) × (r : ℕ) × (b : List Worker) × (s : State) × Acting p n choices r b s k j w weight (now frame) (now first) (now spawn) (now join) (now parent) (now next) (now missing) (now slots) (now top) (now len)) ⌝ }
     ensures { λ a. ⌜ ((p : Plan) (n : ℕ) (choices : List ℕ) (r : ℕ) (b : List Worker) (s : State) → Acting p n choices r b s k j w weight (now (frame .entry)) (now (first .entry)) (now (spawn .entry)) (now (join .entry)) (now (parent .entry)) (now (next .entry)) (now (missing .entry)) (now (slots .entry)) (now (top .entry)) (now (len .entry)) → Acted p (turn p r w j s) w a (now (next .exit)) (now (missing .exit)) (now (slots .exit)) (now (top .exit)) (now (len .exit))) ⌝ }
 {
-    next[j] = narrow(k - wide16(first[j]) + 1);
+    next[j] = byte(k - wide16(first[j]) + 1);
     let child = wide16(spawn[k]);
     send(k, j, w, first, join, parent, next, missing, slots, top, len);
     leave(child, j, w, slots, top, len);
     // 2, the worker: it holds the child.
     if child != 0 {
-        let worker = Worker::Holding(narrow(child - 1));
-        let heavier = weight + units(frame[child - 1]);
+        let worker = Worker::Holding(byte(child - 1));
+        let heavier = weight + units16(frame[child - 1]);
         return Turned {
             worker,
             weight: heavier,

@@ -2,7 +2,7 @@
 -- that name workers.
 --   Still r b g    == a state at stage g of round r in which the worker waits
 --   request-served == `InTime` of every worker that waits in a state of a run
-use Prim.Native.Nat.{ℕ, zero, suc, _+_, _-_, _≤_, _<_, zero-le}
+use Prim.Native.Nat.{ℕ, zero, suc, _+_, _-_, _≤_, zero-le}
 use mathlib.Core.Path.{_≡_, refl, sym, ap, _∙_}
 use mathlib.Core.Logic.{_⊎_, inl, inr, ⊎-elim, _≢_, by-cases}
 use mathlib.Core.Bool.{Bool, true, false}
@@ -18,13 +18,14 @@ use Rattle.runs.specs.declared.worker.Worker.{Worker}
 use Rattle.runs.specs.declared.worker.Worker.the-variants.{Idle, Waiting}
 use Rattle.runs.specs.Setting.{Setting, countIn}
 use Rattle.runs.specs.State.{State, workerOf}
-use Rattle.runs.specs.Steal.{waits, oldest}
+use Rattle.runs.specs.Steal.{waits}
+use Rattle.runs.specs.Parts.{pickOf}
 use Rattle.runs.specs.Run.{ended}
 use Rattle.runs.specs.Trace.{Stage, turning, laying, serving, Trace, begins, turned, goes-on, laid, all-laid, served, next-round}
 use Rattle.runs.specs.Trace.{ServedIn, LeftIn, InTime}
-use Rattle.runs.proofs.Laws.Fit.{Fit, count-most, count-next}
+use Rattle.runs.proofs.Laws.Fit.{Fit, count-next}
 use Rattle.runs.proofs.Laws.Began.{trace-began, laying-idle}
-use Rattle.runs.proofs.Laws.Least.{oldest-waits}
+use Rattle.runs.proofs.Laws.Picks.{pickOf-picks}
 use Rattle.runs.proofs.Laws.Stores.{turned-workers, laid-workers, served-workers}
 use Rattle.runs.proofs.Laws.Served.{waits-due}
 
@@ -78,7 +79,7 @@ module _ {S : Setting} (fit : Fit S) (named : T (all (λ c. ltb c (S .workers)) 
       → ServedIn S w v l r ⊎ Still r b (serving (countIn S r))
   serves-still {r} {b} zero k e i = let q : k ≡ countIn S r = omega arith in inr (rw q at i)
   serves-still {r} {b} (suc d) k e (s, t, asked) =
-      by-cases (ℕ-discrete (oldest k (countIn S r) (s .workers) .who) (suc w)) mine
+      by-cases (ℕ-discrete (pickOf S r k (s .workers)) (suc w)) mine
       (λ f. serves-still d (suc k) (omega arith) (
         _,
         served t (omega arith),
@@ -86,9 +87,9 @@ module _ {S : Setting} (fit : Fit S) (named : T (all (λ c. ltb c (S .workers)) 
             (λ x y q c. getD-set-other (s .workers) x w y Idle (λ z. f (q ∙ ap suc (sym z))) ∙ asked),
       ))
     where
-      mine : oldest k (countIn S r) (s .workers) .who ≡ suc w → ServedIn S w v l r ⊎ Still r b (serving (countIn S r))
+      mine : pickOf S r k (s .workers) ≡ suc w → ServedIn S w v l r ⊎ Still r b (serving (countIn S r))
       mine q =
-          let (h, m, waited) = oldest-waits k (countIn S r) (s .workers) (count-most fit r) q in
+          let (h, m, waited) = pickOf-picks fit r k (s .workers) w q in
           let here : k ≡ v = cc in
           inl (record { began = b; state = s; now = rw here at t; there = omega arith; asked = asked; first = rw here at q })
 

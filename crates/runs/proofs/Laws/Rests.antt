@@ -11,10 +11,11 @@ use lib.ListN.{getD}
 use Rattle.runs.specs.declared.worker.Worker.{Worker}
 use Rattle.runs.specs.declared.worker.Worker.the-variants.{Idle, Holding, Waiting}
 use Rattle.plan.specs.Plan.{Plan}
-use Rattle.runs.specs.Setting.{Setting, countIn}
+use Rattle.runs.specs.Setting.{Setting}
 use Rattle.runs.specs.State.{State, dequeOf}
 use Rattle.runs.specs.Turn.{turn, idled, turnOf}
-use Rattle.runs.specs.Steal.{laid, lay, oldest, given, serve}
+use Rattle.runs.specs.Steal.{laid, lay, given, serve}
+use Rattle.runs.specs.Parts.{pickOf}
 use Rattle.runs.specs.Trace.{turning, laying, serving, Trace}
 
 pub record Rests (s t : State) : Type 0 where
@@ -65,5 +66,5 @@ module _ {S : Setting} {r k : ℕ} {b : List Worker} {s : State} where
   pub laid-rests : Trace S r b (laying k) s → Rests s (lay S r k (getD b k Idle) s)
   laid-rests t = lay-rests S r k (getD b k Idle) s
 
-  pub served-rests : Trace S r b (serving k) s → Rests s (serve k (oldest k (countIn S r) (s .workers) .who) s)
-  served-rests t = serve-rests k (oldest k (countIn S r) (s .workers) .who) s
+  pub served-rests : Trace S r b (serving k) s → Rests s (serve k (pickOf S r k (s .workers)) s)
+  served-rests t = serve-rests k (pickOf S r k (s .workers)) s

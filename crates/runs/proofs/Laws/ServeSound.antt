@@ -1,6 +1,6 @@
 -- A request and a service keep a state sound: a request and a miss change no line, and a steal is a theft.
 --   lay-sound   == of the request of a worker that is idle
---   serve-sound == of the service of a worker that waits on the victim
+--   serve-sound == of the service of any worker that waits on the victim
 use Prim.Native.Nat.{ℕ, zero, suc, _≤_, _<_}
 use mathlib.Core.Path.{_≡_, refl, ap, ap₂, sym, subst, fun-ext, _∙_}
 use mathlib.Core.Logic.{_≢_, by-cases, ⊎-elim}
@@ -16,6 +16,7 @@ use Rattle.plan.specs.Plan.{Plan}
 use Rattle.runs.specs.Setting.{Setting}
 use Rattle.runs.specs.State.{State, nextOf, workerOf, dequeOf}
 use Rattle.runs.specs.Steal.{laid, lay, dropTop, topOf, given, serve}
+use Rattle.runs.specs.Parts.{Picks}
 use Rattle.lines.proofs.Laws.Shape.{Good}
 use Rattle.lines.proofs.Laws.Steal.{steal-good}
 use Rattle.plan.specs.Rules.{Accepted}
@@ -131,7 +132,7 @@ module _ {p : Plan} (ok : Accepted p) {n : ℕ} (most : n ≤ 16) {s : State} (s
     given-sound [] q = free-sound most sound c idle Idle (λ d. refl) (given v w [] s .tally)
     given-sound (x ∷ d) q = let (j, h) = victim-holds q in steal-sound q h
 
-  pub serve-sound : (who : ℕ) → ((w : ℕ) → who ≡ suc w → (w < n) × (l : ℕ) × (workerOf s w ≡ Waiting v l)) → Sound p n (serve v who s)
+  pub serve-sound : (who : ℕ) → Picks v n (s .workers) who → Sound p n (serve v who s)
   unfolding serve
-  serve-sound zero waits = sound
-  serve-sound (suc w) waits = let (c, l, h) = waits w refl in given-sound c h (dequeOf s v) refl
+  serve-sound zero picks = sound
+  serve-sound (suc w) picks = let (c, l, h) = picks w refl in given-sound c h (dequeOf s v) refl

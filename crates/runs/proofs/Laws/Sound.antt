@@ -19,7 +19,7 @@ use Rattle.runs.specs.State.{State, nextOf, workerOf, dequeOf, start}
 use Rattle.courses.specs.Row.{noRow}
 use Rattle.courses.specs.Ready.{weight}
 use Rattle.runs.specs.Setting.{Setting, countIn}
-use Rattle.runs.specs.Steal.{oldest}
+use Rattle.runs.specs.Parts.{pickOf}
 use Rattle.runs.specs.Run.{ended}
 use Rattle.lines.proofs.Laws.Shape.{Living, Leaves}
 use Rattle.lines.proofs.Laws.Start.{start-good}
@@ -34,7 +34,7 @@ use Rattle.runs.specs.Trace.{Stage, Trace, begins, turned, goes-on, laid
 use Rattle.courses.proofs.Laws.PlanShape.{shape, shape-valid}
 use Rattle.runs.proofs.Laws.Fit.{Fit, count-some, count-most, count-next}
 use Rattle.runs.proofs.Laws.Start.{none-done, start-idle, start-deque}
-use Rattle.runs.proofs.Laws.Least.{oldest-waits}
+use Rattle.runs.proofs.Laws.Picks.{pickOf-picks}
 use Rattle.runs.proofs.Laws.Lined.{lineOf, Sound, line-of, line-held, held-below}
 use Rattle.runs.proofs.Laws.Began.{trace-began, laying-idle}
 use Rattle.runs.proofs.Laws.TurnSound.{turnOf-sound}
@@ -88,8 +88,8 @@ module _ {S : Setting} (fit : Fit S) where
       lay-sound (count-most fit r) (trace-sound t) S r l (getD b k Idle) (laying-idle t k (le-refl k))
   trace-sound (all-laid t) = trace-sound t
   trace-sound (served {r} {k} {b} {s} t l) =
-      serve-sound (fit .plan) (count-most fit r) (trace-sound t) l (oldest k (countIn S r) (s .workers) .who)
-      (λ w. oldest-waits k (countIn S r) (s .workers) (count-most fit r))
+      serve-sound (fit .plan) (count-most fit r) (trace-sound t) l (pickOf S r k (s .workers))
+      (pickOf-picks fit r k (s .workers))
   trace-sound (next-round {r} t) = rw (count-next S r) (trace-sound t)
 
   -- each worker that there is has its place

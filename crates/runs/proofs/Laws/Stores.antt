@@ -18,13 +18,13 @@ use Rattle.plan.specs.Plan.{Plan, size, action}
 use Rattle.courses.specs.Ready.{ready}
 use Rattle.runs.specs.declared.worker.Worker.{Worker}
 use Rattle.runs.specs.declared.worker.Worker.the-variants.{Idle, Holding, Waiting}
-use Rattle.runs.specs.Setting.{Setting, countIn}
+use Rattle.runs.specs.Setting.{Setting}
 use Rattle.runs.specs.State.{State, nextOf, dequeOf}
 use Rattle.runs.specs.Turn.{seatAfter, turn, idled, turnOf}
-use Rattle.runs.specs.Parts.{afterOf, aboveOf}
+use Rattle.runs.specs.Parts.{afterOf, aboveOf, pickOf}
 use Rattle.runs.specs.Trace.{turning, laying, serving, Trace}
 use Rattle.runs.proofs.Laws.TurnSound.{stay, seat-spawn, seat-none}
-use Rattle.runs.specs.Steal.{laid, lay, oldest, topOf, given, serve, waits}
+use Rattle.runs.specs.Steal.{laid, lay, topOf, given, serve, waits}
 
 abbrev pub victimOf : Setting → State → ℕ
 victimOf S s = getD (S .choices) (s .tally .requests % length (S .choices)) 0
@@ -79,7 +79,7 @@ module _ (P : List Worker → Type 0) where
         → (getD b k Idle ≡ Idle → P (set (s .workers) k (Waiting (victimOf S s) r))) → P (lay S r k (getD b k Idle) s .workers)
     laid-workers t = lay-workers S r k (getD b k Idle) s
 
-    pub served-workers : Trace S r b (serving k) s → let who = oldest k (countIn S r) (s .workers) .who in
+    pub served-workers : Trace S r b (serving k) s → let who = pickOf S r k (s .workers) in
         (who ≡ 0 → P (s .workers)) → ((w : ℕ) (y : Worker) → who ≡ suc w → waits y ≡ 0 → P (set (s .workers) w y))
         → P (serve k who s .workers)
-    served-workers t = serve-workers k (oldest k (countIn S r) (s .workers) .who) s
+    served-workers t = serve-workers k (pickOf S r k (s .workers)) s

@@ -15,7 +15,8 @@ use Rattle.runs.specs.declared.worker.Worker.the-variants.{Idle, Holding
 use Rattle.runs.specs.Setting.{Setting, countIn}
 use Rattle.runs.specs.State.{State, dequeOf, start}
 use Rattle.runs.specs.Turn.{turn, turnOf}
-use Rattle.runs.specs.Steal.{laid as laidBy, lay, oldest, given, serve}
+use Rattle.runs.specs.Steal.{laid as laidBy, lay, given, serve}
+use Rattle.runs.specs.Parts.{pickOf}
 use Rattle.runs.specs.Trace.{Stage, turning, laying, serving, Trace, begins, turned, goes-on, laid, all-laid, served, next-round}
 use Rattle.runs.proofs.Laws.Fit.{Fit, count-most, count-within, count-is}
 use Rattle.runs.proofs.Laws.Rests.{turned-took, laid-rests, served-rests}
@@ -95,7 +96,7 @@ module _ {S : Setting} (fit : Fit S) where
   requests-counted (goes-on t e) = (omega arith, omega (arith, requests-counted t))
   requests-counted (laid {r} {k} {b} {s} t h) = (h, omega (arith, requests-counted t, lay-requests S r k (getD b k Idle) s))
   requests-counted (all-laid t) = omega (arith, requests-counted t)
-  requests-counted (served {r} {k} {b} {s} t h) = rw (serve-requests k (oldest k (countIn S r) (s .workers) .who) s) (requests-counted t)
+  requests-counted (served {r} {k} {b} {s} t h) = rw (serve-requests k (pickOf S r k (s .workers)) s) (requests-counted t)
   requests-counted (next-round {r} t) = omega (arith, requests-counted t)
 
   pub requests-most : {r : ℕ} {b : List Worker} {g : Stage} {s : State} → Trace S r b g s → s .tally .requests ≤ counts S r

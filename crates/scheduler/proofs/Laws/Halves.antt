@@ -18,7 +18,8 @@ use Rattle.runs.specs.declared.worker.Worker.{Worker}
 use Rattle.runs.specs.declared.worker.Worker.the-variants.{Idle, Holding, Waiting}
 use Rattle.runs.specs.State.{State, nextOf}
 use Rattle.runs.specs.Turn.{turns}
-use Rattle.runs.specs.Steal.{laid, lay, lays, oldest, serves}
+use Rattle.runs.specs.Steal.{laid, lay, lays, serves}
+use Rattle.runs.specs.Parts.{pickOf}
 use Rattle.runs.specs.Run.{ended, round}
 use Rattle.runs.specs.Trace.{Stage, turning, laying, goes-on}
 use Rattle.scheduler.specs.Requests.{Pointed, Queued}
@@ -44,7 +45,7 @@ unfolding serves
 serves-still S r zero s = (refl, refl)
 serves-still S r (suc k) s =
     let t = serves S r k s in
-    let q = serve-rests k (oldest k (countIn S r) (t .workers) .who) t in
+    let q = serve-rests k (pickOf S r k (t .workers)) t in
     let (g, h) = serves-still S r k s in
     (q .next ∙ g, q .rows ∙ h)
 
@@ -58,7 +59,7 @@ pub serves-requests : (S : Setting) (r k : ℕ) (s : State) → serves S r k s .
 unfolding serves
 serves-requests S r zero s = refl
 serves-requests S r (suc k) s =
-    let t = serves S r k s in serve-requests k (oldest k (countIn S r) (t .workers) .who) t ∙ serves-requests S r k s
+    let t = serves S r k s in serve-requests k (pickOf S r k (t .workers)) t ∙ serves-requests S r k s
 
 -- the second half leaves the actions and the rows
 second-still : (S : Setting) (n r : ℕ) (b : List Worker) (s : State)

@@ -1,4 +1,8 @@
--- The account and the seats after a request and after a service.
+-- The account and the seats after a request and after a service, whoever is served.
+--   lay-rests                 == a worker that was not idle as the round began lays no request
+--   laid-manned, laid-pointed == after a request: the account and the seats, and the place of the next choice
+--   given-worker, given-fits  == the worker that is served, as its seat then has it
+--   steal-served, miss-served == after a service that is a steal, and after one that is a miss
 use Prim.Native.Nat.{ℕ, suc, _%_, _<_}
 use mathlib.Core.Path.{_≡_, refl, sym, _∙_}
 use mathlib.Core.Bool.{false, true≢false}
@@ -8,22 +12,23 @@ use native.Mathlib.Omega.{arith}
 use lib.ListN.{length, getD, set}
 use lib.Seq.{getD-set-same, getD-set-other}
 use Rattle.plan.specs.Plan.{Plan}
+use Rattle.plan.proofs.Laws.Valid.{jobs-range}
 use Rattle.scheduler.specs.declared.account.Account.{Account}
-use Rattle.runs.specs.Setting.{Setting, countIn}
+use Rattle.runs.specs.Setting.{Setting}
 use Rattle.runs.specs.declared.tally.Tally.{Tally}
 use Rattle.runs.specs.declared.worker.Worker.{Worker}
 use Rattle.runs.specs.declared.worker.Worker.the-variants.{Idle, Holding, Waiting}
 use Rattle.runs.specs.Tally.{withRequest, withSteal, withMiss}
 use Rattle.runs.specs.State.{State, workerOf, dequeOf}
 use Rattle.runs.specs.Steal.{laid, lay, topOf, given, serve}
-use Rattle.runs.specs.Trace.{served}
 use Rattle.scheduler.specs.Machine.{codeOf, Fitting, isIdle, Seated, Manned, Dequed, Given}
 use Rattle.scheduler.specs.Requests.{Pointed, Serving}
+use Rattle.runs.proofs.Laws.Lined.{Sound, held-job}
+use Rattle.runs.proofs.Laws.ServeSound.{serve-sound}
 use Rattle.scheduler.proofs.Laws.Codes.{seated-set}
-use Rattle.scheduler.proofs.Laws.Running.{run-sound, run-seats, run-at}
+use Rattle.scheduler.proofs.Laws.Running.{run-sound}
 use Rattle.scheduler.proofs.Laws.Picks.{served-below}
 
--- a worker that was not idle as the round began lays no request
 pub lay-rests : (S : Setting) (r w : ℕ) (x : Worker) (s : State) → isIdle x ≡ false → lay S r w x s ≡ s
 unfolding lay
 lay-rests S r w Idle s f = absurd (true≢false f)
@@ -84,7 +89,14 @@ module _ (p : Plan) (s : State) (c : Account) (seats : List ℕ) (sixteen : leng
 pub given-fits : {p : Plan} {n : ℕ} {choices : List ℕ} {r : ℕ} {b : List Worker} {s : State} {v w : ℕ} {c : Account} {seats slots top len : List ℕ}
     → Serving p n choices r b s v (suc w) c seats slots top len → (x : Worker) (top′ len′ : List ℕ)
     → Given (s .deques) v (dequeOf s v) x slots top′ len′ → Fitting x
-unfolding countIn
-given-fits {p} {n} {choices} {r} {b} {s} {v} {w} {c} {seats} {slots} g x top′ len′ q =
-    rw (← g .picked, given-worker p s c seats (run-sound (g .run) .workers) (g .manned) w (served-below g) v x slots top′ len′ q) at
-    (run-seats (run-at (g .run) (served (g .run .trace) (g .known))) w)
+given-fits {p} {n} {s = s} {v} {w} {c} {seats} {slots} g x top′ len′ q = go (dequeOf s v) q
+  where
+    after : Sound p n (serve v (suc w) s)
+    after = serve-sound (g .run .accepted) (g .run .most) (run-sound (g .run)) (g .known) (suc w) (g .picks)
+
+    has : workerOf (serve v (suc w) s) w ≡ x
+    has = given-worker p s c seats (run-sound (g .run) .workers) (g .manned) w (served-below g) v x slots top′ len′ q
+
+    go : (d : List ℕ) → Given (s .deques) v d x slots top′ len′ → Fitting x
+    go [] (i, r) = rw i (omega arith)
+    go (y ∷ d) (i, r) = rw i (omega (arith, held-job after w (has ∙ i) .0, jobs-range p (g .run .accepted) .1))

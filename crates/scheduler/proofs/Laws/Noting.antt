@@ -1,5 +1,9 @@
 -- A list of the numbers that pass a test, as it grows number by number. The requests of the idle workers are the requests of all, and
 -- the services of the victims that have a request are those of all.
+--   noted-none, noted-next             == the list of none, and of one number more; grown-most == it grows by at most one
+--   LaidTo, ServedTo                   == the arrays after the requests, and after the services, of those below k
+--   noted-here, laid-more, noted-end   == before a worker of the list lays, after it has, and after the last
+--   asked-here, served-more, asked-end == before a victim of the list serves, after it has, and after the last
 use Prim.Native.Nat.{ℕ, zero, suc, _+_, _*_, _≤_, _<_}
 use mathlib.Core.Path.{_≡_, refl, sym, ap, _∙_}
 use mathlib.Core.Bool.{Bool, true, false}
@@ -15,7 +19,8 @@ use Rattle.runs.specs.Setting.{Setting, setting, countIn}
 use Rattle.runs.specs.declared.worker.Worker.{Worker}
 use Rattle.runs.specs.declared.worker.Worker.the-variants.{Idle}
 use Rattle.runs.specs.State.{State}
-use Rattle.runs.specs.Steal.{lays, lay, oldest, serve, serves}
+use Rattle.runs.specs.Steal.{lays, lay, serve, serves}
+use Rattle.runs.specs.Parts.{pickOf}
 use Rattle.runs.specs.Trace.{serving}
 use Rattle.scheduler.specs.declared.account.Account.{Account}
 use Rattle.scheduler.specs.Machine.{InRun, Manned, Dequed}
@@ -23,7 +28,7 @@ use Rattle.scheduler.specs.Requests.{Pointed, Queued, None, past, Noted,
 use Rattle.scheduler.proofs.Laws.Codes.{idle-is}
 use Rattle.scheduler.proofs.Laws.Manning.{lay-rests}
 use Rattle.scheduler.proofs.Laws.Queues.{queued-later}
-use Rattle.scheduler.proofs.Laws.Picks.{first-oldest}
+use Rattle.scheduler.proofs.Laws.Picks.{first-picked}
 use Rattle.scheduler.proofs.Laws.Running.{run-serves}
 
 pub noted-none : (test : ℕ → Bool) (list : List ℕ) → Noted test 0 list 0
@@ -117,7 +122,7 @@ not-asked : (x : ℕ) → ltb 0 x ≡ false → x ≡ 0
 not-asked x e = by-cases (ℕ-discrete x 0) (λ q. q) (λ f. absurd (rw e at (le→leb 1 x (omega (arith, f)))))
 
 -- a victim without a request serves none
-serves-none : (S : Setting) (r k : ℕ) (s : State) → oldest k (countIn S r) (serves S r k s .workers) .who ≡ 0 → serves S r (suc k) s ≡ serves S r k s
+serves-none : (S : Setting) (r k : ℕ) (s : State) → pickOf S r k (serves S r k s .workers) ≡ 0 → serves S r (suc k) s ≡ serves S r k s
 unfolding serves serve
 serves-none S r k s e = ap (λ x. serve k x (serves S r k s)) e
 
@@ -134,7 +139,7 @@ module _ {p : Plan} {n : ℕ} {choices : List ℕ} {r : ℕ} {b : List Worker} {
       → ServedTo p (setting p n choices) r hi s a seats after₀ after last slots top len (suc j)
   unfolding countIn
   served-on j l none t =
-      let first = first-oldest (run-serves run j (omega arith)) l (t .queued) in
+      let first = first-picked (run-serves run j (omega arith)) l (t .queued) in
       let e = serves-none (setting p n choices) r j s (sym first ∙ (t .kept j (omega arith) ∙ not-asked _ none)) in
       record { manned = rw e (t .manned); queued = rw e (t .queued); dequed = rw e (t .dequed); kept = λ u m. t .kept u (omega arith) }
 
@@ -163,9 +168,9 @@ module _ {p : Plan} {n : ℕ} {choices : List ℕ} {r : ℕ} {b : List Worker} {
 pub served-more : {p : Plan} {S : Setting} {n r hi : ℕ} {s : State} {a a′ : Account} {seats seats′ after₀ after after′ last last′ slots top top′ len len′ : List ℕ}
     {list : List ℕ} {count : ℕ} → Noted (askedIn after₀) n list count → (m v : ℕ) → v ≡ getD list m 0
     → ServedTo p S r hi s a seats after₀ after last slots top len v
-    → Manned p (serve v (oldest v (countIn S r) (serves S r v s .workers) .who) (serves S r v s)) a′ seats′
-    × Queued hi (serve v (oldest v (countIn S r) (serves S r v s .workers) .who) (serves S r v s) .workers) after′ last′
-    × Dequed (serve v (oldest v (countIn S r) (serves S r v s .workers) .who) (serves S r v s) .deques) slots top′ len′
+    → Manned p (serve v (pickOf S r v (serves S r v s .workers)) (serves S r v s)) a′ seats′
+    × Queued hi (serve v (pickOf S r v (serves S r v s .workers)) (serves S r v s) .workers) after′ last′
+    × Dequed (serve v (pickOf S r v (serves S r v s .workers)) (serves S r v s) .deques) slots top′ len′
     → ((u : ℕ) → u ≢ v → getD after′ (16 + u) 0 ≡ getD after (16 + u) 0)
     → ServedTo p S r hi s a′ seats′ after₀ after′ last′ slots top′ len′ (past list (suc m))
 unfolding serves

@@ -1,5 +1,10 @@
 -- The lines of requests from state to state: turns leave them, a request lengthens one, a service shortens one, and the first of a line
 -- is the request that its victim serves.
+--   calm-idle                  == an idle worker does not wait; laying-calm == nor does one that lays a request
+--   turns-queued, first-queued == the lines after turns, and as a run begins
+--   lay-queued, serve-queued   == after a request, and after the service of whoever waits
+--   first-picked               == the first of a line is the pick of its victim; run-picks == who is picked waits on the victim
+--   served-below               == who is served is one of the sixteen
 use Prim.Native.Nat.{ℕ, zero, suc, _+_, _≤_, _<_}
 use mathlib.Core.Path.{_≡_, refl, sym, ap, _∙_}
 use mathlib.Core.List.{List, [], _∷_}
@@ -8,20 +13,21 @@ use native.Mathlib.Omega.{arith}
 use lib.ListN.{getD, set, replicate, getD-replicate}
 use Rattle.plan.specs.Plan.{Plan}
 use Rattle.scheduler.specs.declared.account.Account.{Account}
-use Rattle.runs.specs.Setting.{Setting}
+use Rattle.runs.specs.Setting.{Setting, setting, countIn}
 use Rattle.runs.specs.declared.worker.Worker.{Worker}
 use Rattle.runs.specs.declared.worker.Worker.the-variants.{Idle, Holding, Waiting}
 use Rattle.runs.specs.State.{State, workerOf, dequeOf, start}
 use Rattle.runs.specs.Turn.{turns}
-use Rattle.runs.specs.Steal.{laid, lay, oldest, serve, waits}
+use Rattle.runs.specs.Steal.{laid, lay, serve, waits}
+use Rattle.runs.specs.Parts.{Picks, pickOf}
 use Rattle.runs.specs.Trace.{turning, laying, serving}
 use Rattle.scheduler.specs.Machine.{InRun}
 use Rattle.scheduler.specs.Requests.{Calm, Queued, Serving}
-use Rattle.runs.proofs.Laws.Least.{oldest-waits}
+use Rattle.runs.proofs.Laws.Picks.{pickOf-picks}
 use Rattle.runs.proofs.Laws.Began.{trace-began, laying-idle}
 use Rattle.runs.proofs.Laws.Start.{start-calm}
 use Rattle.runs.proofs.Laws.Stores.{victimOf, turned-workers, given-workers}
-use Rattle.scheduler.proofs.Laws.Running.{run-sound, run-turns}
+use Rattle.scheduler.proofs.Laws.Running.{run-fit, run-sound, run-turns}
 use Rattle.scheduler.proofs.Laws.Queues.{queue-first, queued-calm}
 
 pub calm-idle : (x : Worker) → x ≡ Idle → Calm x
@@ -59,9 +65,17 @@ unfolding lay laid
 lay-queued S r w hi s after last q = q
 
 -- the first of a line is the request that its victim serves
-pub first-oldest : {p : Plan} {n : ℕ} {choices : List ℕ} {r : ℕ} {b : List Worker} {hi v : ℕ} {s : State} {after last : List ℕ}
-    → InRun p n choices r b (serving v) s → v < n → Queued hi (s .workers) after last → getD after (16 + v) 0 ≡ oldest v n (s .workers) .who
-first-oldest {n = n} {v = v} run k q = queue-first (q .queues v (omega (arith, run .most))) n (run .most) (run-sound run .absent)
+pub first-picked : {p : Plan} {n : ℕ} {choices : List ℕ} {r : ℕ} {b : List Worker} {hi v : ℕ} {s : State} {after last : List ℕ}
+    → InRun p n choices r b (serving v) s → v < n → Queued hi (s .workers) after last
+    → getD after (16 + v) 0 ≡ pickOf (setting p n choices) r v (s .workers)
+unfolding countIn
+first-picked {n = n} {v = v} run k q = queue-first (q .queues v (omega (arith, run .most))) n (run .most) (run-sound run .absent)
+
+-- and waits on it
+pub run-picks : {p : Plan} {n : ℕ} {choices : List ℕ} {r : ℕ} {b : List Worker} {v : ℕ} {s : State}
+    → InRun p n choices r b (serving v) s → Picks v n (s .workers) (pickOf (setting p n choices) r v (s .workers))
+unfolding countIn
+run-picks {r = r} {v = v} {s} run = pickOf-picks (run-fit run) r v (s .workers)
 
 -- the worker that is served waits no longer
 pub serve-queued : {hi : ℕ} {after last : List ℕ} (v w : ℕ) (s : State) → ((x : Worker) → Calm x → Queued hi (set (s .workers) w x) after last)
@@ -73,8 +87,8 @@ serve-queued {hi} {after} {last} v w s q =
 -- the worker that is served is one of the sixteen
 pub served-below : {p : Plan} {n : ℕ} {choices : List ℕ} {r : ℕ} {b : List Worker} {s : State} {v w : ℕ} {c : Account} {seats slots top len : List ℕ}
     → Serving p n choices r b s v (suc w) c seats slots top len → w < 16
-served-below {n = n} {s = s} {v = v} {w = w} g =
-    omega (arith, g .run .most, oldest-waits v n (s .workers) (g .run .most) (sym (g .picked)) .0)
+served-below {w = w} g =
+    omega (arith, g .run .most, g .picks w refl .0)
 
 -- the lines as a run begins
 abbrev pub firstEnds : List ℕ

@@ -1,4 +1,6 @@
 -- The runner's arrays as they are made stand for the start of a run.
+--   firstAccount, firstSeats == the account where job 0's frame weighs so much, and the seats
+--   first-machine            == with the other arrays they stand for it
 use Prim.Native.Nat.{ℕ, zero, suc, _*_, _≤_, _<_}
 use mathlib.Core.Path.{_≡_, refl, sym, ap, _∙_}
 use mathlib.Core.List.{List, [], _∷_}

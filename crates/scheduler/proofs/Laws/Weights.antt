@@ -1,5 +1,8 @@
 -- How a turn changes the weight of the living frames: an action that spawns adds the child's frame, a job's last action takes its
 -- own away, and any other leaves it as it is.
+--   weight-small                          == the living frames of any state fit
+--   last-spawns-none                      == a job's last action spawns none
+--   weight-spawn, weight-end, weight-same == the weight after an action, in this order
 use Prim.Native.Nat.{ℕ, zero, suc, _+_, _-_, _*_, _≤_, _<_}
 use mathlib.Core.Path.{_≡_, refl, ap, sym, _∙_}
 use mathlib.Core.Logic.{_⊎_, inl, inr, _≢_, by-cases}
@@ -19,17 +22,11 @@ use Rattle.courses.specs.Ready.{weight}
 use Rattle.runs.specs.Trace.{Stage}
 use Rattle.scheduler.specs.Machine.{InRun}
 use Rattle.lines.proofs.Laws.Shape.{Living, living?}
-use Rattle.lines.proofs.Laws.Sum.{sum, only, only-yes, only-no, sum-bound}
+use Rattle.lines.proofs.Laws.Sum.{sum, only, only-yes, only-no, sum-same, sum-bound}
 use Rattle.lines.proofs.Laws.Weight.{held}
 use Rattle.courses.proofs.Laws.PlanShape.{shape, weight-held}
 use Rattle.runs.proofs.Laws.Lined.{Sound, held-job}
 use Rattle.scheduler.proofs.Laws.Running.{run-sound}
-
--- no term of a sum changes
-sum-same : (n : ℕ) (f g : ℕ → ℕ) → ((k : ℕ) → k < n → g k ≡ f k) → sum n g ≡ sum n f
-unfolding sum
-sum-same zero f g h = refl
-sum-same (suc n) f g h = omega (arith, sum-same n f g (λ k i. h k (omega arith)), h n (le-refl (suc n)))
 
 -- one term of a sum changes
 sum-change : (n : ℕ) (f g : ℕ → ℕ) (c : ℕ) → c < n → ((k : ℕ) → k < n → k ≢ c → g k ≡ f k) → sum n g + f c ≡ sum n f + g c
@@ -40,7 +37,7 @@ sum-change (suc n) f g c b h = go (sum-change n f g c) (eq-or-lt-of-le (le-of-su
     go : (c < n → ((k : ℕ) → k < n → k ≢ c → g k ≡ f k) → sum n g + f c ≡ sum n f + g c) → (c ≡ n) ⊎ (c < n)
         → sum n g + g n + f c ≡ sum n f + f n + g c
     go rec (inr l) = omega (arith, rec l (λ k i q. h k (omega arith) q), h n (le-refl (suc n)) (λ q. omega arith))
-    go rec (inl e) = omega (arith, sum-same n f g (λ k i. h k (omega arith) (λ q. omega arith)), ap f e, ap g e)
+    go rec (inl e) = omega (arith, sum-same n g f (λ k i. h k (omega arith) (λ q. omega arith)), ap f e, ap g e)
 
 only-same : {A B : Type 0} (d : Dec A) (e : Dec B) (a : ℕ) → (A → B) → (B → A) → only d a ≡ only e a
 unfolding only
@@ -160,4 +157,4 @@ module _ {p : Plan} {n : ℕ} {choices : List ℕ} {r : ℕ} {began : List Worke
       omega (arith, weighed, weighed′, sum-change (length p) weighs weighs′ j (known .0) (λ k h d. same k (λ q. omega arith) (λ x. absurd (d x))))
 
   pub weight-same : action p j (nextOf s j) .spawn ≡ 0 → suc (nextOf s j) ≢ size p j → weight p (set (s .next) j (suc (nextOf s j))) ≡ weight p (s .next)
-  weight-same e f = weighed′ ∙ sum-same (length p) weighs weighs′ (λ k h. same k (λ q. omega arith) (λ x. f)) ∙ sym weighed
+  weight-same e f = weighed′ ∙ sum-same (length p) weighs′ weighs (λ k h. same k (λ q. omega arith) (λ x. f)) ∙ sym weighed

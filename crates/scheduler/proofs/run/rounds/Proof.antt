@@ -23,11 +23,11 @@ abbrev μ-loop : tie.MeasureT-loop
 array-write-seats : tie.Need-array-write-seats Inv-loop μ-loop
 array-write-seats c = search needs
 
-element-copy-out-units : tie.Need-element-copy-out-units Inv-loop μ-loop
-element-copy-out-units c = search needs
+element-copy-out-units16 : tie.Need-element-copy-out-units16 Inv-loop μ-loop
+element-copy-out-units16 c = search needs
 
-units-requires : tie.Need-units-requires Inv-loop μ-loop
-units-requires c κs = tt
+units16-requires : tie.Need-units16-requires Inv-loop μ-loop
+units16-requires c κs = tt
 
 no-counts-requires : tie.Need-no-counts-requires Inv-loop μ-loop
 no-counts-requires c κs = tt
@@ -35,7 +35,7 @@ no-counts-requires c κs = tt
 loop-holds : tie.Need-loop-holds Inv-loop μ-loop
 loop-holds c = (
   c .before .before .before .before .before .pre,
-  λ p g room. rw (c .no-counts .ensures) (first-stands p _ _ _ _ _ _ _ _ g _ _ (c .before .units .ensures .0) room),
+  λ p g room. rw (c .no-counts .ensures) (first-stands p _ _ _ _ _ _ _ _ g _ _ (c .before .units16 .ensures .0) room),
 )
 
 array-read-wide8 : tie.Need-array-read-wide8 Inv-loop μ-loop
@@ -89,8 +89,8 @@ rounds-spec =
     Inv-loop
     μ-loop
     array-write-seats
-    element-copy-out-units
-    units-requires
+    element-copy-out-units16
+    units16-requires
     no-counts-requires
     loop-holds
     array-read-wide8

@@ -1,18 +1,16 @@
 -- `steal::give` meets its contract: what taking the top job of the victim's deque gives is a steal or a miss.
 use Prim.Native.Nat.{ℕ, _<_}
-use mathlib.Core.Path.{_≡_, ap}
+use mathlib.Core.Path.{_≡_, sym, ap, _∙_}
 use native.Mathlib.Omega.{arith}
 use Rattle.runs.specs.declared.worker.Worker.{Worker}
-use Rattle.runs.specs.declared.worker.Worker.the-variants.{Idle, Holding, Waiting}
+use Rattle.runs.specs.declared.worker.Worker.the-variants.{Holding, Waiting}
+use Rattle.runs.proofs.Laws.Began.{idle-unheld}
 use Rattle.scheduler.proofs.Laws.Running.{run-sound, run-counts}
 use Rattle.scheduler.proofs.Laws.Manning.{steal-served, miss-served, given-fits}
 use Rattle.scheduler.proofs.Laws.Picks.{served-below}
 use borrow.Author.Needs.{needs}
 use Rattle.scheduler.proofs.steal.give.Statement.{statement}
 use Rattle.scheduler.proofs.steal.give.Tie as tie
-
-idle-unheld : (x : Worker) → x ≡ Idle → (j : ℕ) → x ≡ Holding j → ⊥
-idle-unheld x e j f = let z : _≡_ {A = ℕ} 0 1 = cc in omega arith
 
 waiting-unheld : (x : Worker) (v l : ℕ) → x ≡ Waiting v l → (j : ℕ) → x ≡ Holding j → ⊥
 waiting-unheld x v l e j f = let z : _≡_ {A = ℕ} 0 1 = cc in omega arith
@@ -71,7 +69,7 @@ returns-2 c =
     let a = c .before .before .before .before .before .before .before .args in
     λ p n choices r b s g.
     rw (c .before .before .before .code-of .ensures)
-    (miss-served p s (a .account) _ (run-sound (g .run) .workers) (g .manned) (a .w) (served-below g) (a .v) _ _ _ _ _ (c .with-miss .ensures) (idle-unheld _ (c .before .enum-told2 .given .1))
+    (miss-served p s (a .account) _ (run-sound (g .run) .workers) (g .manned) (a .w) (served-below g) (a .v) _ _ _ _ _ (c .with-miss .ensures) (λ j q. idle-unheld j (sym (c .before .enum-told2 .given .1) ∙ q))
     (c .before .before .before .before .take-top .ensures (s .deques) (g .dequed)))
 
 returns-3 : tie.Need-returns-3

@@ -4,15 +4,16 @@ use mathlib.Core.Path.{_≡_, refl, sym, _∙_}
 use mathlib.Core.List.{List}
 use native.Mathlib.Omega.{arith}
 use Rattle.plan.specs.Plan.{Plan}
+use Rattle.runs.specs.Setting.{setting}
 use Rattle.runs.specs.declared.worker.Worker.{Worker}
 use Rattle.runs.specs.State.{State}
-use Rattle.runs.specs.Steal.{oldest, serve}
+use Rattle.runs.specs.Steal.{serve}
+use Rattle.runs.specs.Parts.{pickOf}
 use Rattle.runs.specs.Trace.{serving}
-use Rattle.runs.proofs.Laws.Least.{oldest-waits}
 use Rattle.scheduler.specs.Machine.{InRun}
 use Rattle.scheduler.specs.Requests.{Queued}
 use Rattle.scheduler.proofs.Laws.Running.{run-sound}
-use Rattle.scheduler.proofs.Laws.Picks.{first-oldest, serve-queued}
+use Rattle.scheduler.proofs.Laws.Picks.{first-picked, run-picks, serve-queued}
 use Rattle.scheduler.proofs.steal.serve.Statement.{statement}
 use Rattle.scheduler.proofs.steal.serve.Tie as tie
 
@@ -23,8 +24,8 @@ first-in-line-requires c κs = omega (arith, c .before .pre .7 .most, c .before 
 reads : (c : tie.After-first-in-line) (p : Plan) (n : ℕ) (choices : List ℕ) (r : ℕ) (b : List Worker) (hi : ℕ) (s : State)
     → InRun p n choices r b (serving (c .before .before .args .v)) s → c .before .before .args .v < n
     → Queued hi (s .workers) (c .before .before .args .after .now) (c .before .before .args .last .now)
-    → c .first-in-line .result ≡ oldest (c .before .before .args .v) n (s .workers) .who
-reads c p n choices r b hi s run known queued = c .first-in-line .ensures .0 ∙ first-oldest run known queued
+    → c .first-in-line .result ≡ pickOf (setting p n choices) r (c .before .before .args .v) (s .workers)
+reads c p n choices r b hi s run known queued = c .first-in-line .ensures .0 ∙ first-picked run known queued
 
 returns : tie.Need-returns
 unfolding serve
@@ -37,7 +38,7 @@ returns c = (
 picks : (c : tie.Else1) (p : Plan) (n : ℕ) (choices : List ℕ) (r : ℕ) (b : List Worker) (hi : ℕ) (s : State)
     → InRun p n choices r b (serving (c .before .before .before .args .v)) s → c .before .before .before .args .v < n
     → Queued hi (s .workers) (c .before .before .before .args .after .now) (c .before .before .before .args .last .now)
-    → suc (c .before .first-in-line .result - 1) ≡ oldest (c .before .before .before .args .v) n (s .workers) .who
+    → suc (c .before .first-in-line .result - 1) ≡ pickOf (setting p n choices) r (c .before .before .before .args .v) (s .workers)
 picks c p n choices r b hi s run known queued =
     let e = reads (c .before) p n choices r b hi s run known queued in omega (arith, c .if1 .left)
 
@@ -49,7 +50,7 @@ step-up-requires c κs =
     let (p, n, choices, r, b, hi, s, run, known, manned, queued, dequed) = c .before .before .before .before .before .pre in
     let e = picks (c .before .before) p n choices r b hi s run known queued in (
       omega (arith, run .most),
-      omega (arith, run .most, oldest-waits (c .before .before .before .before .before .args .v) n (s .workers) (run .most) (sym e) .0),
+      omega (arith, run .most, run-picks run _ (sym e) .0),
       queued .long .0,
       queued .long .1,
     )
@@ -71,7 +72,7 @@ give-requires c κs =
         known = known;
         manned = manned;
         dequed = dequed;
-        picked = picks (c .before .before .before .before .before .before) p n choices r b hi s run known queued;
+        picks = λ w q. run-picks run w (sym (picks (c .before .before .before .before .before .before) p n choices r b hi s run known queued) ∙ q);
       },
     )
 
@@ -79,12 +80,12 @@ returns-2 : tie.Need-returns-2
 returns-2 c = (
   λ p n choices r b hi s run known manned queued dequed.
       let e = picks (c .before .before .before .before .before .before .before) p n choices r b hi s run known queued in
-      let (m, d) = c .give .ensures p n choices r b s (record { run = run; known = known; manned = manned; dequed = dequed; picked = e }) in
-      let (h, l, w) = oldest-waits (c .before .before .before .before .before .before .before .before .before .before .args .v) n (s .workers) (run .most) (sym e) in
+      let (m, d) = c .give .ensures p n choices r b s (record { run = run; known = known; manned = manned; dequed = dequed; picks = λ w q. run-picks run w (sym e ∙ q) }) in
+      let (h, l, w) = run-picks run _ (sym e) in
       rw (sym e) (
         m,
         serve-queued (c .before .before .before .before .before .before .before .before .before .before .args .v) _ s
-            (λ x calm. c .before .before .before .before .step-up .ensures .0 hi (s .workers) l x queued (run-sound run .workers) w (first-oldest run known queued ∙ sym e) calm),
+            (λ x calm. c .before .before .before .before .step-up .ensures .0 hi (s .workers) l x queued (run-sound run .workers) w (first-picked run known queued ∙ sym e) calm),
         d,
       ),
   c .before .before .before .before .step-up .ensures .1,

@@ -14,7 +14,7 @@ use Rattle.scheduler.proofs.turn.act.Tie as tie
 abbrev reads : tie.After-send → tie.After-wide162
 reads c = c .before .before .before .before .before .before
 
-abbrev counts : tie.After-send → tie.After-narrow
+abbrev counts : tie.After-send → tie.After-byte
 counts c = reads c .before .before
 
 abbrev sends : tie.Then1 → tie.After-send
@@ -38,14 +38,14 @@ element-copy-out-wide16 c = omega (arith, acting-room (c .pre .6))
 wide16-requires : tie.Need-wide16-requires
 wide16-requires c κs = search needs
 
-sub-narrow : tie.Need-sub-narrow
-sub-narrow c = omega (arith, c .wide16 .ensures, acting-first (c .before .before .pre .6), acting-room (c .before .before .pre .6))
+sub-byte : tie.Need-sub-byte
+sub-byte c = omega (arith, c .wide16 .ensures, acting-first (c .before .before .pre .6), acting-room (c .before .before .pre .6))
 
-add-narrow : tie.Need-add-narrow
-add-narrow c = omega (arith, c .wide16 .ensures, acting-first (c .before .before .pre .6), acting-room (c .before .before .pre .6))
+add-byte : tie.Need-add-byte
+add-byte c = omega (arith, c .wide16 .ensures, acting-first (c .before .before .pre .6), acting-room (c .before .before .pre .6))
 
-narrow-requires : tie.Need-narrow-requires
-narrow-requires c κs = omega (arith, c .wide16 .ensures, acting-first (c .before .before .pre .6), acting-room (c .before .before .pre .6))
+byte-requires : tie.Need-byte-requires
+byte-requires c κs = omega (arith, c .wide16 .ensures, acting-first (c .before .before .pre .6), acting-room (c .before .before .pre .6))
 
 element-write-next : tie.Need-element-write-next
 element-write-next c = omega (arith, acting-room (c .before .before .before .pre .6))
@@ -64,7 +64,7 @@ send-requires : tie.Need-send-requires
 send-requires c κs =
     let m = c .before .before .before .before .before .before .before in
     let (p, n, choices, r, b, s, a) = m .before .before .before .pre in
-    (p, n, choices, r, b, s, acting-sends a _ _ (m .before .wide16 .ensures .0) (m .narrow .ensures))
+    (p, n, choices, r, b, s, acting-sends a _ _ (m .before .wide16 .ensures .0) (m .byte .ensures))
 
 -- 2. and `leave` the one that rule 1 left
 leave-requires : tie.Need-leave-requires
@@ -72,44 +72,44 @@ leave-requires c κs =
     let m = counts (c .before .before .before) in
     let l = m .before .before .before in
     let (p, n, choices, r, b, s, a) = l .pre in
-    let sent = c .before .before .before .send .ensures p n choices r b s (acting-sends a _ _ (m .before .wide16 .ensures .0) (m .narrow .ensures)) in
+    let sent = c .before .before .before .send .ensures p n choices r b s (acting-sends a _ _ (m .before .wide16 .ensures .0) (m .byte .ensures)) in
     (set (s .deques) (l .args .w) (aboveOf p s (l .args .w) (l .args .j)), sent .dequed, acting-room a .4, acting-room a .0, above-low a)
 
-sub-narrow-2 : tie.Need-sub-narrow-2
-sub-narrow-2 c = search needs
+sub-byte-2 : tie.Need-sub-byte-2
+sub-byte-2 c = search needs
 
-narrow-requires-2 : tie.Need-narrow-requires-2
-narrow-requires-2 c κs =
+byte-requires-2 : tie.Need-byte-requires-2
+byte-requires-2 c κs =
     let u = sends c in
     acting-child (counts u .before .before .before .pre .6) _ _ (reads u .wide162 .ensures .0) (omega (arith, c .if1 .taken)) refl .1
 
-sub-units : tie.Need-sub-units
-sub-units c = search needs
+sub-units16 : tie.Need-sub-units16
+sub-units16 c = search needs
 
-mul-units : tie.Need-mul-units
-mul-units c = search needs
+mul-units16 : tie.Need-mul-units16
+mul-units16 c = search needs
 
-element-copy-out-units : tie.Need-element-copy-out-units
-element-copy-out-units c = search needs
+element-copy-out-units16 : tie.Need-element-copy-out-units16
+element-copy-out-units16 c = search needs
 
-units-requires : tie.Need-units-requires
-units-requires c κs = search needs
+units16-requires : tie.Need-units16-requires
+units16-requires c κs = search needs
 
 add-heavier : tie.Need-add-heavier
 add-heavier c =
     let t = c .before .before .before in
     let u = sends t in
     let a = counts u .before .before .before .pre .6 in
-    omega (arith, c .units .ensures, acting-heavier a _ _ (reads u .wide162 .ensures .0) (omega (arith, t .if1 .taken)) refl)
+    omega (arith, c .units16 .ensures, acting-heavier a _ _ (reads u .wide162 .ensures .0) (omega (arith, t .if1 .taken)) refl)
 
 returns : tie.Need-returns
 returns c p n choices r b s a =
     let t = c .before .before .before in
     let u = sends t in
     let m = counts u in
-    let sent = u .send .ensures p n choices r b s (acting-sends a _ _ (m .before .wide16 .ensures .0) (m .narrow .ensures)) in
+    let sent = u .send .ensures p n choices r b s (acting-sends a _ _ (m .before .wide16 .ensures .0) (m .byte .ensures)) in
     acting-spawns a _ _ (reads u .wide162 .ensures .0) (omega (arith, t .if1 .taken)) refl _
-    (ap Holding (c .before .before .narrow2 .ensures)) (omega (arith, c .units .ensures))
+    (ap Holding (c .before .before .byte2 .ensures)) (omega (arith, c .units16 .ensures))
     (sent .progressed) (leaves t .leave .ensures _ (sent .dequed) .1 (omega (arith, t .if1 .taken)))
 
 settle-requires : tie.Need-settle-requires
@@ -118,7 +118,7 @@ settle-requires c κs =
     let u = sends-only t in
     let m = counts u in
     let (p, n, choices, r, b, s, a) = m .before .before .before .pre in
-    let sent = u .send .ensures p n choices r b s (acting-sends a _ _ (m .before .wide16 .ensures .0) (m .narrow .ensures)) in
+    let sent = u .send .ensures p n choices r b s (acting-sends a _ _ (m .before .wide16 .ensures .0) (m .byte .ensures)) in
     let dequed = leaves-none t .leave .ensures _ (sent .dequed) .0 (omega (arith, t .if1 .left)) in
     (p, n, choices, r, b, s, _, acting-settles a (omega (arith, reads u .wide162 .ensures, t .if1 .left)) (record { progressed = sent .progressed; dequed = dequed }))
 
@@ -127,7 +127,7 @@ returns-2 c p n choices r b s a =
     let t = c .before .before .before .before .before in
     let u = sends-only t in
     let m = counts u in
-    let sent = u .send .ensures p n choices r b s (acting-sends a _ _ (m .before .wide16 .ensures .0) (m .narrow .ensures)) in
+    let sent = u .send .ensures p n choices r b s (acting-sends a _ _ (m .before .wide16 .ensures .0) (m .byte .ensures)) in
     let dequed = leaves-none t .leave .ensures _ (sent .dequed) .0 (omega (arith, t .if1 .left)) in
     c .settle .ensures p n choices r b s _
     (acting-settles a (omega (arith, reads u .wide162 .ensures, t .if1 .left)) (record { progressed = sent .progressed; dequed = dequed }))
@@ -139,21 +139,21 @@ act-spec =
     mul-wide16
     element-copy-out-wide16
     wide16-requires
-    sub-narrow
-    add-narrow
-    narrow-requires
+    sub-byte
+    add-byte
+    byte-requires
     element-write-next
     mul-wide16-2
     element-copy-out-wide16-2
     wide16-requires-2
     send-requires
     leave-requires
-    sub-narrow-2
-    narrow-requires-2
-    sub-units
-    mul-units
-    element-copy-out-units
-    units-requires
+    sub-byte-2
+    byte-requires-2
+    sub-units16
+    mul-units16
+    element-copy-out-units16
+    units16-requires
     add-heavier
     returns
     settle-requires

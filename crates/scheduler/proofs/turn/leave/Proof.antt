@@ -6,18 +6,18 @@ use Rattle.scheduler.proofs.turn.leave.Tie as tie
 returns : tie.Need-returns
 returns c ds dequed = (λ e. dequed, λ f. absurd (f (c .if1 .taken)))
 
-narrow-requires : tie.Need-narrow-requires
-narrow-requires c κs = c .before .before .before .before .pre .3
+byte-requires : tie.Need-byte-requires
+byte-requires c κs = c .before .before .before .before .pre .3
 
 push-requires : tie.Need-push-requires
 push-requires c κs =
     let (ds, dequed, known, small, low) = c .before .before .before .before .before .pre in
-    (ds, dequed, known, λ x d e. omega (arith, c .narrow .ensures, low x d e))
+    (ds, dequed, known, λ x d e. omega (arith, c .byte .ensures, low x d e))
 
 returns-2 : tie.Need-returns-2
 returns-2 c ds dequed = (
   λ e. absurd (c .before .before .before .before .before .if1 .left e),
-  λ f. rw (c .before .narrow .ensures) at (c .push .ensures ds dequed),
+  λ f. rw (c .before .byte .ensures) at (c .push .ensures ds dequed),
 )
 
 pub leave-spec : {M : Type 1} → statement M
@@ -25,6 +25,6 @@ leave-spec =
     tie.close
     (tie.spec
     returns
-    narrow-requires
+    byte-requires
     push-requires
     returns-2)

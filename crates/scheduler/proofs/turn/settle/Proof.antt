@@ -28,24 +28,24 @@ take-bottom-requires c κs =
     let g = c .before .before .before .before .pre .7 in
     (_, g .sent .dequed, acting-room (g .acting) .4)
 
-mul-units : tie.Need-mul-units
-mul-units c = omega (arith, acting-room (c .before .before .before .before .before .pre .7 .acting))
+mul-units16 : tie.Need-mul-units16
+mul-units16 c = omega (arith, acting-room (c .before .before .before .before .before .pre .7 .acting))
 
-element-copy-out-units : tie.Need-element-copy-out-units
-element-copy-out-units c = acting-room (c .before .before .before .before .before .pre .7 .acting) .0
+element-copy-out-units16 : tie.Need-element-copy-out-units16
+element-copy-out-units16 c = acting-room (c .before .before .before .before .before .pre .7 .acting) .0
 
-units-requires : tie.Need-units-requires
-units-requires c κs = search needs
+units16-requires : tie.Need-units16-requires
+units16-requires c κs = search needs
 
 sub-lighter : tie.Need-sub-lighter
 sub-lighter c =
     let t = c .before .before .before .before in
-    omega (arith, c .units .ensures, settle-lighter (c .before .before .before .before .before .before .before .pre .7) (t .if1 .taken ∙ t .before .wide16 .ensures .0))
+    omega (arith, c .units16 .ensures, settle-lighter (c .before .before .before .before .before .before .before .pre .7) (t .if1 .taken ∙ t .before .wide16 .ensures .0))
 
 returns : tie.Need-returns
 returns c p n choices r b s next g =
     let t = c .before .before .before .before in
-    settle-ends g (t .if1 .taken ∙ t .before .wide16 .ensures .0) _ (omega (arith, c .units .ensures))
+    settle-ends g (t .if1 .taken ∙ t .before .wide16 .ensures .0) _ (omega (arith, c .units16 .ensures))
     (c .before .before .take-bottom .ensures _ (g .sent .dequed))
 
 add-if2 : tie.Need-add-if2
@@ -54,13 +54,13 @@ add-if2 c = omega (arith, acting-room (c .before .before .before .pre .7 .acting
 element-copy-out-if2 : tie.Need-element-copy-out-if2
 element-copy-out-if2 c = settle-room (c .before .before .before .pre .7) (omega (arith, c .before .wide16 .ensures))
 
-narrow-requires : tie.Need-narrow-requires
-narrow-requires c κs = acting-room (c .before .before .before .before .before .pre .7 .acting) .0
+byte-requires : tie.Need-byte-requires
+byte-requires c κs = acting-room (c .before .before .before .before .before .pre .7 .acting) .0
 
 returns-2 : tie.Need-returns-2
 returns-2 c p n choices r b s next g =
     let t = c .before .before .before in
-    settle-goes g (omega (arith, t .before .wide16 .ensures)) (c .before .if2 .taken) _ (ap Holding (c .narrow .ensures)) refl
+    settle-goes g (omega (arith, t .before .wide16 .ensures)) (c .before .if2 .taken) _ (ap Holding (c .byte .ensures)) refl
 
 take-bottom-requires-2 : tie.Need-take-bottom-requires-2
 take-bottom-requires-2 c κs =
@@ -82,14 +82,14 @@ settle-spec =
     element-copy-out-wide16
     wide16-requires
     take-bottom-requires
-    mul-units
-    element-copy-out-units
-    units-requires
+    mul-units16
+    element-copy-out-units16
+    units16-requires
     sub-lighter
     returns
     add-if2
     element-copy-out-if2
-    narrow-requires
+    byte-requires
     returns-2
     take-bottom-requires-2
     returns-3)
