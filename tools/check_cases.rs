@@ -1,15 +1,8 @@
-//! Writes the inputs of the program crate `check_cases` and what it has to print.
-//! What a case must give is stated here by hand, from document 01; nothing here looks at the proved code.
-//!
-//!     rustc -O tools/check_cases.rs -o target/check_cases && target/check_cases crates/check_cases
-//!
-//! It writes CRATE/data/NAME for each case, CRATE/stdout, and CRATE/src/cases.rt with one call for each case. A second checker,
-//! with each slip that it may have, shows that some case tells every slip apart.
-mod plans;
-
-use plans::{e, f, join, plan, spawn, Action, Bits, Job, NONE};
-use std::fmt::Write;
-use std::fs;
+//! Schedules, and what checking them must give: document 01's case, each part of refusal 11 and each rule of 12 by itself, the
+//! order of the refusals, and schedules that runs have written. A second checker, with each slip that it may have, shows that
+//! some case tells every slip apart.
+use crate::plans::{chain, e, f, input, join, large, one, plan, spawn, Action, Bits, Job, NONE};
+use crate::Cases;
 
 /// A round and a worker.
 type Row = (u32, u32);
@@ -37,11 +30,6 @@ fn with(rows: &[Row], changes: &[(usize, Row)]) -> Vec<Row> {
         changed[k] = row;
     }
     changed
-}
-
-/// One job, one action.
-fn one() -> Vec<Job> {
-    vec![(1, vec![NONE])]
 }
 
 /// Case 4's rows.
@@ -79,15 +67,6 @@ fn fan_15() -> Vec<Row> {
     rows
 }
 
-/// Each job spawns the next at 0, and the next one's last action joins position 2.
-fn chain(n: u32) -> Vec<Job> {
-    (0..n)
-        .map(|j| {
-            let last = if j == 0 { NONE } else { join(2) };
-            (1, if j + 1 < n { vec![spawn(j + 1), NONE, last] } else { vec![last] })
-        })
-        .collect()
-}
 /// The rows of a chain of three jobs: 0 to 2, 3 to 5, and 6.
 const CHAIN_3: [Row; 7] = [(1, 0), (2, 0), (9, 0), (2, 1), (3, 1), (5, 1), (3, 2)];
 
@@ -99,15 +78,7 @@ const TWO_JOINS: [Row; 7] = [(1, 0), (2, 0), (3, 0), (4, 0), (5, 0), (2, 1), (3,
 
 /// 2,048 actions: job 0 and seven jobs of 255 and one of 8.
 fn largest() -> Vec<Job> {
-    let mut root: Vec<Action> = (1..=8).map(spawn).collect();
-    root.extend(vec![NONE; 247]);
-    let mut jobs = vec![(65535, root)];
-    for c in 1..=8 {
-        let mut actions = vec![NONE; if c < 8 { 254 } else { 7 }];
-        actions.push(join(9));
-        jobs.push((65535, actions));
-    }
-    jobs
+    large(65535, 8, 9)
 }
 /// Worker c has job c, an action a round.
 fn largest_rows() -> Vec<Row> {
@@ -235,7 +206,8 @@ fn pairs(jobs: &[Job], slip: Slip) -> Vec<(usize, usize)> {
 fn judge(jobs: &[Job], s: &[u8], slip: Slip) -> u32 {
     let n: usize = jobs.iter().map(|j| j.1.len()).sum();
     let long = 4 + 2 * n;
-    let field = |at: usize, width: usize| (at..at + width).fold(0, |x, i| x * 2 + s.get(i / 8).map_or(0, |b| (b >> (7 - i % 8) & 1) as u32));
+    let bit = |i: usize| s.get(i / 8).map_or(0, |b| (b >> (7 - i % 8) & 1) as u32);
+    let field = |at: usize, width: usize| (at..at + width).fold(0, |x, i| x * 2 + bit(i));
     let (workers, actions) = (field(8, 5), field(13, 12) as usize);
     let rows: Vec<Row> = (0..n).map(|k| (field(32 + 16 * k, 12), field(44 + 16 * k, 4))).collect();
     let no_round = |k: &usize| match slip {
@@ -290,39 +262,21 @@ fn judge(jobs: &[Job], s: &[u8], slip: Slip) -> u32 {
     }
 }
 
-#[derive(Default)]
-struct Cases {
-    dir: String,
-    code: String,
-    groups: String,
-    expected: String,
-    count: usize,
+struct Schedules<'a> {
+    cases: &'a mut Cases,
+    /// By how many cases each slip is told apart.
     told: Vec<usize>,
 }
 
-impl Cases {
-    fn group(&mut self, name: &str) {
-        if !self.code.is_empty() {
-            self.code.push_str("}\n");
-        }
-        write!(self.code, "\npub fn {name}() {{\n").unwrap();
-        write!(self.groups, "    cases::{name}();\n").unwrap();
-    }
-
-    fn save(&mut self, call: &str, name: &str, input: Vec<u8>, answer: u32) {
-        let file = format!("{}/data/{name}", self.dir);
-        assert!(fs::metadata(&file).is_err(), "two cases named {}", name);
-        assert!(input.len() <= 16384);
-        fs::write(file, input).unwrap();
-        writeln!(self.code, "    {call}(b\"{name}\");").unwrap();
+impl Schedules<'_> {
+    fn save(&mut self, kind: &str, name: &str, input: Vec<u8>, answer: u32) {
         let answer = if answer == 0 { "accepted".into() } else { format!("refused {answer}") };
-        writeln!(self.expected, "{name}: {answer}").unwrap();
-        self.count += 1;
+        self.cases.case(kind, &format!("schedules/{name}"), input, &answer);
     }
 
     fn bytes(&mut self, name: &str, plan: &[u8], schedule: &[u8], answer: u32) {
         let input = [&[(plan.len() >> 8) as u8, plan.len() as u8], plan, schedule].concat();
-        self.save("case", name, input, answer);
+        self.save("check", name, input, answer);
     }
 
     /// A case whose plan is accepted.
@@ -344,23 +298,22 @@ impl Cases {
 
     /// A run, and the check of the schedule that it writes.
     fn own(&mut self, name: &str, jobs: &[Job], workers: u8, choices: &[u8]) {
-        let input = [&[workers, (choices.len() >> 8) as u8, choices.len() as u8], choices, &plan(jobs)].concat();
         let chosen = match choices.len() {
             0 => "none".into(),
             16 => "all".into(),
             _ => choices.iter().map(|c| c.to_string()).collect::<Vec<_>>().join("_"),
         };
-        self.save("own", &format!("{name}_with_{workers}_choosing_{chosen}"), input, 0);
+        self.save("own", &format!("{name}_with_{workers}_choosing_{chosen}"), input(workers, choices, &plan(jobs)), 0);
     }
 }
 
 /// Schedules that are accepted, and document 01's case.
-fn accepted(c: &mut Cases) {
-    c.group("papers");
+fn accepted(c: &mut Schedules) {
+    // Document 01's cases 4 and 12.
     c.keeps("case_4_rows", &e(), 2, &E4);
     c.breaks("case_12", &e(), 2, &with(&E4, &[(5, (2, 1))]));
 
-    c.group("accepted_schedules");
+    // Schedules of plan E and of one action.
     c.keeps("rounds_spread_out", &e(), 2, &spread());
     let late: Vec<Row> = E4.iter().map(|&(r, w)| (4089 + r, w)).collect();
     c.keeps("rounds_up_to_4095", &e(), 2, &late);
@@ -375,7 +328,7 @@ fn accepted(c: &mut Cases) {
     // unequal rows whose rounds are 256 apart for a worker number one less
     c.keeps("rounds_256_apart", &e(), 2, &[(1, 1), (257, 0), (258, 1), (514, 0), (4095, 0), (2, 1), (258, 0), (513, 1)]);
 
-    c.group("accepted_shapes");
+    // Other plans.
     c.keeps("plan_f", &f(), 2, &F2);
     c.keeps("eight_joins", &fan(8), 2, &fan_8());
     c.keeps("chain_of_three", &chain(3), 3, &CHAIN_3);
@@ -385,8 +338,8 @@ fn accepted(c: &mut Cases) {
 }
 
 /// Each part of refusal 11 by itself.
-fn form(c: &mut Cases) {
-    c.group("lengths");
+fn form(c: &mut Schedules) {
+    // Lengths.
     let own = schedule(2, &E4);
     c.case("one_byte_short", &e(), &own[..19], 11);
     c.case("one_byte_short_in_round_400", &e(), &schedule(2, &spread())[..19], 11);
@@ -396,14 +349,14 @@ fn form(c: &mut Cases) {
     c.case("one_row_more", &e(), &[&own[..], &[0, 0x71]].concat(), 11);
     c.case("empty_schedule_of_one_action", &one(), &[], 11);
 
-    c.group("form_and_worker_count");
+    // Form and worker count.
     c.case("form_0", &e(), &headed(0, 2, 8, 0, &E4), 11);
     c.case("form_2", &e(), &headed(2, 2, 8, 0, &E4), 11);
     c.case("workers_0", &e(), &headed(1, 0, 8, 0, &E4), 11);
     c.case("workers_17", &e(), &headed(1, 17, 8, 0, &E4), 11);
     c.case("workers_31", &e(), &headed(1, 31, 8, 0, &E4), 11);
 
-    c.group("action_count");
+    // Action count.
     c.case("actions_7", &e(), &headed(1, 2, 7, 0, &E4), 11);
     c.case("actions_9", &e(), &headed(1, 2, 9, 0, &E4), 11);
     c.case("actions_0", &e(), &headed(1, 2, 0, 0, &E4), 11);
@@ -413,12 +366,12 @@ fn form(c: &mut Cases) {
     c.case("schedule_of_e_for_f", &f(), &own, 11);
     c.case("schedule_of_f_for_e", &e(), &schedule(2, &F2), 11);
 
-    c.group("zero_bits");
+    // Zero bits.
     for bit in 0..7 {
         c.case(&format!("zero_bit_{bit}_set"), &e(), &headed(1, 2, 8, 64 >> bit, &E4), 11);
     }
 
-    c.group("rounds_of_0");
+    // Rounds of 0.
     c.case("round_0_first", &e(), &schedule(2, &with(&E4, &[(0, (0, 0))])), 11);
     c.case("round_0_first_by_worker_1", &e(), &schedule(2, &with(&E4, &[(0, (0, 1))])), 11);
     c.case("round_0_middle", &e(), &schedule(2, &with(&E4, &[(4, (0, 1))])), 11);
@@ -427,8 +380,8 @@ fn form(c: &mut Cases) {
 }
 
 /// Each rule of refusal 12 by itself.
-fn rules(c: &mut Cases) {
-    c.group("clashes");
+fn rules(c: &mut Schedules) {
+    // Clashes.
     // every action follows the first, so that its order is broken too
     c.breaks("clash_of_the_first_and_the_last_row", &e(), 2, &with(&E4, &[(7, (1, 0))]));
     c.breaks("clash_of_the_second_and_the_last_row", &f(), 2, &with(&F2, &[(1, (5, 1))]));
@@ -440,7 +393,7 @@ fn rules(c: &mut Cases) {
     c.breaks("clash_of_2048", &largest(), 9, &with(&largest_rows(), &[(2047, (16, 7))]));
     c.breaks("all_in_round_1_by_worker_0", &e(), 2, &[(1, 0); 8]);
 
-    c.group("order_in_a_job");
+    // Order in a job.
     c.breaks("second_in_round_of_first", &e(), 2, &with(&E4, &[(1, (1, 1))]));
     c.breaks("fourth_in_round_of_third", &e(), 3, &with(&E4, &[(3, (3, 2))]));
     c.breaks("fourth_a_round_before_third", &e(), 3, &with(&E4, &[(3, (2, 2))]));
@@ -452,7 +405,7 @@ fn rules(c: &mut Cases) {
     c.breaks("one_job_with_the_rows_of_e", &[(1, vec![NONE; 8])], 2, &E4);
     c.breaks("last_of_2048_in_round_of_one_before", &largest(), 16, &with(&largest_rows(), &[(2047, (15, 15))]));
 
-    c.group("spawns");
+    // Spawns.
     c.breaks("job_1_in_round_of_its_spawn", &e(), 2, &with(&E4, &[(5, (1, 1))]));
     c.breaks("job_2_in_round_of_its_spawn", &e(), 3, &with(&E4, &[(7, (3, 2))]));
     c.breaks("job_2_a_round_before_its_spawn", &e(), 3, &with(&E4, &[(7, (2, 2))]));
@@ -461,7 +414,7 @@ fn rules(c: &mut Cases) {
         c.breaks(&format!("child_{child}_in_round_of_its_spawn"), &fan(8), 3, &with(&fan_8(), &[(9 + child, (child as u32, 2))]));
     }
 
-    c.group("joins");
+    // Joins.
     for child in 1..=8 {
         c.breaks(&format!("join_{child}_in_round_of_its_target"), &fan(8), 2, &with(&fan_8(), &[(9 + child, (20, 1))]));
     }
@@ -472,7 +425,7 @@ fn rules(c: &mut Cases) {
     c.breaks("first_of_two_joins_in_round_of_its_target", &two_joins(), 2, &with(&TWO_JOINS, &[(5, (3, 1)), (6, (4, 1))]));
     c.breaks("second_of_two_joins_in_round_of_its_target", &two_joins(), 2, &with(&TWO_JOINS, &[(6, (5, 1))]));
 
-    c.group("worker_numbers");
+    // Worker numbers.
     c.breaks("worker_2_of_2_first", &e(), 2, &with(&E4, &[(0, (1, 2))]));
     c.breaks("worker_2_of_2_middle", &e(), 2, &with(&E4, &[(3, (5, 2))]));
     c.breaks("worker_2_of_2_last", &e(), 2, &with(&E4, &[(7, (4, 2))]));
@@ -484,8 +437,8 @@ fn rules(c: &mut Cases) {
 }
 
 /// 11 before 12, and the plan's own refusals before both.
-fn order(c: &mut Cases) {
-    c.group("form_before_rules");
+fn order(c: &mut Schedules) {
+    // Form before rules.
     let clash = with(&E4, &[(5, (2, 1))]);
     c.case("clash_and_one_byte_long", &e(), &[&schedule(2, &clash)[..], &[0]].concat(), 11);
     c.case("clash_and_form_0", &e(), &headed(0, 2, 8, 0, &clash), 11);
@@ -495,7 +448,7 @@ fn order(c: &mut Cases) {
     c.case("worker_2_of_2_and_round_0_last", &e(), &schedule(2, &with(&E4, &[(0, (1, 2)), (7, (0, 1))])), 11);
     c.case("worker_1_of_0", &e(), &schedule(0, &E4), 11);
 
-    c.group("plan_before_schedule");
+    // Plan before schedule.
     let bytes = plan(&e());
     let bad = headed(0, 0, 0, 127, &[(0, 15)]);
     let changed = |at: usize, to: u8| {
@@ -521,19 +474,19 @@ fn order(c: &mut Cases) {
 }
 
 /// Schedules that runs have written: all are accepted.
-fn runs(c: &mut Cases) {
-    c.group("runs_of_e");
+fn runs(c: &mut Schedules) {
+    // Runs of E.
     let all: Vec<u8> = (0..16).collect();
     for (workers, choices) in
         [(1, &[][..]), (1, &[0]), (2, &[0]), (2, &[0, 1]), (2, &[1, 0, 0]), (3, &[0]), (3, &[2, 1, 0]), (16, &[0]), (16, &all)]
     {
         c.own("e", &e(), workers, choices);
     }
-    c.group("runs_of_f");
+    // Runs of F.
     for (workers, choices) in [(1, &[][..]), (2, &[0]), (2, &[0, 1]), (3, &[0]), (3, &[1, 0]), (16, &[0]), (16, &all)] {
         c.own("f", &f(), workers, choices);
     }
-    c.group("runs_of_other_plans");
+    // Runs of other plans.
     c.own("one_action", &one(), 1, &[]);
     c.own("one_action", &one(), 16, &[0]);
     for (workers, choices) in [(1, &[][..]), (2, &[0, 1]), (16, &[0]), (16, &all)] {
@@ -543,23 +496,15 @@ fn runs(c: &mut Cases) {
     c.own("2048_actions", &largest(), 16, &[0, 1, 2]);
 }
 
-fn main() {
-    let dir = std::env::args().nth(1).expect("the crate's folder");
-    let _ = fs::remove_dir_all(format!("{dir}/data"));
-    fs::create_dir_all(format!("{dir}/data")).unwrap();
-    let mut c = Cases { dir: dir.clone(), told: vec![0; SLIPS.len()], ..Cases::default() };
-    assert_eq!(plan(&e()), [0x01, 0x01, 0x80, 0x02, 0x02, 0xC0, 0x44, 0x08, 0, 0, 0x60, 0x42, 0x08, 0, 0x04, 0x02, 0x82, 0]);
+pub fn all(cases: &mut Cases) {
+    let mut c = Schedules { cases, told: vec![0; SLIPS.len()] };
     accepted(&mut c);
     form(&mut c);
     rules(&mut c);
     order(&mut c);
     runs(&mut c);
-    for (k, slip) in SLIPS.iter().enumerate() {
-        println!("{slip:?}: told apart by {} cases", c.told[k]);
-        assert!(c.told[k] > 0, "no case tells {:?} apart", slip);
+    for (slip, told) in SLIPS.iter().zip(c.told) {
+        println!("{slip:?}: told apart by {told} cases");
+        assert!(told > 0, "no case tells {:?} apart", slip);
     }
-    let head = "// One call for each case. Written by tools/check_cases.rs.\nuse crate::case;\nuse crate::own;\n";
-    fs::write(format!("{dir}/src/cases.rt"), format!("{head}{}}}\n", c.code)).unwrap();
-    fs::write(format!("{dir}/stdout"), &c.expected).unwrap();
-    println!("{} cases in the groups\n{}", c.count, c.groups);
 }

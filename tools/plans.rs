@@ -1,5 +1,4 @@
-//! Plans for `plan_cases.rs` and `check_cases.rs`: jobs, their actions, and their bytes (document 01, "Plan"). `run_cases.rs` has
-//! its own.
+//! Plans for all cases: jobs, their actions, and their bytes (document 01, "Plan"); and the inputs of `buildrun`.
 
 /// An action: the child's number plus 1 or 0, the join's target plus 1 or 0.
 pub type Action = (u32, u32);
@@ -54,6 +53,11 @@ pub fn with_header(form: u32, count: u32, jobs: &[Job]) -> Vec<u8> {
     b.bytes()
 }
 
+/// An input of `buildrun`: P, the number of choices in two bytes, the choices, and the plan.
+pub fn input(workers: u8, choices: &[u8], plan: &[u8]) -> Vec<u8> {
+    [&[workers, (choices.len() >> 8) as u8, choices.len() as u8], choices, plan].concat()
+}
+
 /// Document 01's plan E. Its actions stand in rows 0 to 4, 5 to 6, and 7.
 pub fn e() -> Vec<Job> {
     vec![(4, vec![spawn(1), NONE, spawn(2), NONE, NONE]), (3, vec![NONE, join(4)]), (2, vec![join(4)])]
@@ -62,4 +66,32 @@ pub fn e() -> Vec<Job> {
 /// Document 01's plan F. Its actions stand in rows 0 to 2 and 3 to 6.
 pub fn f() -> Vec<Job> {
     vec![(1, vec![spawn(1), NONE, NONE]), (1, vec![NONE, NONE, NONE, join(2)])]
+}
+
+/// One job, one action.
+pub fn one() -> Vec<Job> {
+    vec![(1, vec![NONE])]
+}
+
+/// n jobs: each spawns the next at 0, and the next one's last action joins position 2.
+pub fn chain(n: u32) -> Vec<Job> {
+    (0..n)
+        .map(|j| {
+            let last = if j == 0 { NONE } else { join(2) };
+            (1, if j + 1 < n { vec![spawn(j + 1), NONE, last] } else { vec![last] })
+        })
+        .collect()
+}
+
+/// Nine jobs: the first eight have 255 actions, the last `last`. Job 0 spawns the others, and they join its position `target`.
+pub fn large(frame: u32, last: usize, target: u32) -> Vec<Job> {
+    let mut root: Vec<Action> = (1..=8).map(spawn).collect();
+    root.resize(255, NONE);
+    let mut jobs = vec![(frame, root)];
+    for c in 1..=8 {
+        let mut actions = vec![NONE; if c < 8 { 255 } else { last }];
+        *actions.last_mut().unwrap() = join(target);
+        jobs.push((frame, actions));
+    }
+    jobs
 }

@@ -1,11 +1,7 @@
-//! A second runner, written from document 01 alone, and the inputs of the program crate `run_cases` with what they must give.
-//!
-//!     rustc -O tools/run_cases.rs -o target/run_cases && target/run_cases crates/run_cases
-//!
-//! It writes CRATE/data/NAME, an input of `buildrun`, for each case, CRATE/stdout, and CRATE/src/cases.rt with one call for
-//! each case. It also carries out each tempting error of document 01 and sees to it that some case tells it apart.
-use std::fmt::Write;
-use std::fs;
+//! A second runner, written from document 01 alone, and inputs of `buildrun` with what they must give. It also carries out each
+//! tempting error of document 01 and sees to it that some case tells it apart.
+use crate::plans::{e, f, input, join, one, plan, Job};
+use crate::Cases;
 
 /// An action: the child's number plus 1 or 0, the join's target plus 1 or 0.
 type Action = (usize, usize);
@@ -24,7 +20,7 @@ enum Worker {
 }
 
 /// What a run may get wrong.
-#[derive(Clone, Copy, PartialEq)]
+#[derive(Clone, Copy, PartialEq, Debug)]
 enum Slip {
     None,
     PeakOnceARound,
@@ -37,6 +33,18 @@ enum Slip {
     RequestsCountedByWorker,
     LaysAtOnce,
 }
+
+const SLIPS: [Slip; 9] = [
+    Slip::PeakOnceARound,
+    Slip::StealsTheBottom,
+    Slip::ActsInTheRoundOfItsSteal,
+    Slip::ParentToItsFormerWorker,
+    Slip::StallsThoughTheJoinCame,
+    Slip::SpawnBeforeJoin,
+    Slip::LowestWorkerFirst,
+    Slip::RequestsCountedByWorker,
+    Slip::LaysAtOnce,
+];
 
 #[derive(Default, Clone, PartialEq, Debug)]
 struct Tally {
@@ -59,6 +67,11 @@ struct State {
 }
 
 impl Plan {
+    fn of(jobs: &[Job]) -> Plan {
+        let indices = |job: &Job| job.1.iter().map(|&(spawn, join)| (spawn as usize, join as usize)).collect();
+        Plan { frames: jobs.iter().map(|job| job.0).collect(), actions: jobs.iter().map(indices).collect() }
+    }
+
     fn spawner(&self, c: usize) -> Option<(usize, usize)> {
         for (q, actions) in self.actions.iter().enumerate() {
             for (i, a) in actions.iter().enumerate() {
@@ -262,23 +275,8 @@ impl Plan {
     }
 
     fn bytes(&self) -> Vec<u8> {
-        let mut bits: Vec<bool> = vec![];
-        let mut put = |width: u32, value: u32| (0..width).rev().for_each(|i| bits.push(value >> i & 1 == 1));
-        put(8, 1);
-        put(9, self.frames.len() as u32);
-        for (j, actions) in self.actions.iter().enumerate() {
-            put(16, self.frames[j]);
-            put(8, actions.len() as u32);
-            for &(spawn, join) in actions {
-                for x in [spawn, join] {
-                    put(1, (x > 0) as u32);
-                    if x > 0 {
-                        put(8, x as u32 - 1);
-                    }
-                }
-            }
-        }
-        bits.chunks(8).map(|c| (0..8).fold(0, |b, i| b * 2 + *c.get(i).unwrap_or(&false) as u8)).collect()
+        let job = |j: usize| (self.frames[j], self.actions[j].iter().map(|&(spawn, join)| (spawn as u32, join as u32)).collect());
+        plan(&(0..self.frames.len()).map(job).collect::<Vec<Job>>())
     }
 }
 
@@ -318,7 +316,8 @@ impl Random {
             let end = actions[c].len() - 1;
             for i in 0..=end {
                 if i == end || self.below(4) == 0 {
-                    let open: Vec<usize> = targets.iter().copied().filter(|&t| entering[q][t] < 7 || (i == end && entering[q][t] < 8)).collect();
+                    let most = if i == end { 8 } else { 7 };
+                    let open: Vec<usize> = targets.iter().copied().filter(|&t| entering[q][t] < most).collect();
                     if !open.is_empty() {
                         let t = open[self.below(open.len())];
                         entering[q][t] += 1;
@@ -331,109 +330,108 @@ impl Random {
     }
 }
 
-fn main() {
-    let crate_dir = std::env::args().nth(1).expect("the crate's folder");
-    let e = Plan {
-        frames: vec![4, 3, 2],
-        actions: vec![vec![(2, 0), (0, 0), (3, 0), (0, 0), (0, 0)], vec![(0, 0), (0, 5)], vec![(0, 5)]],
-    };
-    let f = Plan { frames: vec![1, 1], actions: vec![vec![(2, 0), (0, 0), (0, 0)], vec![(0, 0), (0, 0), (0, 0), (0, 3)]] };
-    let one = Plan { frames: vec![1], actions: vec![vec![(0, 0)]] };
-    let mut cases: Vec<(String, Plan, usize, Vec<u8>)> = vec![
-        ("case_1".into(), one.clone(), 1, vec![]),
-        ("case_2".into(), one, 16, vec![0]),
-        ("case_3".into(), e.clone(), 1, vec![]),
-        ("case_4".into(), e.clone(), 2, vec![0, 1]),
-        ("case_5".into(), f.clone(), 2, vec![0]),
-        ("case_6".into(), f.clone(), 3, vec![0]),
-    ];
+/// A run that is not refused.
+struct Run {
+    name: String,
+    plan: Plan,
+    workers: usize,
+    choices: Vec<u8>,
+}
+
+impl Run {
+    fn new(name: &str, jobs: &[Job], workers: usize, choices: &[u8]) -> Run {
+        Run { name: name.to_string(), plan: Plan::of(jobs), workers, choices: choices.to_vec() }
+    }
+
+    fn tally(&self, slip: Slip) -> Tally {
+        self.plan.run(self.workers, &self.choices, slip)
+    }
+
+    fn input(&self) -> Vec<u8> {
+        input(self.workers as u8, &self.choices, &self.plan.bytes())
+    }
+
+    /// What `buildrun` has to print of it.
+    fn answer(&self) -> String {
+        let t = self.tally(Slip::None);
+        format!(
+            "rounds {} actions {} longest {} path {} peak {} idle {} requests {} steals {} misses {}",
+            t.rounds,
+            t.actions,
+            self.plan.longest(),
+            self.plan.path(),
+            t.peak,
+            t.idle,
+            t.requests,
+            t.steals,
+            t.misses
+        )
+    }
+}
+
+/// Document 01's cases.
+fn papers() -> Vec<Run> {
+    vec![
+        Run::new("case_1", &one(), 1, &[]),
+        Run::new("case_2", &one(), 16, &[0]),
+        Run::new("case_3", &e(), 1, &[]),
+        Run::new("case_4", &e(), 2, &[0, 1]),
+        Run::new("case_5", &f(), 2, &[0]),
+        Run::new("case_6", &f(), 3, &[0]),
+    ]
+}
+
+fn drawn() -> Vec<Run> {
     let mut random = Random(0x9E37_79B9_7F4A_7C15);
-    for k in 0..42 {
-        let n = [2, 3, 4, 5, 8, 16, 1][k % 7];
-        let plan = random.plan([4, 7, 12, 18, 30][k % 5]);
-        let choices = (0..1 + random.below(9)).map(|_| random.below(n) as u8).collect();
-        cases.push((format!("plan_{k}_with_{n}_workers"), plan, n, choices));
-    }
-    let slips = [
-        Slip::PeakOnceARound,
-        Slip::StealsTheBottom,
-        Slip::ActsInTheRoundOfItsSteal,
-        Slip::ParentToItsFormerWorker,
-        Slip::StallsThoughTheJoinCame,
-        Slip::SpawnBeforeJoin,
-        Slip::LowestWorkerFirst,
-        Slip::RequestsCountedByWorker,
-        Slip::LaysAtOnce,
-    ];
-    for (i, slip) in slips.iter().enumerate() {
-        let told = cases.iter().filter(|(_, p, n, c)| p.run(*n, c, *slip) != p.run(*n, c, Slip::None)).count();
-        println!("slip {i}: told apart by {told} cases");
-        assert!(told > 0, "no case tells slip {} apart", i);
-    }
-    let mut calls: Vec<String> = vec![];
-    let mut expected = String::new();
-    let data = format!("{crate_dir}/data");
-    let _ = fs::remove_dir_all(&data);
-    fs::create_dir_all(&data).unwrap();
-    let mut save = |name: &str, input: Vec<u8>, answer: String| {
-        fs::write(format!("{data}/{name}"), input).unwrap();
-        calls.push(format!("    case(b\"{name}\");\n"));
-        writeln!(expected, "{name}: {answer}").unwrap();
-    };
-    let input = |p: &[u8], n: usize, c: &[u8]| [&[n as u8, (c.len() >> 8) as u8, c.len() as u8], c, p].concat();
-    for (name, p, n, c) in &cases {
-        let t = p.run(*n, c, Slip::None);
-        save(
-            name,
-            input(&p.bytes(), *n, c),
-            format!(
-                "rounds {} actions {} longest {} path {} peak {} idle {} requests {} steals {} misses {}",
-                t.rounds,
-                t.actions,
-                p.longest(),
-                p.path(),
-                t.peak,
-                t.idle,
-                t.requests,
-                t.steals,
-                t.misses
-            ),
-        );
-    }
-    let refused = |n: u32| format!("refused {n}");
-    let bytes = e.bytes();
+    (0..42)
+        .map(|k| {
+            let workers = [2, 3, 4, 5, 8, 16, 1][k % 7];
+            let plan = random.plan([4, 7, 12, 18, 30][k % 5]);
+            let choices = (0..1 + random.below(9)).map(|_| random.below(workers) as u8).collect();
+            Run { name: format!("plan_{k}_with_{workers}_workers"), plan, workers, choices }
+        })
+        .collect()
+}
+
+fn save(c: &mut Cases, name: &str, input: Vec<u8>, answer: &str) {
+    c.case("run", &format!("runs/{name}"), input, answer);
+}
+
+fn refusals(c: &mut Cases) {
+    let mut refused = |name: &str, input: Vec<u8>, number: u32| save(c, name, input, &format!("refused {number}"));
+    let bytes = plan(&e());
     let mut last = bytes.clone();
     last[17] = 1;
-    save("case_7", input(&[], 1, &[]), refused(1));
-    save("case_8", input(&last, 1, &[]), refused(6));
-    let mut third = e.clone();
-    third.actions[2][0] = (0, 4);
-    save("case_9", input(&third.bytes(), 1, &[]), refused(5));
-    save("case_10", input(&bytes, 2, &[]), refused(8));
-    save("case_11", input(&bytes, 0, &[]), refused(7));
-    save("workers_17", input(&bytes, 17, &[0]), refused(7));
-    save("choice_2_of_2", input(&bytes, 2, &[0, 2]), refused(8));
-    save("one_worker_chooses_1", input(&bytes, 1, &[1]), refused(8));
-    save("bad_plan_and_no_worker", input(&last, 0, &[]), refused(6));
-    save("nothing", vec![], refused(1));
-    save("no_count", vec![2, 0], refused(1));
-    save("count_4097_and_no_choices", vec![2, 16, 1], refused(8));
-    save("missing_choices", vec![2, 0, 2, 0], refused(1));
-    let many: Vec<u8> = (0..4096).map(|k| (k % 2) as u8).collect();
-    let t = e.run(2, &many, Slip::None);
-    save(
-        "choices_4096",
-        input(&bytes, 2, &many),
-        format!(
-            "rounds {} actions 8 longest 5 path 7 peak {} idle {} requests {} steals {} misses {}",
-            t.rounds, t.peak, t.idle, t.requests, t.steals, t.misses
-        ),
-    );
-    let mut code = String::from("// One call for each case. Written by tools/run_cases.rs.\nuse crate::case;\n");
-    for (k, group) in calls.chunks(12).enumerate() {
-        write!(code, "\npub fn group_{k}() {{\n{}}}\n", group.concat()).unwrap();
+    let mut third = e();
+    third[2].1[0] = join(3);
+    refused("case_7", input(1, &[], &[]), 1);
+    refused("case_8", input(1, &[], &last), 6);
+    refused("case_9", input(1, &[], &plan(&third)), 5);
+    refused("case_10", input(2, &[], &bytes), 8);
+    refused("case_11", input(0, &[], &bytes), 7);
+    refused("workers_17", input(17, &[0], &bytes), 7);
+    refused("choice_2_of_2", input(2, &[0, 2], &bytes), 8);
+    refused("one_worker_chooses_1", input(1, &[1], &bytes), 8);
+    refused("bad_plan_and_no_worker", input(0, &[], &last), 6);
+    refused("nothing", vec![], 1);
+    refused("no_count", vec![2, 0], 1);
+    refused("count_4097_and_no_choices", vec![2, 16, 1], 8);
+    refused("missing_choices", vec![2, 0, 2, 0], 1);
+}
+
+pub fn all(c: &mut Cases) {
+    let mut runs = papers();
+    runs.extend(drawn());
+    for slip in SLIPS {
+        let told = runs.iter().filter(|run| run.tally(slip) != run.tally(Slip::None)).count();
+        println!("{slip:?}: told apart by {told} cases");
+        assert!(told > 0, "no case tells {:?} apart", slip);
     }
-    fs::write(format!("{crate_dir}/src/cases.rt"), code).unwrap();
-    fs::write(format!("{crate_dir}/stdout"), &expected).unwrap();
-    println!("{} cases, {} groups", calls.len(), calls.chunks(12).count());
+    for run in &runs {
+        save(c, &run.name, run.input(), &run.answer());
+    }
+    refusals(c);
+    let many: Vec<u8> = (0..4096).map(|k| (k % 2) as u8).collect();
+    let longest = Run::new("choices_4096", &e(), 2, &many);
+    save(c, &longest.name, longest.input(), &longest.answer());
 }

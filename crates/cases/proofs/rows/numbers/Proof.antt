@@ -1,10 +1,11 @@
+-- `numbers` ends: it writes each row once.
 use Prim.Native.Nat.{_≤_, _-_}
 use lib.ListN.{length, length-set}
 use native.Mathlib.Omega.{arith}
 use mathlib.Core.Path.{_≡_}
 use borrow.Author.Needs.{needs}
-use Rattle.plan_cases.proofs.numbers.Statement.{statement}
-use Rattle.plan_cases.proofs.numbers.Tie as tie
+use Rattle.cases.proofs.rows.numbers.Statement.{statement}
+use Rattle.cases.proofs.rows.numbers.Tie as tie
 
 abbrev Inv-loop : tie.InvT-loop
 Inv-loop s rows₀ i₀ rows i = (i ≤ length rows) × (length rows ≡ length rows₀)

@@ -1,8 +1,9 @@
+-- `same_rows` ends: it looks at each row once.
 use Prim.Native.Nat.{_≤_, _-_}
 use lib.ListN.{length}
 use borrow.Author.Needs.{needs}
-use Rattle.plan_cases.proofs.same_rows.Statement.{statement}
-use Rattle.plan_cases.proofs.same_rows.Tie as tie
+use Rattle.cases.proofs.rows.same_rows.Statement.{statement}
+use Rattle.cases.proofs.rows.same_rows.Tie as tie
 
 abbrev Inv-loop : tie.InvT-loop
 Inv-loop a b i₀ i = (i ≤ length a)

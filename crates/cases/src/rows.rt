@@ -1,0 +1,32 @@
+// Tables as numbers of two bytes.
+
+// The bytes as numbers, high byte first: how many there are.
+pub fn numbers(s: &[u8], rows: &mut [u16]) -> usize {
+    let mut i = 0;
+    while i < rows.len() {
+        if s.len() / 2 <= i {
+            return i;
+        }
+        rows[i] = pair(s[2 * i], s[2 * i + 1]);
+        i += 1;
+    }
+    i
+}
+
+fn pair(high: u8, low: u8) -> u16 {
+    high as u16 * 256 + low as u16
+}
+
+pub fn same_rows(a: &[u16], b: &[u16]) -> bool {
+    if a.len() != b.len() {
+        return false;
+    }
+    let mut i = 0;
+    while i < a.len() {
+        if a[i] != b[i] {
+            return false;
+        }
+        i += 1;
+    }
+    true
+}

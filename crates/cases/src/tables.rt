@@ -1,0 +1,44 @@
+// A table is written to plan bytes and from there to rows again.
+use crate::rows::numbers;
+use crate::rows::same_rows;
+use crate::told::refused;
+use crate::told::told;
+use check::same;
+use plan_table::Answer;
+use plan_table::plan_to_table;
+use plan_table::table_to_plan;
+
+pub fn case(input: &[u8]) {
+    let mut rows = [43690u16; 8200];
+    let n = numbers(input, &mut rows);
+    if n <= 8200 {
+        let mut bytes = [170u8; 8192];
+        match table_to_plan(&rows[0..n], &mut bytes) {
+            Answer::Refused(cause) => refused(cause),
+            Answer::Count(m) => {
+                told(b"bytes ", m);
+                back(&rows, &bytes, m);
+            }
+        }
+    }
+}
+
+// Both arrays of rows were filled with one number: they are equal where the table is, and where nothing beyond it was written.
+fn back(rows: &[u16], bytes: &[u8], n: usize) {
+    if n <= bytes.len() && n <= 8192 {
+        let mut again = [43690u16; 8200];
+        match plan_to_table(&bytes[0..n], &mut again) {
+            Answer::Refused(cause) => refused(cause),
+            Answer::Count(m) => {
+                told(b", rows ", m);
+                if same_rows(rows, &again) {
+                    io::write_all(1, b" the same, beyond");
+                }
+                let before = [170u8; 8192];
+                if same(&bytes[n..], &before[n..]) {
+                    io::write_all(1, b" kept");
+                }
+            }
+        }
+    }
+}
