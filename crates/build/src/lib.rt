@@ -125,8 +125,8 @@ fn build_plan(workers: u32, choices: &[u8], plan: &[u8]) -> Built
 
 // The counts of the build that the input asks for, or why it is turned down.
 pub fn build(input: &[u8]) -> Built
-    ensures { λ r. ⌜ builtOf r ≡ buildOf (before input) ⌝ }
-    ensures { λ r. ⌜ Claimed (before input) r ⌝ }
+    ensures { λ r. ⌜ builtOf r ≡ buildOf (now (input .entry)) ⌝ }
+    ensures { λ r. ⌜ Claimed (now (input .entry)) r ⌝ }
 {
     if input.len() < 3 {
         return Built::Refused(Refusal::RanOut);

@@ -14,8 +14,7 @@ use lib.Dec.{eqb, leb, ltb}
 use Rattle.plan.specs.Test.{both, either, all}
 use Rattle.plan.specs.Refusal.{Outcome, refused, accepted}
 use Rattle.plan.specs.Plan.{Plan, Placed, total, placed}
-use Rattle.fields.specs.Field.{bitsOf, Step, stop, step, then, fieldAt}
-use Rattle.fields.specs.Field.{pack}
+use Rattle.fields.specs.Field.{bitsOf, pack, Step, stop, step, then, fieldAt}
 use Rattle.plan.specs.Reader.{readPlan}
 use Rattle.plan_measure.specs.Measure.{mustFollow}
 use Rattle.courses.specs.Row.{Row, noRow, place}

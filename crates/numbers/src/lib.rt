@@ -1,5 +1,5 @@
-// Numbers from one width to another, once for each pair of types. `as` stands in a function of its own where the prover is to be
-// told that an element of an array is below the end of its type.
+// Numbers from one width to another, once for each pair of types, and the larger of two. `as` stands in a function of its own where
+// the prover is to be told that an element of an array is below the end of its type.
 ghost use mathlib.Core.Path.{_≡_};
 ghost use Prim.Native.Nat.{_<_, max};
 
@@ -58,6 +58,13 @@ pub fn byte(x: usize) -> u8
 }
 
 pub fn larger(a: u32, b: u32) -> u32
+    ensures { λ r. ⌜ r ≡ max a b ⌝ }
+{
+    if a < b { b } else { a }
+}
+
+// The later of two times, in 16 bits.
+pub fn later(a: u16, b: u16) -> u16
     ensures { λ r. ⌜ r ≡ max a b ⌝ }
 {
     if a < b { b } else { a }

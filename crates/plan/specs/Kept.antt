@@ -2,13 +2,13 @@
 --   spawning c a     == the action spawns job c
 --   Recorded p k ..  == the first k actions keep the rules of their own spawns, and the arrays hold what they spawn:
 --                       a position of 255 marks a job that none of them spawns
---   SpawnTold k r .. p == the answer r tells whether that is so, or the spawn rules are broken
 --   SpawnAt jobs k .. p, SpawnsFrom jobs actions .. p == so it is before action k, and before the first one, of arrays that hold p
+--   SpawnTold k r .. p == the answer r tells whether the first k actions keep those rules, or the spawn rules are broken
 --   AllTold jobs l r == the answer r tells whether every job but 0 has a position other than 255
 --   Counted p k l    == the first k actions keep the rules of their own joins, and the array holds how many of their joins
 --                       enter each action: at most 8
 --   JoinAt k .. p, JoinsFrom actions .. p == so it is before action k, and before the first one, of arrays that hold p
---   JoinTold k r l p == the answer r tells whether that is so, or the join rules are broken
+--   JoinTold k r l p == the answer r tells whether the first k actions keep those rules, or the join rules are broken
 use Prim.Native.Nat.{ℕ, suc, _+_, _≤_, _<_}
 use mathlib.Core.Path.{_≡_}
 use mathlib.Core.Bool.{Bool}

@@ -1,7 +1,6 @@
-// What reading a plan into flat arrays answers.
+// What reading a plan into flat arrays answers: the plan's counts, or why there is none.
 use crate::refusal::Refusal;
 
-// What reading into lent arrays answers: a plan with its counts, or why there is none.
 pub enum Found {
     Refused(Refusal),
     Plan { jobs: usize, actions: usize },

@@ -1,5 +1,5 @@
 // The measures of a plan (document 01, "Plan"): T1, T∞ and S1.
-ghost use Prim.Native.Nat.{ℕ, suc, _+_, _-_, _<_, max};
+ghost use Prim.Native.Nat.{ℕ, suc, _+_, _-_, _<_};
 ghost use mathlib.Core.Path.{_≡_};
 ghost use lib.ListN.{length};
 ghost use Rattle.plan.specs.Contract.{Some, _⇒_, before, after};
@@ -9,6 +9,7 @@ ghost use Rattle.plan_measure.specs.Measure.{measured, measures, told, l
 ghost use Rattle.plan_measure.specs.Times.{at, PathsGiven, ends, begins, TimesGiven, MeasureGiven, JobGiven, TimedFrom};
 ghost use Rattle.plan_measure.specs.Times.{SendGiven, Sent, PassGiven, Passed};
 use numbers::larger;
+use numbers::later;
 use numbers::units16;
 use numbers::wide8;
 use numbers::wide16;
@@ -26,13 +27,6 @@ pub struct Measures {
 pub enum Measured {
     Refused(Refusal),
     Of(Measures),
-}
-
-// Times are at most T∞, which is at most 2,048; 16 bits halve the arrays of `longest`.
-fn later(a: u16, b: u16) -> u16
-    ensures { λ r. ⌜ r ≡ max a b ⌝ }
-{
-    if a < b { b } else { a }
 }
 
 // S1: each job's path weight is its frame and its parent's path weight.
@@ -160,7 +154,7 @@ fn time_job(
 }
 
 // T∞, one pass from the highest job down: what an action of a job must follow lies, but for the job's spawn, in the job and
-// those below it.
+// those below it. Times are at most T∞, which is at most 2,048: 16 bits halve the arrays.
 fn longest<'a>(
     jobs: usize,
     first: &'a [u16; 257],
@@ -213,7 +207,7 @@ pub fn measure_read<'a>(
 
 // T1, T∞ and S1 of the plan that the bytes hold, or why they are turned down.
 pub fn measure(bytes: &[u8]) -> Measured
-    ensures { λ r. ⌜ told r ≡ measures (before bytes) ⌝ }
+    ensures { λ r. ⌜ told r ≡ measures (now (bytes .entry)) ⌝ }
 {
     let mut frame = [0u16; 256];
     let mut first = [0u16; 257];

@@ -26,7 +26,7 @@ pub enum Answer {
 
 // Writes the open table of the plan that the bytes hold, and tells the number of rows.
 pub fn plan_to_table(bytes: &[u8], rows: &mut [u16]) -> Answer
-    ensures { λ r. ⌜ record { answer = answerOf r; buffer = after rows } ≡ toTable (before bytes) (before rows) ⌝ }
+    ensures { λ r. ⌜ record { answer = answerOf r; buffer = now (rows .exit) } ≡ toTable (now (bytes .entry)) (now (rows .entry)) ⌝ }
 {
     let mut frame = [0u16; 256];
     let mut first = [0u16; 257];
@@ -99,7 +99,7 @@ fn encode(
 
 // Writes the plan bytes of the plan that an open table holds, and tells the number of bytes.
 pub fn table_to_plan(table: &[u16], bytes: &mut [u8]) -> Answer
-    ensures { λ r. ⌜ record { answer = answerOf r; buffer = after bytes } ≡ toPlan (before table) (before bytes) ⌝ }
+    ensures { λ r. ⌜ record { answer = answerOf r; buffer = now (bytes .exit) } ≡ toPlan (now (table .entry)) (now (bytes .entry)) ⌝ }
 {
     if !table_rules(table) {
         return Answer::Refused(Refusal::Table);

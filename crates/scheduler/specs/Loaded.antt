@@ -1,5 +1,5 @@
--- What the run of a plan that was read is given, and what it leaves. Private functions alone cite this file; a public entry's
--- promise speaks of the plan's bytes.
+-- What the run of a plan that was read is given, and what it leaves. Functions that are no entries cite this file; an
+-- entry's promise speaks of the plan's bytes.
 --   Loaded p ..                        == the arrays hold the accepted plan p; no join into an action is sent yet
 --   Answered p n choices before r after == the answer r and the schedule `after` are those of a run of p, and the claim of
 --                                        demand 3 holds of them

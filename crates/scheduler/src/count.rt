@@ -5,6 +5,7 @@
 // tally by value and needs none.
 ghost use mathlib.Core.Path.{_≡_};
 ghost use Prim.Native.Nat.{_<_};
+ghost use Rattle.scheduler.specs.Count.{Countable};
 ghost use Rattle.runs.specs.Tally.{noCounts, withAction, withIdle, withRequest, withSteal, withMiss};
 use numbers::larger;
 use runs::tally::Tally;
@@ -26,7 +27,7 @@ pub fn no_counts(frame: u32) -> Tally
 
 // A turn that did an action; `weight` is that of the living frames after it.
 fn with_action(t: Tally, round: u32, weight: u32) -> Tally
-    requires { ⌜ t .actions < 4294967295 ⌝ }
+    requires { ⌜ Countable t ⌝ }
     ensures { λ r. ⌜ r ≡ withAction t round weight ⌝ }
 {
     let mut u = t;
@@ -38,7 +39,7 @@ fn with_action(t: Tally, round: u32, weight: u32) -> Tally
 
 // A turn of a worker that held nothing when the round began.
 fn with_idle(t: Tally, round: u32) -> Tally
-    requires { ⌜ t .idle < 4294967295 ⌝ }
+    requires { ⌜ Countable t ⌝ }
     ensures { λ r. ⌜ r ≡ withIdle t round ⌝ }
 {
     let mut u = t;
@@ -47,8 +48,9 @@ fn with_idle(t: Tally, round: u32) -> Tally
     u
 }
 
+// A request.
 pub fn with_request(t: Tally) -> Tally
-    requires { ⌜ t .requests < 4294967295 ⌝ }
+    requires { ⌜ Countable t ⌝ }
     ensures { λ r. ⌜ r ≡ withRequest t ⌝ }
 {
     let mut u = t;
@@ -56,8 +58,9 @@ pub fn with_request(t: Tally) -> Tally
     u
 }
 
+// A service that gave a job.
 pub fn with_steal(t: Tally) -> Tally
-    requires { ⌜ t .steals < 4294967295 ⌝ }
+    requires { ⌜ Countable t ⌝ }
     ensures { λ r. ⌜ r ≡ withSteal t ⌝ }
 {
     let mut u = t;
@@ -65,8 +68,9 @@ pub fn with_steal(t: Tally) -> Tally
     u
 }
 
+// A service that gave none.
 pub fn with_miss(t: Tally) -> Tally
-    requires { ⌜ t .misses < 4294967295 ⌝ }
+    requires { ⌜ Countable t ⌝ }
     ensures { λ r. ⌜ r ≡ withMiss t ⌝ }
 {
     let mut u = t;
@@ -75,14 +79,14 @@ pub fn with_miss(t: Tally) -> Tally
 }
 
 fn count_action(t: &mut Tally, round: u32, weight: u32)
-    requires { ⌜ now t .actions < 4294967295 ⌝ }
+    requires { ⌜ Countable (now t) ⌝ }
     ensures { λ _. ⌜ now (t .exit) ≡ withAction (now (t .entry)) round weight ⌝ }
 {
     *t = with_action(*t, round, weight);
 }
 
 fn count_idle(t: &mut Tally, round: u32)
-    requires { ⌜ now t .idle < 4294967295 ⌝ }
+    requires { ⌜ Countable (now t) ⌝ }
     ensures { λ _. ⌜ now (t .exit) ≡ withIdle (now (t .entry)) round ⌝ }
 {
     *t = with_idle(*t, round);
@@ -90,7 +94,7 @@ fn count_idle(t: &mut Tally, round: u32)
 
 // The tally after a turn that did an action.
 pub fn acted(t: Tally, round: usize, weight: u32) -> Tally
-    requires { ⌜ (round < 4294967296) × (t .actions < 4294967295) ⌝ }
+    requires { ⌜ (round < 4294967296) × Countable t ⌝ }
     ensures { λ r. ⌜ r ≡ withAction t round weight ⌝ }
 {
     let mut t = t;
@@ -100,7 +104,7 @@ pub fn acted(t: Tally, round: usize, weight: u32) -> Tally
 
 // The tally after an idle turn.
 pub fn idled(t: Tally, round: usize) -> Tally
-    requires { ⌜ (round < 4294967296) × (t .idle < 4294967295) ⌝ }
+    requires { ⌜ (round < 4294967296) × Countable t ⌝ }
     ensures { λ r. ⌜ r ≡ withIdle t round ⌝ }
 {
     let mut t = t;

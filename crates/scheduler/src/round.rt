@@ -14,6 +14,7 @@ ghost use Rattle.runs.specs.Run.{round as roundOf, ended};
 ghost use Rattle.runs.specs.Trace.{turning};
 ghost use Rattle.scheduler.specs.Machine.{InRun, Planned, Machine, Kept, Manned};
 ghost use Rattle.scheduler.specs.Requests.{Pointed, Queued};
+ghost use Rattle.scheduler.specs.Count.{Countable};
 use crate::account::Account;
 use crate::count::acted;
 use crate::count::idled;
@@ -85,7 +86,7 @@ fn take_turn(
 
 // A worker that holds nothing has its turn.
 fn rest(account: Account, round: usize) -> Account
-    requires { ⌜ (round ≤ 2048) × (account .tally .idle ≤ 32768) ⌝ }
+    requires { ⌜ (round ≤ 2048) × Countable (account .tally) ⌝ }
     ensures { λ a. ⌜ ((p : Plan) (s : State) (seats : List ℕ) → Manned p s account seats → Manned p (idledOf round s) a seats) ⌝ }
 {
     Account {

@@ -15,6 +15,7 @@ use Rattle.fields.specs.FieldParts.{Loose}
 use Rattle.fields.specs.Sink.{sinkBits, Sound, Put, Done}
 use Rattle.fields.proofs.Laws.Bits.{Binary, append-binary, take-binary, drop-binary, zeros-binary, bitsOf-binary, bitsOf-length, bits-length, bits-append}
 use Rattle.fields.proofs.Laws.Bits.{number-zeros, number-append, number-below, number-bitsOf, bitsOf-number, take-below, head, head-short, pack-front}
+use Rattle.fields.proofs.Laws.Puts.{sink-length}
 
 -- ---- bits at the top of a number of n bits
 
@@ -179,12 +180,6 @@ module _ (out : List ℕ) (k : Sink) (v w p : ℕ) (s : Sound out k) (h : (w ≤
 -- ---- the last byte
 
 module _ (out : List ℕ) (k : Sink) (s : Sound out k) (small : Bytes out) where
-  sink-length : length (sinkBits out k) ≡ 8 * k .bytes + k .bits
-  unfolding sinkBits
-  sink-length =
-      length-append (bits (take (k .bytes) out)) (take (k .bits) (bitsOf 32 (k .held)))
-      ∙ rw (bits-length, length-take-le (k .bytes) out (s .room), length-take-le (k .bits) (bitsOf 32 (k .held)) (omega (arith, s .few)))
-
   -- the bits behind the whole bytes go into n bytes more
   sink-pack : (n : ℕ) → pack (k .bytes + n) (sinkBits out k) ≡ take (k .bytes) out ++ pack n (take (k .bits) (bitsOf 32 (k .held)))
   unfolding sinkBits
@@ -196,7 +191,7 @@ module _ (out : List ℕ) (k : Sink) (s : Sound out k) (small : Bytes out) where
   unfolding pack
   done-whole e =
       record {
-        count = omega (arith, sink-length);
+        count = omega (arith, sink-length out k s);
         same = refl;
         written = sym (simp (add-zero, append-nil) at (sink-pack 0));
         beyond = refl;
@@ -206,7 +201,7 @@ module _ (out : List ℕ) (k : Sink) (s : Sound out k) (small : Bytes out) where
   unfolding pack
   done-filled x f room e =
       record {
-        count = omega (arith, sink-length, s .few);
+        count = omega (arith, sink-length out k s, s .few);
         same = length-set out (k .bytes) x;
         written =
             ap (λ (i : ℕ). take i (set out (k .bytes) x)) (add-one (k .bytes)) ∙ take-suc-set out (k .bytes) x (omega arith)

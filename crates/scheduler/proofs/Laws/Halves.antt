@@ -1,5 +1,10 @@
 -- The halves of a round: the second one leaves the actions and the rows, and whether it comes is one test on the arrays. A round is
 -- its turns, or those and a second half.
+--   turns-requests, serves-requests             == turns and services lay no request; lays-deques == requests leave the deques
+--   round-known, round-now                      == the round that begins is the one after those that the tally counts
+--   round-ends, ends-pointed, ends-queued       == a round that is its turns: the arrays, the place of the next choice, the lines
+--   round-lays                                  == where job 0 has not ended, a second half begins
+--   round-serves, serves-pointed, serves-queued == the same three after that
 use Prim.Native.Nat.{ℕ, zero, suc, _+_, _≤_}
 use mathlib.Core.Path.{_≡_, refl, sym, ap, _∙_}
 use mathlib.Core.Logic.{_≢_}

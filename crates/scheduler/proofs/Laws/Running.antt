@@ -19,6 +19,8 @@ use Rattle.runs.specs.Steal.{lays, serves}
 use Rattle.runs.specs.Trace.{Stage, turning, laying, serving, Trace}
 use Rattle.scheduler.specs.Machine.{InRun, Fitting}
 use Rattle.scheduler.specs.Requests.{Fits}
+use Rattle.scheduler.specs.Count.{Countable}
+use Rattle.runs.specs.declared.tally.Tally.{Tally}
 use Rattle.runs.proofs.Laws.Fit.{Fit}
 use Rattle.runs.proofs.Laws.Lined.{Sound, held-job}
 use Rattle.runs.proofs.Laws.Sound.{trace-sound}
@@ -37,6 +39,17 @@ module _ {p : Plan} {n : ℕ} {choices : List ℕ} {r : ℕ} {b : List Worker} {
   pub run-counts : (r ≤ 2048) × (s .tally .rounds ≤ r) × (s .tally .actions ≤ 2048) × (s .tally .idle ≤ 32768)
       × (s .tally .requests ≤ 32768) × (s .tally .steals ≤ 32768) × (s .tally .misses ≤ 32768)
   run-counts = counts-small run-fit (run .trace)
+
+  pub run-countable : {t : Tally} → t ≡ s .tally → Countable t
+  run-countable e =
+      let q = run-counts in
+      rw e (record {
+        actions = omega (arith, q .2);
+        idle = omega (arith, q .3);
+        requests = omega (arith, q .4);
+        steals = omega (arith, q .5);
+        misses = omega (arith, q .6);
+      })
 
   -- a worker that was idle as the round began can choose
   pub run-choices : (w : ℕ) → w < n → getD b w Idle ≡ Idle → 1 ≤ length choices

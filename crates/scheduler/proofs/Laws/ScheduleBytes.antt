@@ -6,8 +6,7 @@ use mathlib.Core.Path.{_≡_, refl, sym, ap, ap₂, _∙_}
 use mathlib.Core.List.{List, [], _∷_, _++_, append-assoc}
 use native.Mathlib.Omega.{arith}
 use lib.ListN.{length, getD}
-use Rattle.fields.specs.Field.{bitsOf, bits, number, Bytes}
-use Rattle.fields.specs.Field.{pack}
+use Rattle.fields.specs.Field.{bitsOf, bits, number, pack, Bytes}
 use Rattle.courses.specs.Row.{Row, noRow}
 use Rattle.scheduler.specs.Header.{headerBytes}
 use Rattle.courses.specs.Schedule.{rowsBits, scheduleBits, scheduleBytes}

@@ -1,4 +1,9 @@
 -- What the arrays of a worker that is about to act tell, and rule 1 of its turn over them.
+--   acting-sound, .., acting-counted == the state, the job and its action, and the actions that are done after it
+--   send-skips                       == the action sends no join
+--   send-place, send-missing         == where its join is counted as missing, and that it is
+--   send-stalls, send-later          == it was not the last one missing, or not to the parent's next action
+--   send-empty, send-wakes           == it was: the deque is empty, and the parent goes on it
 use Prim.Native.Nat.{ℕ, suc, _+_, _-_, _≤_, _<_}
 use mathlib.Core.Path.{_≡_, refl, ap, ap₂, sym, _∙_}
 use mathlib.Core.Logic.{_≢_, by-cases}

@@ -1,4 +1,9 @@
 -- Rules 2 and 3 of a turn over the arrays: what is left of the worker, its deque and the weight of the living frames.
+--   found-low, above-low                        == the bottom job of the deque has a lower number than the one that acts, after rule 1 too
+--   acting-sends, acting-settles                == what rule 1 and rule 3 are given
+--   acting-child, acting-heavier, acting-spawns == rule 2: the child, its weight, and what is left
+--   settle-lighter, settle-ends                 == rule 3 where the job ended
+--   settle-room, settle-goes, settle-stalls     == where it goes on, and where it stalls
 use Prim.Native.Nat.{ℕ, suc, _+_, _*_, _-_, _≤_, _<_}
 use mathlib.Core.Path.{_≡_, refl, ap, sym, _∙_}
 use mathlib.Core.Logic.{_≢_}

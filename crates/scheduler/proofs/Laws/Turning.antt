@@ -93,15 +93,10 @@ pub record Ahead (p : Plan) (r w j : ℕ) (s : State) : Type 0 where
   pub small : j < 256
   pub within : place p j (nextOf s j) < total p
   pub early : r ≤ 2048
-  pub few : s .tally .actions ≤ 2048
   pub bound : (h : ℕ) → h < length p → nextOf s h ≤ size p h
   pub acts : Acts p r w j (core s) (core (turn p r w j s))
 
 module _ (p : Plan) (n : ℕ) (choices : List ℕ) (r w : ℕ) (b : List Worker) (s : State) (run : InRun p n choices r b (turning w) s) where
-  pub turning-small : (r ≤ 2048) × (s .tally .actions ≤ 2048) × (s .tally .idle ≤ 32768)
-  turning-small =
-      let q = run-counts run in (q .0, q .2, q .3)
-
   -- what stands in the seat of a worker whose turn comes stood there as the round began
   pub turning-seat : {x : Worker} → w < n → workerOf s w ≡ x → getD b w Idle ≡ x
   turning-seat below e = sym (trace-began (run .trace) w (le-refl w)) ∙ e
@@ -116,8 +111,7 @@ module _ (p : Plan) (n : ℕ) (choices : List ℕ) (r w : ℕ) (b : List Worker)
           known = acts .known;
           small = omega (arith, acts .known, jobs-range p ok);
           within = place-below p j (nextOf s j) (acts .known) (acts .left);
-          early = turning-small .0;
-          few = turning-small .1;
+          early = run-counts run .0;
           bound = sound .good .closed .bound;
           acts = acts;
         }

@@ -35,6 +35,7 @@ use Rattle.runs.specs.declared.tally.Tally.{Tally}
 use Rattle.runs.proofs.tally.Tally as T
 use Rattle.runs.proofs.tally.Tally.Laws as T′
 use Rattle.runs.specs.Tally.{withAction}
+use Rattle.scheduler.specs.Count.{Countable}
 use Rattle.scheduler.proofs.Laws.TallyCell.{mach, Small, typed, lent, lends-tally}
 use Rattle.scheduler.proofs.count.count_action as count
 use Rattle.scheduler.proofs.count.count_action.Symbol as count-def
@@ -52,7 +53,7 @@ stayed = (stay-none (λ _. T.the-row) yes, (stay-none (λ _. usize) yes, (stay-n
 abbrev Count : {M : Type 1} (𝓤 : URA M) (H : Heap 𝓤) (A : Atoms 𝓤) (at-mem : Memory → SProp 𝓤) (run : Routine → Fun 𝓤) → Contract 𝓤
 Count 𝓤 H A at-mem run = tripleOf 𝓤 H A count.signature (count.spec 𝓤 H A at-mem run)
 
-module _ {M : Type 1} (𝓤 : URA M) (H : Heap 𝓤) (A : Atoms 𝓤) (W : Given 𝓤 H A) (at-mem : Memory → SProp 𝓤) (run : Routine → Fun 𝓤) (h : Tally) (n w : ℕ) (n-wide : n < 2 ^ 64) (w-fits : w < 2 ^ 32) (s : Small h) (ok : (n < 4294967296) × (h .actions < 4294967295)) where
+module _ {M : Type 1} (𝓤 : URA M) (H : Heap 𝓤) (A : Atoms 𝓤) (W : Given 𝓤 H A) (at-mem : Memory → SProp 𝓤) (run : Routine → Fun 𝓤) (h : Tally) (n w : ℕ) (n-wide : n < 2 ^ 64) (w-fits : w < 2 ^ 32) (s : Small h) (ok : (n < 4294967296) × Countable h) where
   abbrev h′ : Tally
   h′ = withAction h n w
 

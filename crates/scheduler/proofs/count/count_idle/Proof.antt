@@ -38,6 +38,7 @@ use Rattle.runs.specs.declared.tally.Tally.{Tally}
 use Rattle.runs.proofs.tally.Tally as T
 use Rattle.runs.proofs.tally.Tally.Laws as T′
 use Rattle.runs.specs.Tally.{withIdle}
+use Rattle.scheduler.specs.Count.{Countable}
 use Rattle.scheduler.proofs.Laws.TallyCell.{mach, Small, typed, opens-tally, closes-tally, calls-update}
 use Rattle.scheduler.proofs.count.with_idle as update
 use Rattle.scheduler.proofs.count.with_idle.Symbol as update-def
@@ -58,7 +59,7 @@ stayed = (stay-ref (0 ∷ []) tt (plain (λ _. T.the-row)), (stay-none (λ _. u3
 abbrev Update : {M : Type 1} (𝓤 : URA M) (H : Heap 𝓤) (A : Atoms 𝓤) (at-mem : Memory → SProp 𝓤) (run : Routine → Fun 𝓤) → Contract 𝓤
 Update 𝓤 H A at-mem run = tripleOf 𝓤 H A update.signature (update.spec 𝓤 H A at-mem run)
 
-module _ {M : Type 1} (𝓤 : URA M) (H : Heap 𝓤) (A : Atoms 𝓤) (W : Given 𝓤 H A) (at-mem : Memory → SProp 𝓤) (run : Routine → Fun 𝓤) (κ : Lft) (q : Share) (b o : ℕ) (γ : GName) (h : Tally) (n : ℕ) (n-fits : n < 2 ^ 32) (ok : h .idle < 4294967295) where
+module _ {M : Type 1} (𝓤 : URA M) (H : Heap 𝓤) (A : Atoms 𝓤) (W : Given 𝓤 H A) (at-mem : Memory → SProp 𝓤) (run : Routine → Fun 𝓤) (κ : Lft) (q : Share) (b o : ℕ) (γ : GName) (h : Tally) (n : ℕ) (n-fits : n < 2 ^ 32) (ok : Countable h) where
   abbrev x : Arg
   x = (record { ptr = (b, o); name = γ; now = h }, (n, tt))
 

@@ -1,12 +1,12 @@
 -- `count::with_steal` meets its contract.
 use mathlib.Core.Path.{refl}
 use native.Mathlib.Numerals.{add-one}
-use borrow.Author.Needs.{needs}
+use native.Mathlib.Omega.{arith}
 use Rattle.scheduler.proofs.count.with_steal.Statement.{statement}
 use Rattle.scheduler.proofs.count.with_steal.Tie as tie
 
 add-u : tie.Need-add-u
-add-u c = search needs
+add-u c = omega (arith, c .before .pre .steals)
 
 returns : tie.Need-returns
 returns c = rw add-one refl

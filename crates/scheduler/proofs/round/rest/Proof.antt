@@ -6,7 +6,7 @@ use Rattle.scheduler.proofs.round.rest.Statement.{statement}
 use Rattle.scheduler.proofs.round.rest.Tie as tie
 
 idled-requires : tie.Need-idled-requires
-idled-requires c κs = (omega (arith, c .pre), omega (arith, c .pre))
+idled-requires c κs = (omega (arith, c .pre .0), c .pre .1)
 
 returns : tie.Need-returns
 unfolding idled

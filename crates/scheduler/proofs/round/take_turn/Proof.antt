@@ -2,6 +2,7 @@
 use mathlib.Core.Path.{ap}
 use native.Mathlib.Omega.{arith}
 use borrow.Author.Needs.{needs}
+use Rattle.scheduler.proofs.Laws.Running.{run-countable}
 use Rattle.scheduler.proofs.Laws.Turning.{Ahead, turning-ahead, turning-acting, turning-fits, turning-machine}
 use Rattle.scheduler.proofs.round.take_turn.Statement.{statement}
 use Rattle.scheduler.proofs.round.take_turn.Tie as tie
@@ -56,8 +57,8 @@ element-write-seats c = omega (arith, c .before .before .before .before .before 
 
 acted-requires : tie.Need-acted-requires
 acted-requires c κs =
-    let a = ahead (c .before .before .before .before .before .before .before .before .before .before .before .before .before .before .before .before) in
-    (omega (arith, a .early), omega (arith, a .few, ap (λ t. t .actions) (c .before .before .before .before .before .before .before .before .before .before .before .before .before .before .before .before .pre .7 .manned .counts)))
+    let o = c .before .before .before .before .before .before .before .before .before .before .before .before .before .before .before .before in
+    (omega (arith, ahead o .early), run-countable (o .pre .5) (o .pre .7 .manned .counts))
 
 same-length : tie.Need-same-length
 same-length c = search needs

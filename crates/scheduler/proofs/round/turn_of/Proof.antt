@@ -10,8 +10,9 @@ use Rattle.runs.specs.State.{State, workerOf}
 use Rattle.runs.specs.Trace.{turning}
 use Rattle.runs.specs.Turn.{turnOf}
 use Rattle.scheduler.specs.Machine.{InRun, Seated}
-use Rattle.scheduler.proofs.Laws.Running.{run-seats}
-use Rattle.scheduler.proofs.Laws.Turning.{turning-small, turning-seat, idling-machine}
+use Rattle.scheduler.specs.Count.{Countable}
+use Rattle.scheduler.proofs.Laws.Running.{run-seats, run-counts, run-countable}
+use Rattle.scheduler.proofs.Laws.Turning.{turning-seat, idling-machine}
 use Rattle.scheduler.proofs.round.turn_of.Statement.{statement}
 use Rattle.scheduler.proofs.round.turn_of.Tie as tie
 
@@ -35,11 +36,10 @@ worker-at-requires c κs = search needs
 enum-told : tie.Need-enum-told
 enum-told c = search needs
 
-restable : (c : tie.Start) → (c .args .round ≤ 2048) × (c .args .account .tally .idle ≤ 32768)
+restable : (c : tie.Start) → (c .args .round ≤ 2048) × Countable (c .args .account .tally)
 restable c =
     let (p, n, choices, b, s, run, planned, machine, below) = c .pre in
-    let q = turning-small p n choices (c .args .round) (c .args .w) b s run in
-    (q .0, omega (arith, q .2, ap (λ t. t .idle) (machine .manned .counts)))
+    (run-counts run .0, run-countable run (machine .manned .counts))
 
 rest-requires : tie.Need-rest-requires
 rest-requires c κs = restable (c .before .before .before .before .before)

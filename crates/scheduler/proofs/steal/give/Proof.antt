@@ -5,7 +5,8 @@ use native.Mathlib.Omega.{arith}
 use Rattle.runs.specs.declared.worker.Worker.{Worker}
 use Rattle.runs.specs.declared.worker.Worker.the-variants.{Holding, Waiting}
 use Rattle.runs.proofs.Laws.Began.{idle-unheld}
-use Rattle.scheduler.proofs.Laws.Running.{run-sound, run-counts}
+use Rattle.scheduler.specs.Count.{Countable}
+use Rattle.scheduler.proofs.Laws.Running.{run-sound, run-countable}
 use Rattle.scheduler.proofs.Laws.Manning.{steal-served, miss-served, given-fits}
 use Rattle.scheduler.proofs.Laws.Picks.{served-below}
 use borrow.Author.Needs.{needs}
@@ -15,10 +16,10 @@ use Rattle.scheduler.proofs.steal.give.Tie as tie
 waiting-unheld : (x : Worker) (v l : ℕ) → x ≡ Waiting v l → (j : ℕ) → x ≡ Holding j → ⊥
 waiting-unheld x v l e j f = let z : _≡_ {A = ℕ} 0 1 = cc in omega arith
 
-missable : (c : tie.Start) → c .args .account .tally .misses < 4294967295
-missable c =
+countable : (c : tie.Start) → Countable (c .args .account .tally)
+countable c =
     let (p, n, choices, r, b, s, g) = c .pre in
-    omega (arith, run-counts (g .run), ap (λ t. t .misses) (g .manned .counts))
+    run-countable (g .run) (g .manned .counts)
 
 take-top-requires : tie.Need-take-top-requires
 take-top-requires c κs =
@@ -40,21 +41,19 @@ enum-told : tie.Need-enum-told
 enum-told c = search needs
 
 with-steal-requires : tie.Need-with-steal-requires
-with-steal-requires c κs =
-    let (p, n, choices, r, b, s, g) = c .before .before .before .before .before .before .pre in
-    omega (arith, run-counts (g .run), ap (λ t. t .steals) (g .manned .counts))
+with-steal-requires c κs = countable (c .before .before .before .before .before .before)
 
 enum-told-2 : tie.Need-enum-told-2
 enum-told-2 c = search needs
 
 with-miss-requires : tie.Need-with-miss-requires
-with-miss-requires c κs = missable (c .before .before .before .before .before .before)
+with-miss-requires c κs = countable (c .before .before .before .before .before .before)
 
 enum-told-3 : tie.Need-enum-told-3
 enum-told-3 c = search needs
 
 with-miss-requires-2 : tie.Need-with-miss-requires-2
-with-miss-requires-2 c κs = missable (c .before .before .before .before .before .before)
+with-miss-requires-2 c κs = countable (c .before .before .before .before .before .before)
 
 returns : tie.Need-returns
 returns c =

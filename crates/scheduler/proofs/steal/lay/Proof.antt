@@ -8,7 +8,7 @@ use lib.ListN.{length, getD}
 use Rattle.runs.specs.Setting.{setting}
 use Rattle.runs.specs.declared.worker.Worker.the-variants.{Waiting}
 use Rattle.scheduler.specs.Machine.{Fitting}
-use Rattle.scheduler.proofs.Laws.Running.{run-sound, run-counts, run-choices, run-chosen, run-few}
+use Rattle.scheduler.proofs.Laws.Running.{run-sound, run-counts, run-countable, run-choices, run-chosen, run-few}
 use Rattle.scheduler.proofs.Laws.Picks.{laying-calm, lay-queued}
 use Rattle.scheduler.proofs.Laws.Manning.{laid-manned, laid-pointed}
 use Rattle.scheduler.proofs.steal.lay.Statement.{statement}
@@ -61,7 +61,7 @@ onward-requires c κs = let o = begins (c .before .before .before .before .befor
 with-request-requires : tie.Need-with-request-requires
 with-request-requires c κs =
     let (p, n, b, s, run, manned, idle, pointed, queued, h) = begins (c .before .before .before .before .before .before .before) .pre in
-    omega (arith, run-counts run, ap (λ t. t .requests) (manned .counts))
+    run-countable run (manned .counts)
 
 returns : tie.Need-returns
 returns c =
