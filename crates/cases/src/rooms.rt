@@ -38,6 +38,8 @@ fn into_rows(plan: &[u8], room: usize) {
     if room <= 8200 {
         let mut rows = [0u16; 8200];
         answered(b"rows ", plan_to_table(plan, &mut rows[0..room]));
+    } else {
+        io::write_all(1, b"above 8200");
     }
 }
 
@@ -58,5 +60,7 @@ fn bytes_of(rows: &[u16], n: usize, room: usize) {
             b"bytes ",
             table_to_plan(&rows[0..4 * n], &mut bytes[0..room]),
         );
+    } else {
+        io::write_all(1, b"above 8192");
     }
 }

@@ -1,4 +1,5 @@
 // Tables as numbers of two bytes.
+use numbers::double8;
 
 // The bytes as numbers, high byte first: how many there are.
 pub fn numbers(s: &[u8], rows: &mut [u16]) -> usize {
@@ -14,7 +15,7 @@ pub fn numbers(s: &[u8], rows: &mut [u16]) -> usize {
 }
 
 fn pair(high: u8, low: u8) -> u16 {
-    high as u16 * 256 + low as u16
+    double8(high) * 256 + double8(low)
 }
 
 pub fn same_rows(a: &[u16], b: &[u16]) -> bool {

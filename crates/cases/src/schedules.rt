@@ -13,8 +13,10 @@ pub fn given(input: &[u8]) {
         let start = 2 + wide8(input[0]) * 256 + wide8(input[1]);
         if start <= input.len() {
             checked(&input[2..start], &input[start..]);
+            return;
         }
     }
+    io::write_all(1, b"cut short");
 }
 
 fn checked(plan: &[u8], schedule: &[u8]) {
@@ -32,8 +34,10 @@ pub fn own(input: &[u8]) {
         let start = 3 + wide8(input[1]) * 256 + wide8(input[2]);
         if start <= input.len() {
             ran(units8(input[0]), &input[3..start], &input[start..]);
+            return;
         }
     }
+    io::write_all(1, b"cut short");
 }
 
 fn ran(workers: u32, choices: &[u8], plan: &[u8]) {

@@ -13,7 +13,7 @@ use Rattle.fields.specs.declared.field.Sink.{Sink}
 use Rattle.fields.specs.Field.{Bytes, bitsOf, bits, number, pack}
 use Rattle.fields.specs.FieldParts.{Loose}
 use Rattle.fields.specs.Sink.{sinkBits, Sound, Put, Done}
-use Rattle.fields.proofs.Laws.Bits.{Binary, append-binary, take-binary, drop-binary, zeros-binary, bitsOf-binary, bitsOf-length, bits-length, bits-append}
+use Rattle.fields.proofs.Laws.Bits.{Binary, append-binary, take-binary, drop-binary, zeros-binary, bitsOf-binary, bitsOf-length, bits-append}
 use Rattle.fields.proofs.Laws.Bits.{number-zeros, number-append, number-below, number-bitsOf, bitsOf-number, take-below, head, head-short, pack-front}
 use Rattle.fields.proofs.Laws.Puts.{sink-length}
 

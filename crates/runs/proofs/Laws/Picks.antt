@@ -1,5 +1,5 @@
--- Whom a victim serves. What a service keeps it keeps for any pick; only what rests on the rule by which a run picks, in Served, and
--- the law below know the rule.
+-- Whom a victim serves. What a service keeps it keeps for any pick; the rule by which a run picks is opened in Least, and cited in
+-- Served, which says when a request is due, in Plain and in the law below.
 --   pickOf-picks == the pick of a run is one of those that wait on the victim
 use Prim.Native.Nat.{ℕ}
 use mathlib.Core.List.{List}

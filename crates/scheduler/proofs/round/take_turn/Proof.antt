@@ -1,5 +1,4 @@
 -- `round::take_turn` meets its contract: the row is the one of the action that worker w does, and `act` does the rest.
-use mathlib.Core.Path.{ap}
 use native.Mathlib.Omega.{arith}
 use borrow.Author.Needs.{needs}
 use Rattle.scheduler.proofs.Laws.Running.{run-countable}

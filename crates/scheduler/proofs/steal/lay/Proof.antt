@@ -1,6 +1,5 @@
 -- `steal::lay` meets its contract: a worker that was idle as the round began has a choice, and the counts are small.
 use Prim.Native.Nat.{ℕ, _<_}
-use mathlib.Core.Path.{ap}
 use native.Mathlib.Nat.{mod-lt, le-refl}
 use native.Mathlib.Omega.{arith}
 use borrow.Author.Needs.{needs}
