@@ -1,4 +1,10 @@
 -- Bit lists, most significant bit first: their numbers, the bits of bytes, the field at a place, and the bytes that bits fill.
+--   Binary l                     == each member is 0 or 1
+--   number-bitsOf, bitsOf-number == numbers and bits of a width undo one another
+--   field-within, field-beyond   == a field is read where the bytes have room for it, and not where they have none
+--   field-read, field-stop       == what a field that was read is, and why none was
+--   field-seam                   == a field that stands behind other bits is read there
+--   pack-bits, bits-pack         == bytes and bits undo one another, but for the zero bits that fill the last byte
 use mathlib.Core.Path.{_≡_, refl, sym, ap, ap₂, _∙_}
 use mathlib.Core.List.{List, [], _∷_, _++_, append-assoc, append-nil}
 use Prim.Native.Nat.{ℕ, zero, suc, _+_, _*_, _-_, _/_, _%_, _^_, _≤_, _<_}

@@ -1,4 +1,6 @@
 -- Steps of a reading that goes on: what was read first, what was tested, and what was read then.
+--   then-went-on, unless-went-on, when-went-on == from a reading that went on, what its first step gave and its test told
+--   then-goes-on, unless-goes-on               == and the other way
 use Prim.Native.Nat.{ℕ}
 use native.Mathlib.Omega.{arith}
 use mathlib.Core.Path.{_≡_, refl, ap, _∙_}

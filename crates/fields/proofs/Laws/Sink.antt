@@ -1,4 +1,7 @@
 -- The field writer's sink: what it holds after a field is put in, after a whole byte went to the buffer, and after the last byte was filled.
+--   Moved out k o k′        == only whole bytes went from the sink to the buffer; moved-byte, moved-all == one did, all did
+--   put-loose, put-written  == a field is put in, and then the whole bytes moved
+--   done-whole, done-filled == the last byte is whole, or filled with zero bits
 use mathlib.Core.Path.{_≡_, refl, sym, ap, ap₂, _∙_}
 use mathlib.Core.List.{List, [], _∷_, _++_, append-assoc, append-nil}
 use Prim.Native.Nat.{ℕ, zero, suc, _+_, _*_, _-_, _/_, _%_, _^_, _≤_, _<_}

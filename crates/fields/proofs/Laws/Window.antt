@@ -1,4 +1,7 @@
 -- A field is cut out of the whole bytes that it lies in, at the top of 32 bits, by two products with powers of two.
+--   window-field == what the two products leave is the field
+--   product-fits == neither product goes beyond 64 bits
+--   bytes-number == the four bytes of a window, each with its weight, are its number
 use mathlib.Core.Path.{_≡_, refl, sym, ap, _∙_}
 use mathlib.Core.List.{List, [], _∷_, _++_}
 use Prim.Native.Nat.{ℕ, _+_, _*_, _/_, _%_, _^_, _≤_, _<_}

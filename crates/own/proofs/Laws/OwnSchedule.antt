@@ -1,4 +1,6 @@
 -- The schedule that a run writes: it lies within what was lent, and the checker accepts it.
+--   run-room, run-accepted             == so it is of what a run that was done wrote
+--   left-is, left-room, left-accepted  == so it is of what the entry `run` left
 use Prim.Native.Nat.{ℕ, _+_, _*_, _-_, _≤_}
 use mathlib.Core.Path.{_≡_, refl, sym, ap, _∙_}
 use mathlib.Core.Logic.{_⊎_, inl, inr}

@@ -1,4 +1,9 @@
 -- The bits of a plan by the arrays that hold it, action by action in plan order.
+--   upTo f k       == f 0 ++ f 1 ++ .., the first k of them
+--   plan-count     == how many bits there are, by the numbers of the arrays
+--   plan-upTo      == a plan's bits are its form, its job count and then those of each action
+--   plan-room      == n bytes that have room for the plan's have room for these bits
+--   place-writable == the numbers at a place fit their fields
 use Prim.Native.Nat.{ℕ, zero, suc, _+_, _*_, _-_, _/_, _≤_, _<_}
 use mathlib.Core.Path.{_≡_, sym, ap, ap₂, _∙_}
 use mathlib.Core.List.{List, [], _∷_, _++_, append-assoc, append-nil}
@@ -18,7 +23,6 @@ use Rattle.plan.proofs.Laws.Placed.{start, start-suc, placed-at, placed-of, pla
 use Rattle.plan.proofs.Laws.Spawning.{jobs-in-range, size-in-range, total-in-range}
 use Rattle.plan_writer.proofs.Laws.Numbers.{number-few}
 
--- f 0 ++ f 1 ++ .., the first k of them
 abbrev pub upTo : (ℕ → List ℕ) → ℕ → List ℕ
 upTo f zero = []
 upTo f (suc k) = upTo f k ++ f k

@@ -1,4 +1,7 @@
 -- A plan's bytes: a plan that is read and written again has the same bytes, and a plan that is written and read again is the same.
+--   planBytes-length, planBytes-bytes == how many they are, and that they are bytes
+--   read-write                        == bytes that a plan is read from are the plan's bytes
+--   write-read                        == from the bytes of an accepted plan that plan is read
 use Prim.Native.Nat.{ℕ, zero, suc, _+_, _*_, _-_, _/_, _≤_, _<_}
 use native.Mathlib.Omega.{arith}
 use mathlib.Core.Path.{_≡_, refl, sym, ap, ap₂, _∙_}
