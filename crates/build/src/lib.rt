@@ -1,11 +1,9 @@
 // What `buildrun` does with its input (document 01, "Cases"): P, the choice count, the choices, and the plan behind them.
 ghost use mathlib.Core.Path.{_≡_};
-ghost use lib.ListN.{length};
-ghost use Rattle.plan.specs.Contract.{before};
+ghost use Rattle.plan.specs.Contract.{Some, _⇒_, before};
 ghost use Rattle.plan.specs.Refusal.{accepted};
-ghost use Rattle.plan.specs.Plan.{Plan};
 ghost use Rattle.runs.specs.Run.{admitted};
-ghost use Rattle.scheduler.specs.Loaded.{Loaded};
+ghost use Rattle.build.specs.Given.{BuildGiven};
 ghost use Rattle.build.specs.Build.{countsOf, ranWith, buildOf, builtOf, Claimed};
 use numbers::units8;
 use numbers::wide8;
@@ -47,11 +45,9 @@ fn build_read<'a>(
     parent: &'a [u8; 256],
     missing: &mut [u8; 2048],
 ) -> Built
-    requires { ⌜ ((p : Plan)
-        × Loaded p actions (now frame) (now first) (now spawn) (now join) (now parent) (now missing) × (jobs ≡ length p)) ⌝ }
-    ensures { λ r. ⌜ ((p : Plan)
-        → Loaded p actions (before frame) (before first) (before spawn) (before join) (before parent) (before missing)
-        → jobs ≡ length p → builtOf r ≡ countsOf (accepted p) (admitted (accepted p) workers (before choices))) ⌝ }
+    requires { ⌜ Some (BuildGiven jobs actions (now frame) (now first) (now spawn) (now join) (now parent) (now missing)) ⌝ }
+    ensures { λ r. ⌜ BuildGiven jobs actions (before frame) (before first) (before spawn) (before join) (before parent) (before missing)
+        ⇒ (λ p. builtOf r ≡ countsOf (accepted p) (admitted (accepted p) workers (before choices))) ⌝ }
 {
     let mut schedule = [0u8; 4100];
     match run_read(

@@ -5,6 +5,7 @@
 --   begins p j        == when the spawn of job j is done; 0 for the root
 --   placeOf p j       == the place of job j's first action
 --   TimesGiven p ..   == the arrays hold the actions of the plan p
+--   LongestGiven .. p == so they do, and p has so many jobs
 --   MeasureGiven .. p == the arrays hold all that is measured of the plan p
 --   JobGiven p j ..   == the same, with the places of the actions of job j
 --   TimedFrom p j ..  == the times of jobs j and up are known, from the spawn of each, and nothing told of when joins came
@@ -48,6 +49,10 @@ pub record TimesGiven (p : Plan) (first spawn join : List ℕ) : Type 0 where
   pub firsts : Firsts p first
   pub spawns : Spawns p spawn
   pub joins : Joins p join
+
+pub record LongestGiven (jobs : ℕ) (first spawn join : List ℕ) (p : Plan) : Type 0 where
+  pub times : TimesGiven p first spawn join
+  pub count : jobs ≡ length p
 
 pub record MeasureGiven (jobs actions : ℕ) (frameOf firstOf spawnOf joinOf parentOf : List ℕ) (p : Plan) : Type 0 where
   pub paths : PathsGiven jobs frameOf parentOf p

@@ -6,7 +6,7 @@ ghost use Rattle.plan.specs.Contract.{Some, _⇒_, before, after};
 ghost use Rattle.plan.specs.Refusal.{accepted};
 ghost use Rattle.plan.specs.Plan.{Plan, size};
 ghost use Rattle.plan_measure.specs.Measure.{measured, measures, told, longest as longestOf, heaviest as heaviestOf};
-ghost use Rattle.plan_measure.specs.Times.{at, PathsGiven, ends, begins, TimesGiven, MeasureGiven, JobGiven, TimedFrom};
+ghost use Rattle.plan_measure.specs.Times.{at, PathsGiven, ends, begins, LongestGiven, MeasureGiven, JobGiven, TimedFrom};
 ghost use Rattle.plan_measure.specs.Times.{SendGiven, Sent, PassGiven, Passed};
 use numbers::larger;
 use numbers::later;
@@ -161,9 +161,8 @@ fn longest<'a>(
     spawn: &'a [u16; 2048],
     join: &'a [u16; 2048],
 ) -> u32
-    requires { ⌜ ((p : Plan) × TimesGiven p (now first) (now spawn) (now join) × (jobs ≡ length p)) ⌝ }
-    ensures { λ r. ⌜ ((p : Plan) → TimesGiven p (before first) (before spawn) (before join) → jobs ≡ length p
-        → r ≡ longestOf p) ⌝ }
+    requires { ⌜ Some (LongestGiven jobs (now first) (now spawn) (now join)) ⌝ }
+    ensures { λ r. ⌜ LongestGiven jobs (before first) (before spawn) (before join) ⇒ (λ p. r ≡ longestOf p) ⌝ }
 {
     let mut time = [0u16; 2048];
     let mut late = [0u16; 2048];

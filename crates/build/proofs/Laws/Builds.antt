@@ -22,7 +22,7 @@ use Rattle.runs.specs.Run.{run, admitted, runOf}
 use Rattle.courses.specs.Schedule.{scheduleBytes}
 use Rattle.runs.proofs.Laws.Admitted.{Stopped, Went, outcome}
 use Rattle.scheduler.specs.Entry.{Result, resulted}
-use Rattle.scheduler.specs.Loaded.{Loaded}
+use Rattle.build.specs.Given.{BuildGiven}
 use Rattle.build.specs.declared.Counts.{Counts}
 use Rattle.build.specs.Build.{countsOf, ranWith, choiceCount, buildOf}
 use Rattle.scheduler.proofs.Laws.RunBytes.{run-fits}
@@ -43,14 +43,14 @@ counted t m =
     }
 
 -- the arrays that are run are measured too
-pub loaded-measured : (p : Plan) (jobs actions : ℕ) (frame first spawn join parent missing : List ℕ)
-    → Loaded p actions frame first spawn join parent missing → jobs ≡ length p → MeasureGiven jobs actions frame first spawn join parent p
-loaded-measured p jobs actions frame first spawn join parent missing g e =
-    let h = g .planned in
+pub given-measured : (p : Plan) (jobs actions : ℕ) (frame first spawn join parent missing : List ℕ)
+    → BuildGiven jobs actions frame first spawn join parent missing p → MeasureGiven jobs actions frame first spawn join parent p
+given-measured p jobs actions frame first spawn join parent missing g =
+    let h = g .loaded .planned in
     record {
-      paths = record { rules = h .accepted; count = e; frames = h .frames; parents = h .parents };
+      paths = record { rules = h .accepted; count = g .count; frames = h .frames; parents = h .parents };
       times = record { rules = h .accepted; firsts = h .firsts; spawns = h .spawns; joins = h .joins };
-      all = g .all;
+      all = g .loaded .all;
     }
 
 module _ (p : Plan) (ok : Accepted p) (n : ℕ) (choices schedule : List ℕ) (long : 4100 ≤ length schedule) where

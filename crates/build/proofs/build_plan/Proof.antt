@@ -40,7 +40,7 @@ given c = found-given _ (flat c) (rw (c .jobs .given .1) at (c .before .before .
 build-read-requires : tie.Need-build-read-requires
 build-read-requires c κs =
     let g = given (c .before .before .before .before .before .before .before) in
-    (g .plan, given-loaded _ _ g, g .holds .jobs)
+    (g .plan, record { loaded = given-loaded _ _ g; count = g .holds .jobs })
 
 returns : tie.Need-returns
 returns c =
@@ -50,7 +50,7 @@ returns c =
 returns-2 : tie.Need-returns-2
 returns-2 c =
     let g = given (c .before .before .before .before .before .before .before .before) in
-    ran-read _ _ _ (g .plan) _ (g .read) (c .build-read .ensures (g .plan) (given-loaded _ _ g) (g .holds .jobs))
+    ran-read _ _ _ (g .plan) _ (g .read) (c .build-read .ensures (g .plan) (record { loaded = given-loaded _ _ g; count = g .holds .jobs }))
 
 pub build-plan-spec : {M : Type 1} → statement M
 build-plan-spec =

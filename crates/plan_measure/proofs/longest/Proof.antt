@@ -22,7 +22,9 @@ abbrev μ-loop : tie.MeasureT-loop
 
 loop-holds : tie.Need-loop-holds Inv-loop μ-loop
 loop-holds c =
-    let (p, g, e) = c .pre in (
+    let (p, o) = c .pre in
+    let g = o .times in
+    let e = o .count in (
       omega (arith, jobs-range p (g .rules)),
       omega arith,
       refl,
@@ -59,7 +61,9 @@ wide16-requires-2 c κs = search needs
 time-job-requires : tie.Need-time-job-requires Inv-loop μ-loop
 time-job-requires c κs =
     let l = c .before .before .before .before .before .before .before in
-    let (p, g, e) = l .before .pre in
+    let (p, o) = l .before .pre in
+    let g = o .times in
+    let e = o .count in
     let n : suc (l .loop .j - 1) ≡ l .loop .j = omega arith in (
       l .loop .inv .2,
       l .loop .inv .3,
@@ -93,9 +97,10 @@ units16-requires : tie.Need-units16-requires Inv-loop μ-loop
 units16-requires c κs = tt
 
 returns : tie.Need-returns Inv-loop μ-loop
-returns c = λ p g e.
+returns c = λ p o.
+    let g = o .times in
     let l = c .before .before .loop in
-    c .units16 .ensures .0 ∙ root-longest p (g .rules) (l .most) (l .inv .4 p g e .1 (omega arith))
+    c .units16 .ensures .0 ∙ root-longest p (g .rules) (l .most) (l .inv .4 p g (o .count) .1 (omega arith))
 
 pub longest-spec : {M : Type 1} → statement M
 longest-spec =

@@ -12,7 +12,7 @@ cast-t8 c =
 longest-requires : tie.Need-longest-requires
 longest-requires c κs =
     let (p, g) = c .pre in
-    (p, g .times, g .paths .count)
+    (p, record { times = g .times; count = g .paths .count })
 
 heaviest-requires : tie.Need-heaviest-requires
 heaviest-requires c κs =
@@ -21,7 +21,7 @@ heaviest-requires c κs =
 
 returns : tie.Need-returns
 returns c = λ p g.
-    measured-by p _ _ _ _ _ _ _ g _ _ (c .before .longest .ensures p (g .times) (g .paths .count)) (c .heaviest .ensures p (g .paths))
+    measured-by p _ _ _ _ _ _ _ g _ _ (c .before .longest .ensures p (record { times = g .times; count = g .paths .count })) (c .heaviest .ensures p (g .paths))
 
 pub measure-read-spec : {M : Type 1} → statement M
 measure-read-spec =
