@@ -55,13 +55,20 @@ fn back(plan: &[u8], rows: &[u16], n: usize) {
 
 // The first n bytes are the plan, and beyond them stands what stood there.
 fn compared(plan: &[u8], bytes: &[u8], n: usize) {
-    if n <= bytes.len() && n <= 8192 {
+    if n <= bytes.len() {
         if same(plan, &bytes[0..n]) {
             io::write_all(1, b" the same,");
         }
-        let before = [170u8; 8192];
+    }
+    kept(bytes, n, b" beyond");
+}
+
+// Prints the word where the bytes from place n on are as they were.
+pub fn kept(bytes: &[u8], n: usize, word: &[u8]) {
+    let before = [170u8; 8192];
+    if n <= bytes.len() && n <= 8192 {
         if same(&bytes[n..], &before[n..]) {
-            io::write_all(1, b" beyond");
+            io::write_all(1, word);
         }
     }
 }

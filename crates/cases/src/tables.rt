@@ -1,9 +1,9 @@
 // A table is written to plan bytes and from there to rows again.
+use crate::plans::kept;
 use crate::rows::numbers;
 use crate::rows::same_rows;
 use crate::told::refused;
 use crate::told::told;
-use check::same;
 use plan_table::Answer;
 use plan_table::plan_to_table;
 use plan_table::table_to_plan;
@@ -25,7 +25,7 @@ pub fn case(input: &[u8]) {
 
 // Both arrays of rows were filled with one number: they are equal where the table is, and where nothing beyond it was written.
 fn back(rows: &[u16], bytes: &[u8], n: usize) {
-    if n <= bytes.len() && n <= 8192 {
+    if n <= bytes.len() {
         let mut again = [43690u16; 8200];
         match plan_to_table(&bytes[0..n], &mut again) {
             Answer::Refused(cause) => refused(cause),
@@ -34,10 +34,7 @@ fn back(rows: &[u16], bytes: &[u8], n: usize) {
                 if same_rows(rows, &again) {
                     io::write_all(1, b" the same, beyond");
                 }
-                let before = [170u8; 8192];
-                if same(&bytes[n..], &before[n..]) {
-                    io::write_all(1, b" kept");
-                }
+                kept(bytes, n, b" kept");
             }
         }
     }

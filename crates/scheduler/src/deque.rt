@@ -11,8 +11,10 @@ use runs::worker::Worker;
 
 // Puts job j on the bottom of deque w. An empty deque starts at its first place again.
 pub fn push(slots: &mut [u8; 4096], top: &mut [u16; 16], len: &mut [u16; 16], w: usize, j: u8)
-    requires { ⌜ ((ds : List (List ℕ)) × Dequed ds (now slots) (now top) (now len) × (w < 16) × ((x : ℕ) (d : List ℕ) → getD ds w [] ≡ x ∷ d → x < j)) ⌝ }
-    ensures { λ r. ⌜ ((ds : List (List ℕ)) → Dequed ds (now (slots .entry)) (now (top .entry)) (now (len .entry)) → Dequed (set ds w (j ∷ getD ds w [])) (now (slots .exit)) (now (top .exit)) (now (len .exit))) ⌝ }
+    requires { ⌜ ((ds : List (List ℕ)) × Dequed ds (now slots) (now top) (now len) × (w < 16)
+        × ((x : ℕ) (d : List ℕ) → getD ds w [] ≡ x ∷ d → x < j)) ⌝ }
+    ensures { λ r. ⌜ ((ds : List (List ℕ)) → Dequed ds (now (slots .entry)) (now (top .entry)) (now (len .entry))
+        → Dequed (set ds w (j ∷ getD ds w [])) (now (slots .exit)) (now (top .exit)) (now (len .exit))) ⌝ }
 {
     let n = wide16(len[w]);
     if n == 0 {
@@ -43,7 +45,9 @@ fn bottom_place(w: usize, at: usize, n: usize) -> usize
 // Takes the bottom job of deque w: the worker that then holds it, or has none.
 pub fn take_bottom(slots: &[u8; 4096], top: &[u16; 16], len: &mut [u16; 16], w: usize) -> Worker
     requires { ⌜ ((ds : List (List ℕ)) × Dequed ds (now slots) (now top) (now len) × (w < 16)) ⌝ }
-    ensures { λ r. ⌜ ((ds : List (List ℕ)) → Dequed ds (now (slots .entry)) (now (top .entry)) (now (len .entry)) → (r ≡ takeBottom (getD ds w []) .worker) × Dequed (set ds w (takeBottom (getD ds w []) .deque)) (now (slots .entry)) (now (top .entry)) (now (len .exit))) ⌝ }
+    ensures { λ r. ⌜ ((ds : List (List ℕ)) → Dequed ds (now (slots .entry)) (now (top .entry)) (now (len .entry))
+        → (r ≡ takeBottom (getD ds w []) .worker) × Dequed (set ds w (takeBottom (getD ds w []) .deque)) (now (slots .entry))
+        (now (top .entry)) (now (len .exit))) ⌝ }
 {
     let n = wide16(len[w]);
     if n == 0 {
@@ -56,7 +60,8 @@ pub fn take_bottom(slots: &[u8; 4096], top: &[u16; 16], len: &mut [u16; 16], w: 
 // Takes the top job of deque v: the worker that then holds it, or has none.
 pub fn take_top(slots: &[u8; 4096], top: &mut [u16; 16], len: &mut [u16; 16], v: usize) -> Worker
     requires { ⌜ ((ds : List (List ℕ)) × Dequed ds (now slots) (now top) (now len) × (v < 16)) ⌝ }
-    ensures { λ r. ⌜ ((ds : List (List ℕ)) → Dequed ds (now (slots .entry)) (now (top .entry)) (now (len .entry)) → Given ds v (getD ds v []) r (now (slots .entry)) (now (top .exit)) (now (len .exit))) ⌝ }
+    ensures { λ r. ⌜ ((ds : List (List ℕ)) → Dequed ds (now (slots .entry)) (now (top .entry)) (now (len .entry))
+        → Given ds v (getD ds v []) r (now (slots .entry)) (now (top .exit)) (now (len .exit))) ⌝ }
 {
     let n = wide16(len[v]);
     if n == 0 {

@@ -54,8 +54,16 @@ fn take_turn(
     top: &mut [u16; 16],
     len: &mut [u16; 16],
 ) -> Account
-    requires { ⌜ ((p : Plan) × (n : ℕ) × (choices : List ℕ) × (b : List Worker) × (s : State) × InRun p n choices round b (turning w) s × Planned p (now frame) (now first) (now spawn) (now join) (now parent) × Machine p s account (now seats) (now rows) (now next) (now missing) (now slots) (now top) (now len) × (w < n) × (workerOf s w ≡ Holding j)) ⌝ }
-    ensures { λ a. ⌜ ((p : Plan) (n : ℕ) (choices : List ℕ) (b : List Worker) (s : State) → InRun p n choices round b (turning w) s → Planned p (now (frame .entry)) (now (first .entry)) (now (spawn .entry)) (now (join .entry)) (now (parent .entry)) → Machine p s account (now (seats .entry)) (now (rows .entry)) (now (next .entry)) (now (missing .entry)) (now (slots .entry)) (now (top .entry)) (now (len .entry)) → (w < n) → (workerOf s w ≡ Holding j) → Machine p (turnAt p round w j s) a (now (seats .exit)) (now (rows .exit)) (now (next .exit)) (now (missing .exit)) (now (slots .exit)) (now (top .exit)) (now (len .exit)) × Kept p (now (rows .entry)) (now (rows .exit))) ⌝ }
+    requires { ⌜ ((p : Plan) × (n : ℕ) × (choices : List ℕ) × (b : List Worker) × (s : State) × InRun p n choices round b (turning w) s
+        × Planned p (now frame) (now first) (now spawn) (now join) (now parent)
+        × Machine p s account (now seats) (now rows) (now next) (now missing) (now slots) (now top) (now len) × (w < n)
+        × (workerOf s w ≡ Holding j)) ⌝ }
+    ensures { λ a. ⌜ ((p : Plan) (n : ℕ) (choices : List ℕ) (b : List Worker) (s : State) → InRun p n choices round b (turning w) s
+        → Planned p (now (frame .entry)) (now (first .entry)) (now (spawn .entry)) (now (join .entry)) (now (parent .entry))
+        → Machine p s account (now (seats .entry)) (now (rows .entry)) (now (next .entry)) (now (missing .entry)) (now (slots .entry))
+        (now (top .entry)) (now (len .entry)) → (w < n) → (workerOf s w ≡ Holding j)
+        → Machine p (turnAt p round w j s) a (now (seats .exit)) (now (rows .exit)) (now (next .exit)) (now (missing .exit))
+        (now (slots .exit)) (now (top .exit)) (now (len .exit)) × Kept p (now (rows .entry)) (now (rows .exit))) ⌝ }
 {
     let k = wide16(first[j]) + wide8(next[j]);
     write_row(rows, k, round, w);
@@ -112,8 +120,15 @@ fn turn_of(
     top: &mut [u16; 16],
     len: &mut [u16; 16],
 ) -> Account
-    requires { ⌜ ((p : Plan) × (n : ℕ) × (choices : List ℕ) × (b : List Worker) × (s : State) × InRun p n choices round b (turning w) s × Planned p (now frame) (now first) (now spawn) (now join) (now parent) × Machine p s account (now seats) (now rows) (now next) (now missing) (now slots) (now top) (now len) × (w < n)) ⌝ }
-    ensures { λ a. ⌜ ((p : Plan) (n : ℕ) (choices : List ℕ) (b : List Worker) (s : State) → InRun p n choices round b (turning w) s → Planned p (now (frame .entry)) (now (first .entry)) (now (spawn .entry)) (now (join .entry)) (now (parent .entry)) → Machine p s account (now (seats .entry)) (now (rows .entry)) (now (next .entry)) (now (missing .entry)) (now (slots .entry)) (now (top .entry)) (now (len .entry)) → (w < n) → Machine p (turnOf p round w (getD b w Idle) s) a (now (seats .exit)) (now (rows .exit)) (now (next .exit)) (now (missing .exit)) (now (slots .exit)) (now (top .exit)) (now (len .exit)) × Kept p (now (rows .entry)) (now (rows .exit))) ⌝ }
+    requires { ⌜ ((p : Plan) × (n : ℕ) × (choices : List ℕ) × (b : List Worker) × (s : State) × InRun p n choices round b (turning w) s
+        × Planned p (now frame) (now first) (now spawn) (now join) (now parent)
+        × Machine p s account (now seats) (now rows) (now next) (now missing) (now slots) (now top) (now len) × (w < n)) ⌝ }
+    ensures { λ a. ⌜ ((p : Plan) (n : ℕ) (choices : List ℕ) (b : List Worker) (s : State) → InRun p n choices round b (turning w) s
+        → Planned p (now (frame .entry)) (now (first .entry)) (now (spawn .entry)) (now (join .entry)) (now (parent .entry))
+        → Machine p s account (now (seats .entry)) (now (rows .entry)) (now (next .entry)) (now (missing .entry)) (now (slots .entry))
+        (now (top .entry)) (now (len .entry)) → (w < n) → Machine p (turnOf p round w (getD b w Idle) s) a (now (seats .exit))
+        (now (rows .exit)) (now (next .exit)) (now (missing .exit)) (now (slots .exit)) (now (top .exit)) (now (len .exit))
+        × Kept p (now (rows .entry)) (now (rows .exit))) ⌝ }
 {
     match worker_at(seats[w]) {
         Worker::Idle => rest(account, round),
@@ -157,8 +172,15 @@ fn turns(
     top: &mut [u16; 16],
     len: &mut [u16; 16],
 ) -> Account
-    requires { ⌜ ((p : Plan) × (choices : List ℕ) × (b : List Worker) × (s : State) × InRun p n choices round b (turning 0) s × Planned p (now frame) (now first) (now spawn) (now join) (now parent) × Machine p s account (now seats) (now rows) (now next) (now missing) (now slots) (now top) (now len)) ⌝ }
-    ensures { λ a. ⌜ ((p : Plan) (choices : List ℕ) (b : List Worker) (s : State) → InRun p n choices round b (turning 0) s → Planned p (now (frame .entry)) (now (first .entry)) (now (spawn .entry)) (now (join .entry)) (now (parent .entry)) → Machine p s account (now (seats .entry)) (now (rows .entry)) (now (next .entry)) (now (missing .entry)) (now (slots .entry)) (now (top .entry)) (now (len .entry)) → Machine p (turnsOf p round n b s) a (now (seats .exit)) (now (rows .exit)) (now (next .exit)) (now (missing .exit)) (now (slots .exit)) (now (top .exit)) (now (len .exit)) × Kept p (now (rows .entry)) (now (rows .exit))) ⌝ }
+    requires { ⌜ ((p : Plan) × (choices : List ℕ) × (b : List Worker) × (s : State) × InRun p n choices round b (turning 0) s
+        × Planned p (now frame) (now first) (now spawn) (now join) (now parent)
+        × Machine p s account (now seats) (now rows) (now next) (now missing) (now slots) (now top) (now len)) ⌝ }
+    ensures { λ a. ⌜ ((p : Plan) (choices : List ℕ) (b : List Worker) (s : State) → InRun p n choices round b (turning 0) s
+        → Planned p (now (frame .entry)) (now (first .entry)) (now (spawn .entry)) (now (join .entry)) (now (parent .entry))
+        → Machine p s account (now (seats .entry)) (now (rows .entry)) (now (next .entry)) (now (missing .entry)) (now (slots .entry))
+        (now (top .entry)) (now (len .entry)) → Machine p (turnsOf p round n b s) a (now (seats .exit)) (now (rows .exit))
+        (now (next .exit)) (now (missing .exit)) (now (slots .exit)) (now (top .exit)) (now (len .exit))
+        × Kept p (now (rows .entry)) (now (rows .exit))) ⌝ }
 {
     let mut a = account;
     let mut w = 0;
@@ -205,8 +227,19 @@ pub fn round(
     top: &mut [u16; 16],
     len: &mut [u16; 16],
 ) -> Account
-    requires { ⌜ ((p : Plan) × (r : ℕ) × (s : State) × InRun p n (now choices) r (s .workers) (turning 0) s × Planned p (now frame) (now first) (now spawn) (now join) (now parent) × Machine p s account (now seats) (now rows) (now next) (now missing) (now slots) (now top) (now len) × Pointed (now choices) s (now cursor) × Queued (r * 16) (s .workers) (now after) (now last) × (ended p s ≡ false)) ⌝ }
-    ensures { λ a. ⌜ ((p : Plan) (r : ℕ) (s : State) → InRun p n (now (choices .entry)) r (s .workers) (turning 0) s → Planned p (now (frame .entry)) (now (first .entry)) (now (spawn .entry)) (now (join .entry)) (now (parent .entry)) → Machine p s account (now (seats .entry)) (now (rows .entry)) (now (next .entry)) (now (missing .entry)) (now (slots .entry)) (now (top .entry)) (now (len .entry)) → Pointed (now (choices .entry)) s (now (cursor .entry)) → Queued (r * 16) (s .workers) (now (after .entry)) (now (last .entry)) → ended p s ≡ false → Machine p (roundOf (setting p n (now (choices .entry))) s) a (now (seats .exit)) (now (rows .exit)) (now (next .exit)) (now (missing .exit)) (now (slots .exit)) (now (top .exit)) (now (len .exit)) × Kept p (now (rows .entry)) (now (rows .exit)) × Pointed (now (choices .entry)) (roundOf (setting p n (now (choices .entry))) s) (now (cursor .exit)) × Queued (suc r * 16) (roundOf (setting p n (now (choices .entry))) s .workers) (now (after .exit)) (now (last .exit))) ⌝ }
+    requires { ⌜ ((p : Plan) × (r : ℕ) × (s : State) × InRun p n (now choices) r (s .workers) (turning 0) s
+        × Planned p (now frame) (now first) (now spawn) (now join) (now parent)
+        × Machine p s account (now seats) (now rows) (now next) (now missing) (now slots) (now top) (now len)
+        × Pointed (now choices) s (now cursor) × Queued (r * 16) (s .workers) (now after) (now last) × (ended p s ≡ false)) ⌝ }
+    ensures { λ a. ⌜ ((p : Plan) (r : ℕ) (s : State) → InRun p n (now (choices .entry)) r (s .workers) (turning 0) s
+        → Planned p (now (frame .entry)) (now (first .entry)) (now (spawn .entry)) (now (join .entry)) (now (parent .entry))
+        → Machine p s account (now (seats .entry)) (now (rows .entry)) (now (next .entry)) (now (missing .entry)) (now (slots .entry))
+        (now (top .entry)) (now (len .entry)) → Pointed (now (choices .entry)) s (now (cursor .entry))
+        → Queued (r * 16) (s .workers) (now (after .entry)) (now (last .entry)) → ended p s ≡ false
+        → Machine p (roundOf (setting p n (now (choices .entry))) s) a (now (seats .exit)) (now (rows .exit)) (now (next .exit))
+        (now (missing .exit)) (now (slots .exit)) (now (top .exit)) (now (len .exit)) × Kept p (now (rows .entry)) (now (rows .exit))
+        × Pointed (now (choices .entry)) (roundOf (setting p n (now (choices .entry))) s) (now (cursor .exit))
+        × Queued (suc r * 16) (roundOf (setting p n (now (choices .entry))) s .workers) (now (after .exit)) (now (last .exit))) ⌝ }
 {
     let r = account.tally.rounds as usize + 1;
     let began = *seats;

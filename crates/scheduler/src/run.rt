@@ -38,8 +38,13 @@ fn rounds<'a>(
     parent: &'a [u8; 256],
     missing: &mut [u8; 2048],
 ) -> Tally
-    requires { ⌜ ((p : Plan) × RunGiven p n (now choices) (now frame) (now first) (now spawn) (now join) (now parent) (now missing) × (2 * total p ≤ length (now rows))) ⌝ }
-    ensures { λ t. ⌜ ((p : Plan) → RunGiven p n (now (choices .entry)) (now (frame .entry)) (now (first .entry)) (now (spawn .entry)) (now (join .entry)) (now (parent .entry)) (now (missing .entry)) → 2 * total p ≤ length (now (rows .entry)) → (t ≡ runOfPlan (setting p n (now (choices .entry))) .tally) × Printed p (runOfPlan (setting p n (now (choices .entry)))) (now (rows .exit)) × Kept p (now (rows .entry)) (now (rows .exit))) ⌝ }
+    requires { ⌜ ((p : Plan) × RunGiven p n (now choices) (now frame) (now first) (now spawn) (now join) (now parent) (now missing)
+        × (2 * total p ≤ length (now rows))) ⌝ }
+    ensures { λ t. ⌜ ((p : Plan) → RunGiven p n (now (choices .entry)) (now (frame .entry)) (now (first .entry)) (now (spawn .entry))
+        (now (join .entry)) (now (parent .entry)) (now (missing .entry)) → 2 * total p ≤ length (now (rows .entry))
+        → (t ≡ runOfPlan (setting p n (now (choices .entry))) .tally)
+        × Printed p (runOfPlan (setting p n (now (choices .entry)))) (now (rows .exit))
+        × Kept p (now (rows .entry)) (now (rows .exit))) ⌝ }
 {
     let mut next = [0u8; 256];
     let mut slots = [0u8; 4096];
@@ -142,7 +147,9 @@ pub fn run_read<'a>(
     missing: &mut [u8; 2048],
 ) -> Ran
     requires { ⌜ ((p : Plan) × Loaded p actions (now frame) (now first) (now spawn) (now join) (now parent) (now missing)) ⌝ }
-    ensures { λ r. ⌜ ((p : Plan) → Loaded p actions (now (frame .entry)) (now (first .entry)) (now (spawn .entry)) (now (join .entry)) (now (parent .entry)) (now (missing .entry)) → Answered p workers (now (choices .entry)) (now (schedule .entry)) r (now (schedule .exit))) ⌝ }
+    ensures { λ r. ⌜ ((p : Plan) → Loaded p actions (now (frame .entry)) (now (first .entry)) (now (spawn .entry)) (now (join .entry))
+        (now (parent .entry)) (now (missing .entry)) → Answered p workers (now (choices .entry)) (now (schedule .entry)) r
+        (now (schedule .exit))) ⌝ }
 {
     if workers == 0 {
         return Ran::Refused(Refusal::Workers);

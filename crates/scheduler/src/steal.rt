@@ -39,7 +39,9 @@ fn onward(at: usize, count: usize) -> usize
 // Worker w's request goes behind the others at victim v.
 fn line_up(v: usize, w: usize, after: &mut [u8; 32], last: &mut [u8; 16])
     requires { ⌜ ((hi : ℕ) × (ws : List Worker) × Queued hi ws (now after) (now last) × (v < 16) × (w < 16)) ⌝ }
-    ensures { λ r. ⌜ ((hi : ℕ) (ws : List Worker) (l : ℕ) → Queued hi ws (now (after .entry)) (now (last .entry)) → length ws ≡ 16 → Calm (getD ws w Idle) → hi ≤ l * 16 + w → Queued (suc (l * 16 + w)) (set ws w (Waiting v l)) (now (after .exit)) (now (last .exit))) ⌝ }
+    ensures { λ r. ⌜ ((hi : ℕ) (ws : List Worker) (l : ℕ) → Queued hi ws (now (after .entry)) (now (last .entry)) → length ws ≡ 16
+        → Calm (getD ws w Idle) → hi ≤ l * 16 + w → Queued (suc (l * 16 + w)) (set ws w (Waiting v l)) (now (after .exit))
+        (now (last .exit))) ⌝ }
 {
     let end = wide8(last[v]);
     after[w] = 0;
@@ -50,7 +52,10 @@ fn line_up(v: usize, w: usize, after: &mut [u8; 32], last: &mut [u8; 16])
 // Worker w, the first at victim v, leaves its line.
 fn step_up(v: usize, w: usize, after: &mut [u8; 32], last: &mut [u8; 16])
     requires { ⌜ (v < 16) × (w < 16) × (length (now after) ≡ 32) × (length (now last) ≡ 16) ⌝ }
-    ensures { λ r. ⌜ ((hi : ℕ) (ws : List Worker) (l : ℕ) (x : Worker) → Queued hi ws (now (after .entry)) (now (last .entry)) → length ws ≡ 16 → getD ws w Idle ≡ Waiting v l → getD (now (after .entry)) (16 + v) 0 ≡ suc w → Calm x → Queued hi (set ws w x) (now (after .exit)) (now (last .exit))) × ((u : ℕ) → u ≢ v → getD (now (after .exit)) (16 + u) 0 ≡ getD (now (after .entry)) (16 + u) 0) ⌝ }
+    ensures { λ r. ⌜ ((hi : ℕ) (ws : List Worker) (l : ℕ) (x : Worker) → Queued hi ws (now (after .entry)) (now (last .entry))
+        → length ws ≡ 16 → getD ws w Idle ≡ Waiting v l → getD (now (after .entry)) (16 + v) 0 ≡ suc w → Calm x
+        → Queued hi (set ws w x) (now (after .exit)) (now (last .exit))) × ((u : ℕ) → u ≢ v
+        → getD (now (after .exit)) (16 + u) 0 ≡ getD (now (after .entry)) (16 + u) 0) ⌝ }
 {
     let behind = after[w];
     after[16 + v] = behind;
@@ -89,8 +94,16 @@ fn lay(
     after: &mut [u8; 32],
     last: &mut [u8; 16],
 ) -> Account
-    requires { ⌜ ((p : Plan) × (n : ℕ) × (b : List Worker) × (s : State) × InRun p n (now choices) round b (laying w) s × Manned p s account (now seats) × (getD b w Idle ≡ Idle) × Pointed (now choices) s (now cursor) × Queued (round * 16 + w) (s .workers) (now after) (now last) × (w < n)) ⌝ }
-    ensures { λ a. ⌜ ((p : Plan) (n : ℕ) (b : List Worker) (s : State) → InRun p n (now (choices .entry)) round b (laying w) s → Manned p s account (now (seats .entry)) → getD b w Idle ≡ Idle → Pointed (now (choices .entry)) s (now (cursor .entry)) → Queued (round * 16 + w) (s .workers) (now (after .entry)) (now (last .entry)) → w < n → Manned p (layOf (setting p n (now (choices .entry))) round w (getD b w Idle) s) a (now (seats .exit)) × Pointed (now (choices .entry)) (layOf (setting p n (now (choices .entry))) round w (getD b w Idle) s) (now (cursor .exit)) × Queued (suc (round * 16 + w)) (layOf (setting p n (now (choices .entry))) round w (getD b w Idle) s .workers) (now (after .exit)) (now (last .exit))) ⌝ }
+    requires { ⌜ ((p : Plan) × (n : ℕ) × (b : List Worker) × (s : State) × InRun p n (now choices) round b (laying w) s
+        × Manned p s account (now seats) × (getD b w Idle ≡ Idle) × Pointed (now choices) s (now cursor)
+        × Queued (round * 16 + w) (s .workers) (now after) (now last) × (w < n)) ⌝ }
+    ensures { λ a. ⌜ ((p : Plan) (n : ℕ) (b : List Worker) (s : State) → InRun p n (now (choices .entry)) round b (laying w) s
+        → Manned p s account (now (seats .entry)) → getD b w Idle ≡ Idle → Pointed (now (choices .entry)) s (now (cursor .entry))
+        → Queued (round * 16 + w) (s .workers) (now (after .entry)) (now (last .entry)) → w < n
+        → Manned p (layOf (setting p n (now (choices .entry))) round w (getD b w Idle) s) a (now (seats .exit))
+        × Pointed (now (choices .entry)) (layOf (setting p n (now (choices .entry))) round w (getD b w Idle) s) (now (cursor .exit))
+        × Queued (suc (round * 16 + w)) (layOf (setting p n (now (choices .entry))) round w (getD b w Idle) s .workers)
+        (now (after .exit)) (now (last .exit))) ⌝ }
 {
     let at = *cursor;
     let victim = choice_at(at, choices);
@@ -118,7 +131,8 @@ fn grown(count: usize, more: bool) -> usize
 // Lists the workers that are idle, in rising number, and says how many there are.
 fn note_idle(n: usize, began: &[u16; 16], idle: &mut [u8; 16]) -> usize
     requires { ⌜ (n ≤ 16) × (length (now idle) ≡ 16) ⌝ }
-    ensures { λ r. ⌜ (r ≤ n) × (length (now (idle .exit)) ≡ 16) × ((b : List Worker) → Seated b (now (began .entry)) → Fits b → Noted (idleIn b) n (now (idle .exit)) r) ⌝ }
+    ensures { λ r. ⌜ (r ≤ n) × (length (now (idle .exit)) ≡ 16) × ((b : List Worker) → Seated b (now (began .entry)) → Fits b
+        → Noted (idleIn b) n (now (idle .exit)) r) ⌝ }
 {
     let mut count = 0;
     let mut w = 0;
@@ -141,8 +155,16 @@ fn lays(
     after: &mut [u8; 32],
     last: &mut [u8; 16],
 ) -> Account
-    requires { ⌜ ((p : Plan) × (b : List Worker) × (s : State) × InRun p n (now choices) round b (laying 0) s × Manned p s account (now seats) × Seated b (now began) × Pointed (now choices) s (now cursor) × Queued (round * 16) (s .workers) (now after) (now last)) ⌝ }
-    ensures { λ a. ⌜ ((p : Plan) (b : List Worker) (s : State) → InRun p n (now (choices .entry)) round b (laying 0) s → Manned p s account (now (seats .entry)) → Seated b (now (began .entry)) → Pointed (now (choices .entry)) s (now (cursor .entry)) → Queued (round * 16) (s .workers) (now (after .entry)) (now (last .entry)) → Manned p (laysOf (setting p n (now (choices .entry))) round n b s) a (now (seats .exit)) × Pointed (now (choices .entry)) (laysOf (setting p n (now (choices .entry))) round n b s) (now (cursor .exit)) × Queued (round * 16 + n) (laysOf (setting p n (now (choices .entry))) round n b s .workers) (now (after .exit)) (now (last .exit))) ⌝ }
+    requires { ⌜ ((p : Plan) × (b : List Worker) × (s : State) × InRun p n (now choices) round b (laying 0) s
+        × Manned p s account (now seats) × Seated b (now began) × Pointed (now choices) s (now cursor)
+        × Queued (round * 16) (s .workers) (now after) (now last)) ⌝ }
+    ensures { λ a. ⌜ ((p : Plan) (b : List Worker) (s : State) → InRun p n (now (choices .entry)) round b (laying 0) s
+        → Manned p s account (now (seats .entry)) → Seated b (now (began .entry)) → Pointed (now (choices .entry)) s (now (cursor .entry))
+        → Queued (round * 16) (s .workers) (now (after .entry)) (now (last .entry))
+        → Manned p (laysOf (setting p n (now (choices .entry))) round n b s) a (now (seats .exit))
+        × Pointed (now (choices .entry)) (laysOf (setting p n (now (choices .entry))) round n b s) (now (cursor .exit))
+        × Queued (round * 16 + n) (laysOf (setting p n (now (choices .entry))) round n b s .workers) (now (after .exit))
+        (now (last .exit))) ⌝ }
 {
     let mut idle = [0u8; 16];
     let count = note_idle(n, began, &mut idle);
@@ -174,8 +196,12 @@ fn give(
     top: &mut [u16; 16],
     len: &mut [u16; 16],
 ) -> Account
-    requires { ⌜ ((p : Plan) × (n : ℕ) × (choices : List ℕ) × (r : ℕ) × (b : List Worker) × (s : State) × Serving p n choices r b s v (suc w) account (now seats) (now slots) (now top) (now len)) ⌝ }
-    ensures { λ a. ⌜ ((p : Plan) (n : ℕ) (choices : List ℕ) (r : ℕ) (b : List Worker) (s : State) → Serving p n choices r b s v (suc w) account (now (seats .entry)) (now (slots .entry)) (now (top .entry)) (now (len .entry)) → Manned p (serveOf v (suc w) s) a (now (seats .exit)) × Dequed (serveOf v (suc w) s .deques) (now (slots .entry)) (now (top .exit)) (now (len .exit))) ⌝ }
+    requires { ⌜ ((p : Plan) × (n : ℕ) × (choices : List ℕ) × (r : ℕ) × (b : List Worker) × (s : State)
+        × Serving p n choices r b s v (suc w) account (now seats) (now slots) (now top) (now len)) ⌝ }
+    ensures { λ a. ⌜ ((p : Plan) (n : ℕ) (choices : List ℕ) (r : ℕ) (b : List Worker) (s : State)
+        → Serving p n choices r b s v (suc w) account (now (seats .entry)) (now (slots .entry)) (now (top .entry)) (now (len .entry))
+        → Manned p (serveOf v (suc w) s) a (now (seats .exit))
+        × Dequed (serveOf v (suc w) s .deques) (now (slots .entry)) (now (top .exit)) (now (len .exit))) ⌝ }
 {
     let worker = take_top(slots, top, len, v);
     seats[w] = code_of(worker);
@@ -213,8 +239,17 @@ fn serve(
     top: &mut [u16; 16],
     len: &mut [u16; 16],
 ) -> Account
-    requires { ⌜ ((p : Plan) × (n : ℕ) × (choices : List ℕ) × (r : ℕ) × (b : List Worker) × (hi : ℕ) × (s : State) × InRun p n choices r b (serving v) s × (v < n) × Manned p s account (now seats) × Queued hi (s .workers) (now after) (now last) × Dequed (s .deques) (now slots) (now top) (now len)) ⌝ }
-    ensures { λ a. ⌜ ((p : Plan) (n : ℕ) (choices : List ℕ) (r : ℕ) (b : List Worker) (hi : ℕ) (s : State) → InRun p n choices r b (serving v) s → (v < n) → Manned p s account (now (seats .entry)) → Queued hi (s .workers) (now (after .entry)) (now (last .entry)) → Dequed (s .deques) (now (slots .entry)) (now (top .entry)) (now (len .entry)) → Manned p (serveOf v (pickOf (setting p n choices) r v (s .workers)) s) a (now (seats .exit)) × Queued hi (serveOf v (pickOf (setting p n choices) r v (s .workers)) s .workers) (now (after .exit)) (now (last .exit)) × Dequed (serveOf v (pickOf (setting p n choices) r v (s .workers)) s .deques) (now (slots .entry)) (now (top .exit)) (now (len .exit))) × ((u : ℕ) → u ≢ v → getD (now (after .exit)) (16 + u) 0 ≡ getD (now (after .entry)) (16 + u) 0) ⌝ }
+    requires { ⌜ ((p : Plan) × (n : ℕ) × (choices : List ℕ) × (r : ℕ) × (b : List Worker) × (hi : ℕ) × (s : State)
+        × InRun p n choices r b (serving v) s × (v < n) × Manned p s account (now seats) × Queued hi (s .workers) (now after) (now last)
+        × Dequed (s .deques) (now slots) (now top) (now len)) ⌝ }
+    ensures { λ a. ⌜ ((p : Plan) (n : ℕ) (choices : List ℕ) (r : ℕ) (b : List Worker) (hi : ℕ) (s : State)
+        → InRun p n choices r b (serving v) s → (v < n) → Manned p s account (now (seats .entry))
+        → Queued hi (s .workers) (now (after .entry)) (now (last .entry))
+        → Dequed (s .deques) (now (slots .entry)) (now (top .entry)) (now (len .entry))
+        → Manned p (serveOf v (pickOf (setting p n choices) r v (s .workers)) s) a (now (seats .exit))
+        × Queued hi (serveOf v (pickOf (setting p n choices) r v (s .workers)) s .workers) (now (after .exit)) (now (last .exit))
+        × Dequed (serveOf v (pickOf (setting p n choices) r v (s .workers)) s .deques) (now (slots .entry)) (now (top .exit))
+        (now (len .exit))) × ((u : ℕ) → u ≢ v → getD (now (after .exit)) (16 + u) 0 ≡ getD (now (after .entry)) (16 + u) 0) ⌝ }
 {
     let who = first_in_line(v, after);
     if who == 0 {
@@ -249,8 +284,15 @@ fn serves(
     top: &mut [u16; 16],
     len: &mut [u16; 16],
 ) -> Account
-    requires { ⌜ ((p : Plan) × (choices : List ℕ) × (r : ℕ) × (b : List Worker) × (hi : ℕ) × (s : State) × InRun p n choices r b (serving 0) s × Manned p s account (now seats) × Queued hi (s .workers) (now after) (now last) × Dequed (s .deques) (now slots) (now top) (now len)) ⌝ }
-    ensures { λ a. ⌜ ((p : Plan) (choices : List ℕ) (r : ℕ) (b : List Worker) (hi : ℕ) (s : State) → InRun p n choices r b (serving 0) s → Manned p s account (now (seats .entry)) → Queued hi (s .workers) (now (after .entry)) (now (last .entry)) → Dequed (s .deques) (now (slots .entry)) (now (top .entry)) (now (len .entry)) → Manned p (servesOf (setting p n choices) r n s) a (now (seats .exit)) × Queued hi (servesOf (setting p n choices) r n s .workers) (now (after .exit)) (now (last .exit)) × Dequed (servesOf (setting p n choices) r n s .deques) (now (slots .entry)) (now (top .exit)) (now (len .exit))) ⌝ }
+    requires { ⌜ ((p : Plan) × (choices : List ℕ) × (r : ℕ) × (b : List Worker) × (hi : ℕ) × (s : State)
+        × InRun p n choices r b (serving 0) s × Manned p s account (now seats) × Queued hi (s .workers) (now after) (now last)
+        × Dequed (s .deques) (now slots) (now top) (now len)) ⌝ }
+    ensures { λ a. ⌜ ((p : Plan) (choices : List ℕ) (r : ℕ) (b : List Worker) (hi : ℕ) (s : State) → InRun p n choices r b (serving 0) s
+        → Manned p s account (now (seats .entry)) → Queued hi (s .workers) (now (after .entry)) (now (last .entry))
+        → Dequed (s .deques) (now (slots .entry)) (now (top .entry)) (now (len .entry))
+        → Manned p (servesOf (setting p n choices) r n s) a (now (seats .exit))
+        × Queued hi (servesOf (setting p n choices) r n s .workers) (now (after .exit)) (now (last .exit))
+        × Dequed (servesOf (setting p n choices) r n s .deques) (now (slots .entry)) (now (top .exit)) (now (len .exit))) ⌝ }
 {
     let mut asked = [0u8; 16];
     let count = note_asked(n, after, &mut asked);
@@ -278,8 +320,20 @@ pub fn second_half(
     top: &mut [u16; 16],
     len: &mut [u16; 16],
 ) -> Account
-    requires { ⌜ ((p : Plan) × (b : List Worker) × (s : State) × InRun p n (now choices) round b (laying 0) s × Manned p s account (now seats) × Seated b (now began) × Pointed (now choices) s (now cursor) × Queued (round * 16) (s .workers) (now after) (now last) × Dequed (s .deques) (now slots) (now top) (now len)) ⌝ }
-    ensures { λ a. ⌜ ((p : Plan) (b : List Worker) (s : State) → InRun p n (now (choices .entry)) round b (laying 0) s → Manned p s account (now (seats .entry)) → Seated b (now (began .entry)) → Pointed (now (choices .entry)) s (now (cursor .entry)) → Queued (round * 16) (s .workers) (now (after .entry)) (now (last .entry)) → Dequed (s .deques) (now (slots .entry)) (now (top .entry)) (now (len .entry)) → Manned p (servesOf (setting p n (now (choices .entry))) round n (laysOf (setting p n (now (choices .entry))) round n b s)) a (now (seats .exit)) × Dequed (servesOf (setting p n (now (choices .entry))) round n (laysOf (setting p n (now (choices .entry))) round n b s) .deques) (now (slots .entry)) (now (top .exit)) (now (len .exit)) × Pointed (now (choices .entry)) (servesOf (setting p n (now (choices .entry))) round n (laysOf (setting p n (now (choices .entry))) round n b s)) (now (cursor .exit)) × Queued (round * 16 + 16) (servesOf (setting p n (now (choices .entry))) round n (laysOf (setting p n (now (choices .entry))) round n b s) .workers) (now (after .exit)) (now (last .exit))) ⌝ }
+    requires { ⌜ ((p : Plan) × (b : List Worker) × (s : State) × InRun p n (now choices) round b (laying 0) s
+        × Manned p s account (now seats) × Seated b (now began) × Pointed (now choices) s (now cursor)
+        × Queued (round * 16) (s .workers) (now after) (now last) × Dequed (s .deques) (now slots) (now top) (now len)) ⌝ }
+    ensures { λ a. ⌜ ((p : Plan) (b : List Worker) (s : State) → InRun p n (now (choices .entry)) round b (laying 0) s
+        → Manned p s account (now (seats .entry)) → Seated b (now (began .entry)) → Pointed (now (choices .entry)) s (now (cursor .entry))
+        → Queued (round * 16) (s .workers) (now (after .entry)) (now (last .entry))
+        → Dequed (s .deques) (now (slots .entry)) (now (top .entry)) (now (len .entry))
+        → Manned p (servesOf (setting p n (now (choices .entry))) round n (laysOf (setting p n (now (choices .entry))) round n b s)) a
+        (now (seats .exit)) × Dequed (servesOf (setting p n (now (choices .entry))) round n
+        (laysOf (setting p n (now (choices .entry))) round n b s) .deques) (now (slots .entry)) (now (top .exit)) (now (len .exit))
+        × Pointed (now (choices .entry)) (servesOf (setting p n (now (choices .entry))) round n
+        (laysOf (setting p n (now (choices .entry))) round n b s)) (now (cursor .exit))
+        × Queued (round * 16 + 16) (servesOf (setting p n (now (choices .entry))) round n
+        (laysOf (setting p n (now (choices .entry))) round n b s) .workers) (now (after .exit)) (now (last .exit))) ⌝ }
 {
     let a = lays(
         account,

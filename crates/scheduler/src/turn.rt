@@ -39,8 +39,13 @@ fn send(
     top: &mut [u16; 16],
     len: &mut [u16; 16],
 )
-    requires { ⌜ ((p : Plan) × (n : ℕ) × (choices : List ℕ) × (r : ℕ) × (b : List Worker) × (s : State) × Sending p n choices r b s k j w (now first) (now join) (now parent) (now next) (now missing) (now slots) (now top) (now len)) ⌝ }
-    ensures { λ _. ⌜ ((p : Plan) (n : ℕ) (choices : List ℕ) (r : ℕ) (b : List Worker) (s : State) → Sending p n choices r b s k j w (now (first .entry)) (now (join .entry)) (now (parent .entry)) (now (next .entry)) (now (missing .entry)) (now (slots .entry)) (now (top .entry)) (now (len .entry)) → Sent p s j w (now (next .entry)) (now (missing .exit)) (now (slots .exit)) (now (top .exit)) (now (len .exit))) ⌝ }
+    requires { ⌜ ((p : Plan) × (n : ℕ) × (choices : List ℕ) × (r : ℕ) × (b : List Worker) × (s : State)
+        × Sending p n choices r b s k j w (now first) (now join) (now parent) (now next) (now missing) (now slots) (now top)
+        (now len)) ⌝ }
+    ensures { λ _. ⌜ ((p : Plan) (n : ℕ) (choices : List ℕ) (r : ℕ) (b : List Worker) (s : State)
+        → Sending p n choices r b s k j w (now (first .entry)) (now (join .entry)) (now (parent .entry)) (now (next .entry))
+        (now (missing .entry)) (now (slots .entry)) (now (top .entry)) (now (len .entry))
+        → Sent p s j w (now (next .entry)) (now (missing .exit)) (now (slots .exit)) (now (top .exit)) (now (len .exit))) ⌝ }
 {
     let sent = wide16(join[k]);
     if sent == 0 {
@@ -69,8 +74,11 @@ fn leave(
     top: &mut [u16; 16],
     len: &mut [u16; 16],
 )
-    requires { ⌜ ((ds : List (List ℕ)) × Dequed ds (now slots) (now top) (now len) × (w < 16) × (j < 256) × ((x : ℕ) (d : List ℕ) → getD ds w [] ≡ x ∷ d → x < j)) ⌝ }
-    ensures { λ _. ⌜ ((ds : List (List ℕ)) → Dequed ds (now (slots .entry)) (now (top .entry)) (now (len .entry)) → (child ≡ 0 → Dequed ds (now (slots .exit)) (now (top .exit)) (now (len .exit))) × (child ≢ 0 → Dequed (set ds w (j ∷ getD ds w [])) (now (slots .exit)) (now (top .exit)) (now (len .exit)))) ⌝ }
+    requires { ⌜ ((ds : List (List ℕ)) × Dequed ds (now slots) (now top) (now len) × (w < 16) × (j < 256)
+        × ((x : ℕ) (d : List ℕ) → getD ds w [] ≡ x ∷ d → x < j)) ⌝ }
+    ensures { λ _. ⌜ ((ds : List (List ℕ)) → Dequed ds (now (slots .entry)) (now (top .entry)) (now (len .entry))
+        → (child ≡ 0 → Dequed ds (now (slots .exit)) (now (top .exit)) (now (len .exit)))
+        × (child ≢ 0 → Dequed (set ds w (j ∷ getD ds w [])) (now (slots .exit)) (now (top .exit)) (now (len .exit)))) ⌝ }
 {
     if child == 0 {
         return;
@@ -91,8 +99,12 @@ fn settle(
     top: &[u16; 16],
     len: &mut [u16; 16],
 ) -> Turned
-    requires { ⌜ ((p : Plan) × (n : ℕ) × (choices : List ℕ) × (r : ℕ) × (b : List Worker) × (s : State) × (next : List ℕ) × Settling p n choices r b s k j w weight (now frame) (now first) next (now missing) (now slots) (now top) (now len)) ⌝ }
-    ensures { λ a. ⌜ ((p : Plan) (n : ℕ) (choices : List ℕ) (r : ℕ) (b : List Worker) (s : State) (next : List ℕ) → Settling p n choices r b s k j w weight (now (frame .entry)) (now (first .entry)) next (now (missing .entry)) (now (slots .entry)) (now (top .entry)) (now (len .entry)) → Acted p (turn p r w j s) w a next (now (missing .entry)) (now (slots .entry)) (now (top .entry)) (now (len .exit))) ⌝ }
+    requires { ⌜ ((p : Plan) × (n : ℕ) × (choices : List ℕ) × (r : ℕ) × (b : List Worker) × (s : State) × (next : List ℕ)
+        × Settling p n choices r b s k j w weight (now frame) (now first) next (now missing) (now slots) (now top) (now len)) ⌝ }
+    ensures { λ a. ⌜ ((p : Plan) (n : ℕ) (choices : List ℕ) (r : ℕ) (b : List Worker) (s : State) (next : List ℕ)
+        → Settling p n choices r b s k j w weight (now (frame .entry)) (now (first .entry)) next (now (missing .entry))
+        (now (slots .entry)) (now (top .entry)) (now (len .entry))
+        → Acted p (turn p r w j s) w a next (now (missing .entry)) (now (slots .entry)) (now (top .entry)) (now (len .exit))) ⌝ }
 {
     if k + 1 == wide16(first[j + 1]) {
         let worker = take_bottom(slots, top, len, w);
@@ -129,8 +141,14 @@ pub fn act(
     top: &mut [u16; 16],
     len: &mut [u16; 16],
 ) -> Turned
-    requires { ⌜ ((p : Plan) × (n : ℕ) × (choices : List ℕ) × (r : ℕ) × (b : List Worker) × (s : State) × Acting p n choices r b s k j w weight (now frame) (now first) (now spawn) (now join) (now parent) (now next) (now missing) (now slots) (now top) (now len)) ⌝ }
-    ensures { λ a. ⌜ ((p : Plan) (n : ℕ) (choices : List ℕ) (r : ℕ) (b : List Worker) (s : State) → Acting p n choices r b s k j w weight (now (frame .entry)) (now (first .entry)) (now (spawn .entry)) (now (join .entry)) (now (parent .entry)) (now (next .entry)) (now (missing .entry)) (now (slots .entry)) (now (top .entry)) (now (len .entry)) → Acted p (turn p r w j s) w a (now (next .exit)) (now (missing .exit)) (now (slots .exit)) (now (top .exit)) (now (len .exit))) ⌝ }
+    requires { ⌜ ((p : Plan) × (n : ℕ) × (choices : List ℕ) × (r : ℕ) × (b : List Worker) × (s : State)
+        × Acting p n choices r b s k j w weight (now frame) (now first) (now spawn) (now join) (now parent) (now next) (now missing)
+        (now slots) (now top) (now len)) ⌝ }
+    ensures { λ a. ⌜ ((p : Plan) (n : ℕ) (choices : List ℕ) (r : ℕ) (b : List Worker) (s : State)
+        → Acting p n choices r b s k j w weight (now (frame .entry)) (now (first .entry)) (now (spawn .entry)) (now (join .entry))
+        (now (parent .entry)) (now (next .entry)) (now (missing .entry)) (now (slots .entry)) (now (top .entry)) (now (len .entry))
+        → Acted p (turn p r w j s) w a (now (next .exit)) (now (missing .exit)) (now (slots .exit)) (now (top .exit))
+        (now (len .exit))) ⌝ }
 {
     next[j] = byte(k - wide16(first[j]) + 1);
     let child = wide16(spawn[k]);
