@@ -6,36 +6,34 @@ ghost use lib.ListN.{length};
 ghost use Rattle.checker.specs.Formed.{Formed, Headed, RoundsTold};
 use fields::field::Field;
 use fields::field::cut;
-use fields::field::power_table;
 use numbers::wide8;
 
 // The worker count of a header for so many actions, or 0 where the header is not well formed: a worker count of 0 is not.
 fn header(schedule: &[u8], actions: usize) -> usize
     ensures { λ r. ⌜ Headed (now (schedule .entry)) actions r ⌝ }
 {
-    let powers = power_table();
     let Field::Cut {
         value: form,
         next: after_form,
-    } = cut(schedule, &powers, 0, 8)
+    } = cut(schedule, 0, 8)
     else {
         return 0;
     };
     let Field::Cut {
         value: workers,
         next: after_workers,
-    } = cut(schedule, &powers, after_form, 5)
+    } = cut(schedule, after_form, 5)
     else {
         return 0;
     };
     let Field::Cut {
         value: number,
         next: after_count,
-    } = cut(schedule, &powers, after_workers, 12)
+    } = cut(schedule, after_workers, 12)
     else {
         return 0;
     };
-    let Field::Cut { value: zeros, .. } = cut(schedule, &powers, after_count, 7) else {
+    let Field::Cut { value: zeros, .. } = cut(schedule, after_count, 7) else {
         return 0;
     };
     let count = number as usize;

@@ -1,5 +1,4 @@
 -- What holds of the definitions in specs/, in named modules.
-pub mod PowerTable
 pub mod Bits
 pub mod Window
 pub mod Sink

@@ -1,5 +1,4 @@
 -- Bit fields (document 01: "bits taken most significant first").
---   PowersOfTwo l    == the table l holds the powers of two from 2^0 to 2^31
 --   Bytes s          == the numbers of s are bytes
 --   bitsOf w v       == the w low bits of v, most significant first
 --   bits bytes       == the bits of the bytes, most significant first
@@ -16,10 +15,6 @@ use lib.ListN.{length, getD, take, drop, replicate}
 use lib.Dec.{leb}
 use Rattle.fields.specs.declared.field.Field.{Field}
 use Rattle.fields.specs.declared.field.Field.the-variants.{RanOut, Cut}
-
--- "a fixed table of the powers of two from 2^0 to 2^31"
-abbrev pub PowersOfTwo : List ℕ → Type 0
-PowersOfTwo l = (k : ℕ) → k < 32 → getD l k 0 ≡ 2 ^ k
 
 abbrev pub Bytes : List ℕ → Type 0
 Bytes s = (i : ℕ) → getD s i 0 < 256

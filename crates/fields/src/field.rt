@@ -3,46 +3,10 @@ ghost use mathlib.Core.Path.{_≡_};
 ghost use Prim.Native.Nat.{_+_, _*_, _/_, _^_, _≤_, _<_};
 ghost use mathlib.Core.List.{[]};
 ghost use lib.ListN.{length, take, drop};
-ghost use Rattle.fields.specs.Field.{PowersOfTwo, fieldAt, stepOf, bitsOf, number};
+ghost use Rattle.fields.specs.Field.{fieldAt, stepOf, bitsOf, number};
 ghost use Rattle.fields.specs.FieldParts.{windowOf, Loose};
 ghost use Rattle.fields.specs.Sink.{Sound, Room, Put, Done};
 use numbers::long8;
-
-// The powers of two from 2^0 to 2^31.
-const POWERS: [u64; 32] = [
-    1,
-    2,
-    4,
-    8,
-    16,
-    32,
-    64,
-    128,
-    256,
-    512,
-    1024,
-    2048,
-    4096,
-    8192,
-    16384,
-    32768,
-    65536,
-    131072,
-    262144,
-    524288,
-    1048576,
-    2097152,
-    4194304,
-    8388608,
-    16777216,
-    33554432,
-    67108864,
-    134217728,
-    268435456,
-    536870912,
-    1073741824,
-    2147483648,
-];
 
 // A field and the next place, or that the bits ran out.
 pub enum Field {
@@ -50,18 +14,12 @@ pub enum Field {
     Cut { value: u32, next: usize },
 }
 
-// The table, for one caller to hold and to lend: a constant's place is filled anew in each function that names it.
-pub fn power_table() -> [u64; 32]
-    ensures { λ r. ⌜ PowersOfTwo r ⌝ }
-{
-    POWERS
-}
-
-fn power(powers: &[u64; 32], k: usize) -> u64
-    requires { ⌜ (k < 32) × PowersOfTwo (now powers) ⌝ }
+// Worked out and not looked up: where this runs there may be little read-only memory (document 02, L4).
+fn power(k: usize) -> u64
+    requires { ⌜ k ≤ 32 ⌝ }
     ensures { λ r. ⌜ r ≡ 2 ^ k ⌝ }
 {
-    powers[k]
+    1 << k
 }
 
 // The bytes from byte i on that hold the first `bits` bits there, at the top of 32.
@@ -90,16 +48,16 @@ fn window(s: &[u8], i: usize, bits: usize) -> u64
 // The field of `width` bits at place `at`, counted in bits. The field is cut out of the whole bytes that it lies in: what stands
 // before it is shifted out to the left, and what stands behind it is shifted out to the right, both by a product with a power
 // of two.
-pub fn cut(s: &[u8], powers: &[u64; 32], at: usize, width: usize) -> Field
-    requires { ⌜ (at < 4294967296) × (width ≤ 24) × PowersOfTwo (now powers) ⌝ }
+pub fn cut(s: &[u8], at: usize, width: usize) -> Field
+    requires { ⌜ (at < 4294967296) × (width ≤ 24) ⌝ }
     ensures { λ r. ⌜ stepOf r ≡ fieldAt (now (s .entry)) width at ⌝ }
 {
     if s.len() < (at + width + 7) / 8 {
         return Field::RanOut;
     }
     let skip = at % 8;
-    let from_field = window(s, at / 8, skip + width) * power(powers, skip) % 4294967296;
-    let value = from_field * power(powers, width) / 4294967296;
+    let from_field = window(s, at / 8, skip + width) * power(skip) % 4294967296;
+    let value = from_field * power(width) / 4294967296;
     Field::Cut {
         value: value as u32,
         next: at + width,
@@ -139,14 +97,13 @@ fn flush(out: &mut [u8], sink: Sink) -> Sink
 }
 
 // Writes one field of `width` bits behind what is written.
-pub fn put(out: &mut [u8], powers: &[u64; 32], sink: Sink, value: u64, width: usize) -> Sink
+pub fn put(out: &mut [u8], sink: Sink, value: u64, width: usize) -> Sink
     requires { ⌜ Sound (now out) sink ⌝ }
-    requires { ⌜ PowersOfTwo (now powers) ⌝ }
     requires { ⌜ (width ≤ 24) × (value < 2 ^ width) × Room (now out) sink width ⌝ }
     ensures { λ r. ⌜ Put (now (out .entry)) sink (bitsOf width value) (now (out .exit)) r ⌝ }
 {
     let bits = sink.bits + width;
-    let held = sink.held + value * (power(powers, 31 - bits) * 2);
+    let held = sink.held + value * power(32 - bits);
     flush(
         out,
         Sink {

@@ -3,7 +3,6 @@ ghost use mathlib.Core.Path.{_≡_};
 ghost use Prim.Native.Nat.{_+_, _*_, _^_, _≤_, _<_};
 ghost use lib.ListN.{length, getD};
 ghost use Rattle.plan.specs.Reader.{numberAt, jobsAt, planAt, fills};
-ghost use Rattle.fields.specs.Field.{PowersOfTwo};
 ghost use Rattle.plan.specs.Contract.{before, after};
 ghost use Rattle.plan.specs.Flat.{flat, Blank, jobsIn, actionsIn, ReadInto};
 ghost use Rattle.plan.specs.Progress.{numberStep, rows, arrays, RowsLong, ArraysLong};
@@ -14,7 +13,6 @@ use crate::rules::join_rules;
 use crate::rules::spawn_rules;
 use fields::field::Field;
 use fields::field::cut;
-use fields::field::power_table;
 
 // A number plus 1, or 0, and the next place.
 pub enum Number {
@@ -45,14 +43,14 @@ pub enum Body {
 }
 
 // A bit, and if it is 1 a number of 8 bits.
-fn number_at(s: &[u8], powers: &[u64; 32], at: usize) -> Number
-    requires { ⌜ (at < 2 ^ 18) × PowersOfTwo (now powers) ⌝ }
+fn number_at(s: &[u8], at: usize) -> Number
+    requires { ⌜ at < 2 ^ 18 ⌝ }
     ensures { λ r. ⌜ numberStep r ≡ numberAt (before s) at ⌝ }
 {
     let Field::Cut {
         value: there,
         next: after,
-    } = cut(s, powers, at, 1)
+    } = cut(s, at, 1)
     else {
         return Number::Refused(Refusal::RanOut);
     };
@@ -62,7 +60,7 @@ fn number_at(s: &[u8], powers: &[u64; 32], at: usize) -> Number
             next: after,
         };
     }
-    let Field::Cut { value, next } = cut(s, powers, after, 8) else {
+    let Field::Cut { value, next } = cut(s, after, 8) else {
         return Number::Refused(Refusal::RanOut);
     };
     Number::Is {
@@ -74,7 +72,6 @@ fn number_at(s: &[u8], powers: &[u64; 32], at: usize) -> Number
 // Reads the action at place `at` into place k of the arrays.
 fn read_action(
     s: &[u8],
-    powers: &[u64; 32],
     at: usize,
     number: u8,
     k: usize,
@@ -82,21 +79,21 @@ fn read_action(
     spawn: &mut [u16; 2048],
     join: &mut [u16; 2048],
 ) -> Progress
-    requires { ⌜ (at < 2 ^ 17) × (k < 2048) × RowsLong (rows (now job) (now spawn) (now join)) × PowersOfTwo (now powers) ⌝ }
+    requires { ⌜ (at < 2 ^ 17) × (k < 2048) × RowsLong (rows (now job) (now spawn) (now join)) ⌝ }
     ensures { λ r. ⌜ ActionRead (before s) at number k (rows (before job) (before spawn) (before join))
         (rows (after job) (after spawn) (after join)) r ⌝ }
 {
     let Number::Is {
         value: child,
         next: after,
-    } = number_at(s, powers, at)
+    } = number_at(s, at)
     else {
         return Progress::Refused(Refusal::RanOut);
     };
     let Number::Is {
         value: target,
         next,
-    } = number_at(s, powers, after)
+    } = number_at(s, after)
     else {
         return Progress::Refused(Refusal::RanOut);
     };
@@ -109,7 +106,6 @@ fn read_action(
 // Reads `count` actions of one job into the arrays from place `from` on.
 fn read_actions(
     s: &[u8],
-    powers: &[u64; 32],
     at: usize,
     number: u8,
     from: usize,
@@ -118,8 +114,7 @@ fn read_actions(
     spawn: &mut [u16; 2048],
     join: &mut [u16; 2048],
 ) -> Progress
-    requires { ⌜ (at + 18 * count < 2 ^ 17) × (from + count ≤ 2048) × RowsLong (rows (now job) (now spawn) (now join))
-        × PowersOfTwo (now powers) ⌝ }
+    requires { ⌜ (at + 18 * count < 2 ^ 17) × (from + count ≤ 2048) × RowsLong (rows (now job) (now spawn) (now join)) ⌝ }
     ensures { λ r. ⌜ ActionsRead (before s) at count number from (rows (before job) (before spawn) (before join))
         (rows (after job) (after spawn) (after join)) r ⌝ }
 {
@@ -127,7 +122,7 @@ fn read_actions(
     let mut k = from;
     let mut left = count;
     while 0 < left {
-        let Progress::At(next) = read_action(s, powers, place, number, k, job, spawn, join) else {
+        let Progress::At(next) = read_action(s, place, number, k, job, spawn, join) else {
             return Progress::Refused(Refusal::RanOut);
         };
         place = next;
@@ -138,28 +133,21 @@ fn read_actions(
 }
 
 // Reads a job's frame and action count, where `earlier` actions came before it.
-fn read_header(
-    s: &[u8],
-    powers: &[u64; 32],
-    at: usize,
-    j: usize,
-    earlier: usize,
-    frame: &mut [u16; 256],
-) -> Header
-    requires { ⌜ (at < 2 ^ 16) × (j < 256) × (earlier ≤ 2048) × (length (now frame) ≡ 256) × PowersOfTwo (now powers) ⌝ }
+fn read_header(s: &[u8], at: usize, j: usize, earlier: usize, frame: &mut [u16; 256]) -> Header
+    requires { ⌜ (at < 2 ^ 16) × (j < 256) × (earlier ≤ 2048) × (length (now frame) ≡ 256) ⌝ }
     ensures { λ r. ⌜ HeaderRead (before s) earlier at j (before frame) (after frame) r ⌝ }
 {
     let Field::Cut {
         value: weight,
         next: after,
-    } = cut(s, powers, at, 16)
+    } = cut(s, at, 16)
     else {
         return Header::Refused(Refusal::RanOut);
     };
     if weight == 0 {
         return Header::Refused(Refusal::Range);
     }
-    let Field::Cut { value, next } = cut(s, powers, after, 8) else {
+    let Field::Cut { value, next } = cut(s, after, 8) else {
         return Header::Refused(Refusal::RanOut);
     };
     let size = value as usize;
@@ -176,7 +164,6 @@ fn read_header(
 // Reads job j, and tells how many actions there are up to its end.
 fn read_job(
     s: &[u8],
-    powers: &[u64; 32],
     at: usize,
     j: usize,
     earlier: usize,
@@ -187,14 +174,14 @@ fn read_job(
     join: &mut [u16; 2048],
 ) -> Header
     requires { ⌜ (at < 2 ^ 16) × (j < 256) × (earlier ≤ 2048)
-        × ArraysLong (arrays (now frame) (now first) (now job) (now spawn) (now join)) × PowersOfTwo (now powers) ⌝ }
+        × ArraysLong (arrays (now frame) (now first) (now job) (now spawn) (now join)) ⌝ }
     ensures { λ r. ⌜ JobRead (before s) earlier at j (arrays (before frame) (before first) (before job) (before spawn) (before join))
         (arrays (after frame) (after first) (after job) (after spawn) (after join)) r ⌝ }
 {
-    match read_header(s, powers, at, j, earlier, frame) {
+    match read_header(s, at, j, earlier, frame) {
         Header::Refused(cause) => Header::Refused(cause),
         Header::Is { size, next } => {
-            match read_actions(s, powers, next, j as u8, earlier, size, job, spawn, join) {
+            match read_actions(s, next, j as u8, earlier, size, job, spawn, join) {
                 Progress::Refused(cause) => Header::Refused(cause),
                 Progress::At(end) => {
                     first[j + 1] = (earlier + size) as u16;
@@ -211,7 +198,6 @@ fn read_job(
 // Reads all jobs.
 fn read_jobs(
     s: &[u8],
-    powers: &[u64; 32],
     at: usize,
     jobs: usize,
     frame: &mut [u16; 256],
@@ -221,7 +207,7 @@ fn read_jobs(
     join: &mut [u16; 2048],
 ) -> Body
     requires { ⌜ (at ≤ 17) × (jobs ≤ 256) × (getD (now first) 0 0 ≡ 0)
-        × ArraysLong (arrays (now frame) (now first) (now job) (now spawn) (now join)) × PowersOfTwo (now powers) ⌝ }
+        × ArraysLong (arrays (now frame) (now first) (now job) (now spawn) (now join)) ⌝ }
     ensures { λ r. ⌜ PlanRead (jobsAt (before s) jobs 0 at)
         (arrays (after frame) (after first) (after job) (after spawn) (after join)) r ⌝ }
 {
@@ -229,7 +215,7 @@ fn read_jobs(
     let mut actions = 0;
     let mut j = 0;
     while j < jobs {
-        match read_job(s, powers, place, j, actions, frame, first, job, spawn, join) {
+        match read_job(s, place, j, actions, frame, first, job, spawn, join) {
             Header::Refused(cause) => {
                 return Body::Refused(cause);
             }
@@ -250,28 +236,26 @@ fn read_jobs(
 // Reads the form and the job count, and then the jobs.
 fn read_body(
     s: &[u8],
-    powers: &[u64; 32],
     frame: &mut [u16; 256],
     first: &mut [u16; 257],
     job: &mut [u8; 2048],
     spawn: &mut [u16; 2048],
     join: &mut [u16; 2048],
 ) -> Body
-    requires { ⌜ (getD (now first) 0 0 ≡ 0) × ArraysLong (arrays (now frame) (now first) (now job) (now spawn) (now join))
-        × PowersOfTwo (now powers) ⌝ }
+    requires { ⌜ (getD (now first) 0 0 ≡ 0) × ArraysLong (arrays (now frame) (now first) (now job) (now spawn) (now join)) ⌝ }
     ensures { λ r. ⌜ PlanRead (planAt (before s)) (arrays (after frame) (after first) (after job) (after spawn) (after join)) r ⌝ }
 {
     let Field::Cut {
         value: form,
         next: after,
-    } = cut(s, powers, 0, 8)
+    } = cut(s, 0, 8)
     else {
         return Body::Refused(Refusal::RanOut);
     };
     if form != 1 {
         return Body::Refused(Refusal::Form);
     }
-    let Field::Cut { value, next } = cut(s, powers, after, 9) else {
+    let Field::Cut { value, next } = cut(s, after, 9) else {
         return Body::Refused(Refusal::RanOut);
     };
     let jobs = value as usize;
@@ -281,16 +265,16 @@ fn read_body(
     if 256 < jobs {
         return Body::Refused(Refusal::Range);
     }
-    read_jobs(s, powers, next, jobs, frame, first, job, spawn, join)
+    read_jobs(s, next, jobs, frame, first, job, spawn, join)
 }
 
 // Zero bits fill the last byte, and nothing follows.
-fn filled(s: &[u8], powers: &[u64; 32], at: usize) -> bool
-    requires { ⌜ (at < 2 ^ 16) × (at ≤ 8 * length (now s)) × PowersOfTwo (now powers) ⌝ }
+fn filled(s: &[u8], at: usize) -> bool
+    requires { ⌜ (at < 2 ^ 16) × (at ≤ 8 * length (now s)) ⌝ }
     ensures { λ r. ⌜ r ≡ fills (before s) at ⌝ }
 {
     let fill = (8 - at % 8) % 8;
-    let Field::Cut { value, next } = cut(s, powers, at, fill) else {
+    let Field::Cut { value, next } = cut(s, at, fill) else {
         return false;
     };
     if value != 0 {
@@ -316,15 +300,14 @@ pub fn read_into(
     ensures { λ r. ⌜ ReadInto (before s) r (flat (jobsIn r) (actionsIn r) (after frame) (after first) (after job) (after spawn)
         (after join) (after parent) (after position) (after entering)) ⌝ }
 {
-    let powers = power_table();
-    match read_body(s, &powers, frame, first, job, spawn, join) {
+    match read_body(s, frame, first, job, spawn, join) {
         Body::Refused(cause) => Found::Refused(cause),
         Body::Is {
             jobs,
             actions,
             next,
         } => {
-            if !filled(s, &powers, next) {
+            if !filled(s, next) {
                 return Found::Refused(Refusal::Fill);
             }
             if !spawn_rules(jobs, actions, first, job, spawn, parent, position) {

@@ -4,14 +4,13 @@ ghost use Prim.Native.Nat.{_≤_, _<_};
 ghost use mathlib.Core.List.{_++_};
 ghost use lib.ListN.{length, drop};
 ghost use Rattle.plan.specs.Contract.{Some, _⇒_, before, after};
-ghost use Rattle.fields.specs.Field.{PowersOfTwo, bitsOf};
+ghost use Rattle.fields.specs.Field.{bitsOf};
 ghost use Rattle.plan_writer.specs.Writer.{numberBits, planBits, planBytes};
 ghost use Rattle.fields.specs.Sink.{Sound, Room, Put};
 ghost use Rattle.plan_writer.specs.ActionBits.{Writable, actionBits};
 ghost use Rattle.plan_writer.specs.Given.{BitsGiven, WriterGiven, WritesInto};
 use fields::field::Sink;
 use fields::field::finish;
-use fields::field::power_table;
 use fields::field::put;
 use numbers::wide8;
 use numbers::wide16;
@@ -36,41 +35,37 @@ pub fn plan_bits(jobs: usize, actions: usize, spawn: &[u16; 2048], join: &[u16; 
     bits
 }
 
-fn put_number(out: &mut [u8], powers: &[u64; 32], sink: Sink, x: u16) -> Sink
+fn put_number(out: &mut [u8], sink: Sink, x: u16) -> Sink
     requires { ⌜ Sound (now out) sink ⌝ }
-    requires { ⌜ PowersOfTwo (now powers) ⌝ }
     requires { ⌜ (x ≤ 256) × Room (now out) sink (length (numberBits x)) ⌝ }
     ensures { λ r. ⌜ Put (before out) sink (numberBits x) (after out) r ⌝ }
 {
     if x == 0 {
-        return put(out, powers, sink, 0, 1);
+        return put(out, sink, 0, 1);
     }
-    put(out, powers, sink, 256 + (x as u64 - 1), 9)
+    put(out, sink, 256 + (x as u64 - 1), 9)
 }
 
-fn put_numbers(out: &mut [u8], powers: &[u64; 32], sink: Sink, spawn: u16, join: u16) -> Sink
+fn put_numbers(out: &mut [u8], sink: Sink, spawn: u16, join: u16) -> Sink
     requires { ⌜ Sound (now out) sink ⌝ }
-    requires { ⌜ PowersOfTwo (now powers) ⌝ }
     requires { ⌜ (spawn ≤ 256) × (join ≤ 256) × Room (now out) sink (length (numberBits spawn ++ numberBits join)) ⌝ }
     ensures { λ r. ⌜ Put (before out) sink (numberBits spawn ++ numberBits join) (after out) r ⌝ }
 {
-    let s = put_number(out, powers, sink, spawn);
-    put_number(out, powers, s, join)
+    let s = put_number(out, sink, spawn);
+    put_number(out, s, join)
 }
 
-fn put_header(out: &mut [u8], powers: &[u64; 32], sink: Sink, frame: u16, size: usize) -> Sink
+fn put_header(out: &mut [u8], sink: Sink, frame: u16, size: usize) -> Sink
     requires { ⌜ Sound (now out) sink ⌝ }
-    requires { ⌜ PowersOfTwo (now powers) ⌝ }
     requires { ⌜ (size < 256) × Room (now out) sink 24 ⌝ }
     ensures { λ r. ⌜ Put (before out) sink (bitsOf 16 frame ++ bitsOf 8 size) (after out) r ⌝ }
 {
-    let s = put(out, powers, sink, frame as u64, 16);
-    put(out, powers, s, size as u64, 8)
+    let s = put(out, sink, frame as u64, 16);
+    put(out, s, size as u64, 8)
 }
 
 fn put_action(
     out: &mut [u8],
-    powers: &[u64; 32],
     sink: Sink,
     k: usize,
     frame: &[u16; 256],
@@ -80,7 +75,6 @@ fn put_action(
     join: &[u16; 2048],
 ) -> Sink
     requires { ⌜ Sound (now out) sink ⌝ }
-    requires { ⌜ PowersOfTwo (now powers) ⌝ }
     requires { ⌜ Writable (now first) (now job) (now spawn) (now join) k ⌝ }
     requires { ⌜ Room (now out) sink (length (actionBits (now frame) (now first) (now job) (now spawn) (now join) k)) ⌝ }
     ensures { λ r. ⌜ Put (before out) sink (actionBits (before frame) (before first) (before job) (before spawn) (before join) k)
@@ -90,10 +84,10 @@ fn put_action(
     let start = wide16(first[j]);
     if start == k {
         let end = wide16(first[j + 1]);
-        let s = put_header(out, powers, sink, frame[j], end - start);
-        return put_numbers(out, powers, s, spawn[k], join[k]);
+        let s = put_header(out, sink, frame[j], end - start);
+        return put_numbers(out, s, spawn[k], join[k]);
     }
-    put_numbers(out, powers, sink, spawn[k], join[k])
+    put_numbers(out, sink, spawn[k], join[k])
 }
 
 // Writes the plan's bytes, and tells how many they are.
@@ -111,10 +105,8 @@ pub fn write_plan(
     ensures { λ r. ⌜ WriterGiven jobs actions (before frame) (before first) (before job) (before spawn) (before join)
         ⇒ (λ p. (r ≡ length (planBytes p)) × (after out ≡ planBytes p ++ drop (length (planBytes p)) (before out))) ⌝ }
 {
-    let powers = power_table();
     let mut sink = put(
         out,
-        &powers,
         Sink {
             bytes: 0,
             held: 0,
@@ -123,10 +115,10 @@ pub fn write_plan(
         1,
         8,
     );
-    sink = put(out, &powers, sink, jobs as u64, 9);
+    sink = put(out, sink, jobs as u64, 9);
     let mut k = 0;
     while k < actions {
-        sink = put_action(out, &powers, sink, k, frame, first, job, spawn, join);
+        sink = put_action(out, sink, k, frame, first, job, spawn, join);
         k += 1;
     }
     finish(out, sink)

@@ -5,7 +5,7 @@
 use mathlib.Core.Path.{_≡_, refl, sym, ap, ap₂, _∙_}
 use mathlib.Core.List.{List, [], _∷_, _++_, append-assoc, append-nil}
 use Prim.Native.Nat.{ℕ, zero, suc, _+_, _*_, _-_, _/_, _%_, _^_, _≤_, _<_}
-use native.Mathlib.Nat.{add-mul, mul-assoc, add-zero, pow-suc, mul-lt-mul-of-pos-right}
+use native.Mathlib.Nat.{add-mul, mul-assoc, add-zero, mul-lt-mul-of-pos-right}
 use native.Mathlib.Numerals.{add-one}
 use native.Mathlib.Omega.{arith}
 use lib.Arith.{digits-div, digits-mod}
@@ -156,18 +156,16 @@ moved-all out k o k′ s h =
 sound-holds : (out : List ℕ) (k : Sink) → Sound out k → Holds 32 (k .held) (k .bits) (take (k .bits) (bitsOf 32 (k .held)))
 sound-holds out k s = holds-of 32 (k .held) (k .bits) (omega (arith, s .few)) (s .small) (s .behind)
 
-module _ (out : List ℕ) (k : Sink) (v w p : ℕ) (s : Sound out k) (h : (w ≤ 24) × (v < 2 ^ w) × (8 * k .bytes + k .bits + w ≤ 8 * length out)) (e : p ≡ 2 ^ (31 - (k .bits + w))) where
-  taken : Holds 32 (k .held + v * (p * 2)) (k .bits + w) (take (k .bits) (bitsOf 32 (k .held)) ++ bitsOf w v)
+module _ (out : List ℕ) (k : Sink) (v w p : ℕ) (s : Sound out k) (h : (w ≤ 24) × (v < 2 ^ w) × (8 * k .bytes + k .bits + w ≤ 8 * length out)) (e : p ≡ 2 ^ (32 - (k .bits + w))) where
+  taken : Holds 32 (k .held + v * p) (k .bits + w) (take (k .bits) (bitsOf 32 (k .held)) ++ bitsOf w v)
   taken =
       let few = s .few in
-      let i : 32 - (k .bits + w) ≡ suc (31 - (k .bits + w)) = omega arith in
-      let q : p * 2 ≡ 2 ^ (32 - (k .bits + w)) = rw (e, i, pow-suc) in
-      rw q (holds-more (sound-holds out k s) w v (h .1) (omega arith))
+      rw e (holds-more (sound-holds out k s) w v (h .1) (omega arith))
 
-  pub put-loose : Loose out (record { bytes = k .bytes; held = k .held + v * (p * 2); bits = k .bits + w })
+  pub put-loose : Loose out (record { bytes = k .bytes; held = k .held + v * p; bits = k .bits + w })
   put-loose = record { few = omega (arith, s .few); room = omega arith; small = holds-small taken; behind = holds-behind taken }
 
-  pub put-written : (o : List ℕ) (k′ : Sink) → Put out (record { bytes = k .bytes; held = k .held + v * (p * 2); bits = k .bits + w }) [] o k′ → Put out k (bitsOf w v) o k′
+  pub put-written : (o : List ℕ) (k′ : Sink) → Put out (record { bytes = k .bytes; held = k .held + v * p; bits = k .bits + w }) [] o k′ → Put out k (bitsOf w v) o k′
   unfolding sinkBits
   put-written o k′ t =
       let b = bits (take (k .bytes) out) in
@@ -175,7 +173,7 @@ module _ (out : List ℕ) (k : Sink) (v w p : ℕ) (s : Sound out k) (h : (w ≤
         sound = t .sound;
         same = t .same;
         written =
-            t .written ∙ append-nil (b ++ take (k .bits + w) (bitsOf 32 (k .held + v * (p * 2)))) ∙ ap (λ (r : List ℕ). b ++ r) (holds-taken taken)
+            t .written ∙ append-nil (b ++ take (k .bits + w) (bitsOf 32 (k .held + v * p))) ∙ ap (λ (r : List ℕ). b ++ r) (holds-taken taken)
             ∙ sym (append-assoc b (take (k .bits) (bitsOf 32 (k .held))) (bitsOf w v));
         beyond = t .beyond;
       }

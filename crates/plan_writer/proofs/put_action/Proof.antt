@@ -28,7 +28,7 @@ opened c =
 
 sizes : (c : tie.After-wide162) → (c .before .before .before .wide16 .result ≤ c .wide162 .result) × (c .wide162 .result < c .before .before .before .wide16 .result + 256)
 sizes c =
-    let w = c .before .before .before .before .before .before .before .before .pre .1 .1 .0 in
+    let w = c .before .before .before .before .before .before .before .before .pre .1 .0 in
     rw (c .wide162 .ensures .0, c .before .before .before .wide16 .ensures .0, c .before .before .before .before .before .wide8 .ensures .0) (w .rises, w .few)
 
 -- at a later action
@@ -81,8 +81,8 @@ sub-put-header c = sizes (c .before .before) .0
 put-header-requires : tie.Need-put-header-requires
 put-header-requires c κs =
     let s = c .before .before .before .before .before .before .before .before .before .before in
-    let r = rw (opened (c .before .before)) at (s .pre .1 .1 .1) in
-    (s .pre .0, (s .pre .1 .0, (omega (arith, sizes (c .before .before)), omega arith)))
+    let r = rw (opened (c .before .before)) at (s .pre .1 .1) in
+    (s .pre .0, (omega (arith, sizes (c .before .before)), omega arith))
 
 mul-put-numbers : tie.Need-mul-put-numbers
 mul-put-numbers c = search needs
@@ -99,9 +99,9 @@ element-copy-out-put-numbers-2 c = search needs
 put-numbers-requires : tie.Need-put-numbers-requires
 put-numbers-requires c κs =
     let s = c .before .before .before .before .before .before .before .before .before .before .before .before .before .before .before .before in
-    let r = rw (opened (c .before .before .before .before .before .before .before .before)) at (s .pre .1 .1 .1) in
+    let r = rw (opened (c .before .before .before .before .before .before .before .before)) at (s .pre .1 .1) in
     let w = c .before .before .before .before .before .put-header .ensures in
-    (w .sound, (s .pre .1 .0, (s .pre .1 .1 .0 .child, s .pre .1 .1 .0 .target, omega (arith, put-length (s .pre .0) w, w .same))))
+    (w .sound, (s .pre .1 .0 .child, s .pre .1 .0 .target, omega (arith, put-length (s .pre .0) w, w .same)))
 
 same-length : tie.Need-same-length
 same-length c = search needs
@@ -124,7 +124,7 @@ element-copy-out-put-numbers-4 c = search needs
 put-numbers-requires-2 : tie.Need-put-numbers-requires-2
 put-numbers-requires-2 c κs =
     let s = c .before .before .before .before .before .before .before .before .before in
-    (s .pre .0, (s .pre .1 .0, (s .pre .1 .1 .0 .child, s .pre .1 .1 .0 .target, rw (continued (c .before .before .before)) at (s .pre .1 .1 .1))))
+    (s .pre .0, (s .pre .1 .0 .child, s .pre .1 .0 .target, rw (continued (c .before .before .before)) at (s .pre .1 .1)))
 
 same-length-2 : tie.Need-same-length-2
 same-length-2 c = search needs

@@ -10,13 +10,13 @@ use Rattle.plan_writer.proofs.put_numbers.Tie as tie
 put-number-requires : tie.Need-put-number-requires
 put-number-requires c κs =
     let b = c .before .before in
-    (b .pre .0, (b .pre .1 .0, (b .pre .1 .1 .0, omega (arith, length-append (numberBits (b .args .spawn)) (numberBits (b .args .join))))))
+    (b .pre .0, (b .pre .1 .0, omega (arith, length-append (numberBits (b .args .spawn)) (numberBits (b .args .join)))))
 
 put-number-requires-2 : tie.Need-put-number-requires-2
 put-number-requires-2 c κs =
     let b = c .before .before .before .before .before .before in
     let w = c .before .before .before .put-number .ensures in
-    (w .sound, (b .pre .1 .0, (b .pre .1 .1 .1, omega (arith, put-length (b .pre .0) w, w .same, length-append (numberBits (b .args .spawn)) (numberBits (b .args .join))))))
+    (w .sound, (b .pre .1 .1, omega (arith, put-length (b .pre .0) w, w .same, length-append (numberBits (b .args .spawn)) (numberBits (b .args .join)))))
 
 same-length : tie.Need-same-length
 same-length c = search needs

@@ -3,21 +3,14 @@ use native.Mathlib.Omega.{arith}
 use mathlib.Core.Path.{_≡_, ap, sym, _∙_}
 use borrow.Author.Needs.{needs}
 use denote.Ref.{now}
-use Rattle.fields.specs.Field.{PowersOfTwo, step, fieldAt, stepOf}
+use Rattle.fields.specs.Field.{step, fieldAt, stepOf}
 use Rattle.fields.proofs.Laws.Bits.{field-read}
 use Rattle.checker.proofs.Laws.Header.{no-form, no-workers, no-actions, no-zeros, HeaderRead, headed-not, headed-by}
 use Rattle.checker.proofs.form.header.Statement.{statement}
 use Rattle.checker.proofs.form.header.Tie as tie
 
-power-table-requires : tie.Need-power-table-requires
-power-table-requires c κs = search needs
-
--- the table of powers that is lent
-powers-held : (c : tie.After-power-table) → PowersOfTwo (c .power-table .result)
-powers-held c = c .power-table .ensures
-
 cut-requires : tie.Need-cut-requires
-cut-requires c κs = (omega arith, omega arith, powers-held (c .before))
+cut-requires c κs = search needs
 
 enum-known-form : tie.Need-enum-known-form
 enum-known-form c = search needs
@@ -30,13 +23,13 @@ returns c = no-form _ _ 1 (sym (c .before .before .cut .ensures) ∙ ap stepOf (
 
 -- the fields that were read
 form-read :
-    (c : tie.After-form) → fieldAt (now (c .before .before .before .before .before .before .args .schedule)) 8 0 ≡ step (c .form .given .0 .0) (c .form .given .0 .1 .0)
+    (c : tie.After-form) → fieldAt (now (c .before .before .before .before .args .schedule)) 8 0 ≡ step (c .form .given .0 .0) (c .form .given .0 .1 .0)
 form-read c = sym (c .before .before .cut .ensures) ∙ ap stepOf (c .form .given .1)
 
 cut-requires-2 : tie.Need-cut-requires-2
 cut-requires-2 c κs =
-    let f = c .before .before in
-    (omega (arith, field-read _ 8 _ _ _ (form-read f) .1), omega arith, powers-held (f .before .before .before .before))
+    let f = c .before in
+    (omega (arith, field-read _ 8 _ _ _ (form-read f) .1), omega arith)
 
 enum-known-workers : tie.Need-enum-known-workers
 enum-known-workers c = search needs
@@ -45,22 +38,21 @@ enum-told-2 : tie.Need-enum-told-2
 enum-told-2 c = search needs
 
 workers-read :
-    (c : tie.After-workers) → let f = c .before .before .before .before .before in
-    fieldAt (now (f .before .before .before .before .before .before .args .schedule)) 5 (f .form .given .0 .1 .0) ≡ step (c .workers .given .0 .0) (c .workers .given .0 .1 .0)
+    (c : tie.After-workers) → let f = c .before .before .before .before in
+    fieldAt (now (f .before .before .before .before .args .schedule)) 5 (f .form .given .0 .1 .0) ≡ step (c .workers .given .0 .0) (c .workers .given .0 .1 .0)
 workers-read c = sym (c .before .before .cut2 .ensures) ∙ ap stepOf (c .workers .given .1)
 
 returns-2 : tie.Need-returns-2
 returns-2 c =
-    let f = c .before .before .before .before .before in
+    let f = c .before .before .before .before in
     no-workers _ _ _ _ (form-read f) 1 (sym (c .before .before .cut2 .ensures) ∙ ap stepOf (c .enum-told2 .given .1))
 
 cut-requires-3 : tie.Need-cut-requires-3
 cut-requires-3 c κs =
-    let w = c .before .before in
-    let f = w .before .before .before .before .before in (
+    let w = c .before in
+    let f = w .before .before .before .before in (
       omega (arith, field-read _ 8 _ _ _ (form-read f) .1, field-read _ 5 _ _ _ (workers-read w) .1),
       omega arith,
-      powers-held (f .before .before .before .before),
     )
 
 enum-known-number : tie.Need-enum-known-number
@@ -70,25 +62,24 @@ enum-told-3 : tie.Need-enum-told-3
 enum-told-3 c = search needs
 
 number-read :
-    (c : tie.After-number) → let w = c .before .before .before .before .before in
-    let f = w .before .before .before .before .before in
-    fieldAt (now (f .before .before .before .before .before .before .args .schedule)) 12 (w .workers .given .0 .1 .0) ≡ step (c .number .given .0 .0) (c .number .given .0 .1 .0)
+    (c : tie.After-number) → let w = c .before .before .before .before in
+    let f = w .before .before .before .before in
+    fieldAt (now (f .before .before .before .before .args .schedule)) 12 (w .workers .given .0 .1 .0) ≡ step (c .number .given .0 .0) (c .number .given .0 .1 .0)
 number-read c = sym (c .before .before .cut3 .ensures) ∙ ap stepOf (c .number .given .1)
 
 returns-3 : tie.Need-returns-3
 returns-3 c =
-    let w = c .before .before .before .before .before in
-    let f = w .before .before .before .before .before in
+    let w = c .before .before .before .before in
+    let f = w .before .before .before .before in
     no-actions _ _ _ _ (form-read f) _ _ (workers-read w) 1 (sym (c .before .before .cut3 .ensures) ∙ ap stepOf (c .enum-told3 .given .1))
 
 cut-requires-4 : tie.Need-cut-requires-4
 cut-requires-4 c κs =
-    let k = c .before .before in
-    let w = k .before .before .before .before .before in
-    let f = w .before .before .before .before .before in (
+    let k = c .before in
+    let w = k .before .before .before .before in
+    let f = w .before .before .before .before in (
       omega (arith, field-read _ 8 _ _ _ (form-read f) .1, field-read _ 5 _ _ _ (workers-read w) .1, field-read _ 12 _ _ _ (number-read k) .1),
       omega arith,
-      powers-held (f .before .before .before .before),
     )
 
 enum-known-zeros : tie.Need-enum-known-zeros
@@ -99,20 +90,20 @@ enum-told-4 c = search needs
 
 returns-4 : tie.Need-returns-4
 returns-4 c =
-    let k = c .before .before .before .before .before in
-    let w = k .before .before .before .before .before in
-    let f = w .before .before .before .before .before in
+    let k = c .before .before .before .before in
+    let w = k .before .before .before .before in
+    let f = w .before .before .before .before in
     no-zeros _ _ _ _ (form-read f) _ _ (workers-read w) _ _ (number-read k) 1 (sym (c .before .before .cut4 .ensures) ∙ ap stepOf (c .enum-told4 .given .1))
 
 all-read :
-    (c : tie.After-zeros) → let k = c .before .before .before .before .before in
-    let w = k .before .before .before .before .before in
-    let f = w .before .before .before .before .before in
-    HeaderRead (now (f .before .before .before .before .before .before .args .schedule)) (f .form .given .0 .0) (w .workers .given .0 .0) (k .number .given .0 .0) (c .zeros .given .0 .0)
+    (c : tie.After-zeros) → let k = c .before .before .before .before in
+    let w = k .before .before .before .before in
+    let f = w .before .before .before .before in
+    HeaderRead (now (f .before .before .before .before .args .schedule)) (f .form .given .0 .0) (w .workers .given .0 .0) (k .number .given .0 .0) (c .zeros .given .0 .0)
 all-read c =
-    let k = c .before .before .before .before .before in
-    let w = k .before .before .before .before .before in
-    let f = w .before .before .before .before .before in
+    let k = c .before .before .before .before in
+    let w = k .before .before .before .before in
+    let f = w .before .before .before .before in
     record {
       form-end = f .form .given .0 .1 .0;
       workers-end = w .workers .given .0 .1 .0;
@@ -150,7 +141,6 @@ pub header-spec : {M : Type 1} → statement M
 header-spec =
     tie.close
     (tie.spec
-    power-table-requires
     cut-requires
     enum-known-form
     enum-told

@@ -46,13 +46,13 @@ returns-2 c =
     sym (window-field (a .s .now) (a .at) (a .width) (c .before .before .window .result) (c .before .power .result) (c .power2 .result) (omega arith) (omega arith)
     (c .before .before .window .ensures .0) (c .before .power .ensures) (c .power2 .ensures))
 
-cast-t16 : tie.Need-cast-t16
-cast-t16 c =
+cast-t15 : tie.Need-cast-t15
+cast-t15 c =
     let a = c .before .before .before .before .before .args in
     omega (arith, field-read (a .s .now) (a .width) (a .at) _ _ (sym (returns-2 c)) .0, pow-mono {i = a .width} {j = 24} (omega arith))
 
-add-t11 : tie.Need-add-t11
-add-t11 c = search needs
+add-t10 : tie.Need-add-t10
+add-t10 c = search needs
 
 pub cut-spec : {M : Type 1} → statement M
 cut-spec =
@@ -67,6 +67,6 @@ cut-spec =
     mul-from-field
     power-requires-2
     mul-value
-    cast-t16
-    add-t11
+    cast-t15
+    add-t10
     returns-2)

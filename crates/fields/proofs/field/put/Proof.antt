@@ -17,22 +17,19 @@ power-requires : tie.Need-power-requires
 power-requires c κs = search needs
 
 mul-held : tie.Need-mul-held
-mul-held c = omega (arith, c .power .ensures, pow-mono {i = 31 - (c .before .before .before .args .sink .bits + c .before .before .before .args .width)} {j = 31} (omega arith))
-
-mul-held-2 : tie.Need-mul-held-2
-mul-held-2 c =
+mul-held c =
     let a = c .before .before .before in
-    omega (arith, put-loose (a .args .out .now) (a .args .sink) (a .args .value) (a .args .width) (c .power .result) (a .pre .0) (a .pre .1 .1) (c .power .ensures) .small)
+    omega (arith, put-loose (a .args .out .now) (a .args .sink) (a .args .value) (a .args .width) (c .power .result) (a .pre .0) (a .pre .1) (c .power .ensures) .small)
 
 add-held : tie.Need-add-held
 add-held c =
     let a = c .before .before .before .before in
-    omega (arith, put-loose (a .args .out .now) (a .args .sink) (a .args .value) (a .args .width) (c .before .power .result) (a .pre .0) (a .pre .1 .1) (c .before .power .ensures) .small)
+    omega (arith, put-loose (a .args .out .now) (a .args .sink) (a .args .value) (a .args .width) (c .before .power .result) (a .pre .0) (a .pre .1) (c .before .power .ensures) .small)
 
 flush-requires : tie.Need-flush-requires
 flush-requires c κs =
     let a = c .before .before .before .before .before in
-    put-loose (a .args .out .now) (a .args .sink) (a .args .value) (a .args .width) (c .before .before .power .result) (a .pre .0) (a .pre .1 .1) (c .before .before .power .ensures)
+    put-loose (a .args .out .now) (a .args .sink) (a .args .value) (a .args .width) (c .before .before .power .result) (a .pre .0) (a .pre .1) (c .before .before .power .ensures)
 
 same-length : tie.Need-same-length
 same-length c = search needs
@@ -40,7 +37,7 @@ same-length c = search needs
 returns : tie.Need-returns
 returns c =
     let a = c .before .before .before .before .before .before .before .before in
-    put-written (a .args .out .now) (a .args .sink) (a .args .value) (a .args .width) (c .before .before .before .before .before .power .result) (a .pre .0) (a .pre .1 .1) (c .before .before .before .before .before .power .ensures) _ _ (c .before .before .flush .ensures)
+    put-written (a .args .out .now) (a .args .sink) (a .args .value) (a .args .width) (c .before .before .before .before .before .power .result) (a .pre .0) (a .pre .1) (c .before .before .before .before .before .power .ensures) _ _ (c .before .before .flush .ensures)
 
 pub put-spec : {M : Type 1} → statement M
 put-spec =
@@ -50,7 +47,6 @@ put-spec =
     sub-power
     power-requires
     mul-held
-    mul-held-2
     add-held
     flush-requires
     same-length

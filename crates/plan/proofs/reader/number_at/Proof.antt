@@ -40,7 +40,7 @@ cut-requires-2 c κs =
     let k = c .before .before .before .before in
     let f = c .before .before .there in
     let p = k .before .before .pre in
-    (omega (arith, field-read (now (k .before .before .args .s)) 1 (k .before .before .args .at) _ _ (sym (k .cut .ensures) ∙ ap stepOf (f .given .1)) .1), omega arith, p .1)
+    (omega (arith, field-read (now (k .before .before .args .s)) 1 (k .before .before .args .at) _ _ (sym (k .cut .ensures) ∙ ap stepOf (f .given .1)) .1), omega arith)
 
 enum-known-value : tie.Need-enum-known-value
 enum-known-value c = search needs
@@ -63,11 +63,11 @@ value-below c =
     let k = c .before .before in
     field-read (now (k .before .before .before .before .before .before .before .args .s)) 8 (k .before .before .before .there .given .0 .1 .0) _ _ (sym (k .cut2 .ensures) ∙ ap stepOf (c .value .given .1)) .0
 
-cast-t13 : tie.Need-cast-t13
-cast-t13 c = omega (arith, value-below (c .before))
+cast-t12 : tie.Need-cast-t12
+cast-t12 c = omega (arith, value-below (c .before))
 
-add-t14 : tie.Need-add-t14
-add-t14 c = omega (arith, value-below (c .before))
+add-t13 : tie.Need-add-t13
+add-t13 c = omega (arith, value-below (c .before))
 
 returns-4 : tie.Need-returns-4
 returns-4 c = rw (went-on (c .before .before .before .before), ← c .before .before .before .cut2 .ensures, c .before .value .given .1, add-one)
@@ -85,6 +85,6 @@ number-at-spec =
     enum-known-value
     enum-told-2
     returns-3
-    cast-t13
-    add-t14
+    cast-t12
+    add-t13
     returns-4)

@@ -42,7 +42,7 @@ number-at-requires-2 : tie.Need-number-at-requires-2
 number-at-requires-2 c κs =
     let k = c .before .before .before in
     let p = k .before .before .pre in
-    (omega (arith, number-next (now (k .before .before .args .s)) (k .before .before .args .at) _ _ (sym (k .number-at .ensures) ∙ ap numberStep (c .before .child .given .1)) .1), p .3)
+    omega (arith, number-next (now (k .before .before .args .s)) (k .before .before .args .at) _ _ (sym (k .number-at .ensures) ∙ ap numberStep (c .before .child .given .1)) .1)
 
 enum-known-target : tie.Need-enum-known-target
 enum-known-target c = search needs

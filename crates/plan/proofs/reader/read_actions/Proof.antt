@@ -64,11 +64,11 @@ module _ (s : List ℕ) (at number from count : ℕ) (a b : Rows) (place k left 
   went-on c next r = next-action c next (r .0) (r .1) (r .2)
 
 abbrev Inv-loop : tie.InvT-loop
-Inv-loop s powers at number from count job₀ spawn₀ join₀ place₀ k₀ left₀ job spawn join place k left =
+Inv-loop s at number from count job₀ spawn₀ join₀ place₀ k₀ left₀ job spawn join place k left =
     Begun s at number from count (record { job = job₀; spawn = spawn₀; join = join₀ }) (record { job = job; spawn = spawn; join = join }) place k left
 
 abbrev μ-loop : tie.MeasureT-loop
-μ-loop s powers at number from count job₀ spawn₀ join₀ place₀ k₀ left₀ job spawn join place k left = left
+μ-loop s at number from count job₀ spawn₀ join₀ place₀ k₀ left₀ job spawn join place k left = left
 
 loop-holds : tie.Need-loop-holds Inv-loop μ-loop
 loop-holds c = begin _ _ _ _ _ _ (c .before .pre .2)
@@ -78,7 +78,7 @@ read-action-requires c κs =
     let i = c .before .before .before in
     let h = i .before .loop .inv in
     let p = i .before .before .before .pre in
-    (omega (arith, h .near, h .all, p .0, i .loop-test .taken), omega (arith, h .here, h .all, p .1, i .loop-test .taken), h .long, p .3)
+    (omega (arith, h .near, h .all, p .0, i .loop-test .taken), omega (arith, h .here, h .all, p .1, i .loop-test .taken), h .long)
 
 enum-known-next : tie.Need-enum-known-next Inv-loop μ-loop
 enum-known-next c = search needs

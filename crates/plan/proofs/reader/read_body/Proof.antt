@@ -65,7 +65,7 @@ returns-2 c = wrong-form _ _ _ (form-read (c .before .before)) (c .if1 .taken)
 cut-requires-2 : tie.Need-cut-requires-2
 cut-requires-2 c κs =
     let f = c .before .before in
-    (omega (arith, field-read _ 8 _ _ _ (form-read f) .1), omega arith, f .before .before .before .before .pre .2)
+    (omega (arith, field-read _ 8 _ _ _ (form-read f) .1), omega arith)
 
 enum-known-value : tie.Need-enum-known-value
 enum-known-value c = search needs
@@ -104,7 +104,7 @@ read-jobs-requires c κs =
     let v = e .before .before .before in
     let f = v .before .before .before .before .before in
     let p = f .before .before .before .before .pre in
-    (omega (arith, field-read _ 9 _ _ _ (value-read v) .1, field-read _ 8 _ _ _ (form-read f) .1), e .if3 .left, p .0, p .1, p .2)
+    (omega (arith, field-read _ 9 _ _ _ (value-read v) .1, field-read _ 8 _ _ _ (form-read f) .1), e .if3 .left, p .0, p .1)
 
 returns-6 : tie.Need-returns-6
 returns-6 c =

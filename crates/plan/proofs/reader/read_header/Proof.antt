@@ -62,7 +62,7 @@ weight-read c = sym (c .before .before .cut .ensures) ∙ ap stepOf (c .weight .
 cut-requires-2 : tie.Need-cut-requires-2
 cut-requires-2 c κs =
     let p = c .before .before .before .before .before .before .pre in
-    (omega (arith, field-read _ 16 _ _ _ (weight-read (c .before .before)) .1, p .0), omega arith, p .4)
+    (omega (arith, field-read _ 16 _ _ _ (weight-read (c .before .before)) .1, p .0), omega arith)
 
 enum-known-value : tie.Need-enum-known-value
 enum-known-value c = search needs

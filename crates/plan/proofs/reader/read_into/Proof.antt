@@ -101,11 +101,11 @@ module _ (s : List ℕ) (jobs actions next : ℕ) (a : Arrays) (b : PlanRead (pl
 -- the arrays that `read_body` leaves, and that they hold what it read
 abbrev arrays : tie.After-read-body → Arrays
 arrays c =
-    let l = c .read-body .last .1 .1 in
+    let l = c .read-body .last .1 in
     record { frame = l .0; first = l .1 .0; rows = record { job = l .1 .1 .0; spawn = l .1 .1 .1 .0; join = l .1 .1 .1 .1 .0 } }
 
 abbrev begun : tie.After-read-body → tie.Start
-begun c = c .before .before .before .before .before .before .before .before .before
+begun c = c .before .before .before .before .before .before .before
 
 abbrev read : tie.After-jobs → tie.After-read-body
 read c = c .before .before
@@ -116,7 +116,7 @@ body-read c = told _ (arrays (read c)) _ _ (c .jobs .given .1) (read c .read-bod
 
 -- the places before
 abbrev jobs-of : tie.After-filled → tie.After-jobs
-jobs-of c = c .before .before .before
+jobs-of c = c .before .before
 
 abbrev else1 : tie.After-spawn-rules → tie.Else1
 else1 c = c .before .before .before .before .before .before
@@ -127,14 +127,10 @@ else2 c = c .before .before .before .before .before .before .before .before
 unspawned : (s : tie.Start) → Unspawned (now (s .args .parent)) (now (s .args .position))
 unspawned s = record { parents = s .pre .parents; positions = s .pre .positions }
 
-power-table-requires : tie.Need-power-table-requires
-power-table-requires c κs = search needs
-
 read-body-requires : tie.Need-read-body-requires
 read-body-requires c κs =
-    let t = c .before .before .before .before .before .before in
-    let p = t .before .before .pre in
-    (p .begins, record { frames = p .frames; firsts = p .firsts; rows = record { owners = p .owners; spawns = p .spawns; joins = p .joins } }, t .power-table .ensures)
+    let p = c .before .before .before .before .before .before .pre in
+    (p .begins, record { frames = p .frames; firsts = p .firsts; rows = record { owners = p .owners; spawns = p .spawns; joins = p .joins } })
 
 enum-known-cause : tie.Need-enum-known-cause
 enum-known-cause c = search needs
@@ -144,9 +140,8 @@ enum-known-jobs c = search needs
 
 filled-requires : tie.Need-filled-requires
 filled-requires c κs =
-    let j = c .before .before in
-    let e = ends _ _ _ _ (arrays (read j)) (body-read j) in
-    (e .0, e .1, read j .before .before .before .before .before .before .before .power-table .ensures)
+    let j = c .before in
+    ends _ _ _ _ (arrays (read j)) (body-read j)
 
 returns : tie.Need-returns
 returns c =
@@ -204,7 +199,6 @@ pub read-into-spec : {M : Type 1} → statement M
 read-into-spec =
     tie.close
     (tie.spec
-    power-table-requires
     read-body-requires
     enum-known-cause
     enum-known-jobs

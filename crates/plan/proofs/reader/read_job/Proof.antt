@@ -51,7 +51,7 @@ read-actions-requires c κs =
     let z = c .before .before .before .before in
     let p = z .before .before .before .before .before .pre in
     let r = roomy z in
-    (omega (arith, r, p .0), omega (arith, r), p .3 .rows, p .4)
+    (omega (arith, r, p .0), omega (arith, r), p .3 .rows)
 
 enum-known-cause-2 : tie.Need-enum-known-cause-2
 enum-known-cause-2 c = search needs
@@ -74,8 +74,8 @@ mul-first c = search needs
 element-write-first : tie.Need-element-write-first
 element-write-first c = search needs
 
-add-t25 : tie.Need-add-t25
-add-t25 c = omega (arith, roomy (c .before .before .before .before .before .before .before .before))
+add-t24 : tie.Need-add-t24
+add-t24 c = omega (arith, roomy (c .before .before .before .before .before .before .before .before))
 
 returns : tie.Need-returns
 unfolding jobAt
@@ -112,7 +112,7 @@ read-job-spec =
     add-first-2
     mul-first
     element-write-first
-    add-t25
+    add-t24
     returns
     returns-2
     returns-3)

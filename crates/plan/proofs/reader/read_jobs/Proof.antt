@@ -97,11 +97,11 @@ module _ (s : List ℕ) (at jobs : ℕ) (a : Arrays) (place actions j : ℕ) (h 
   went-on b end next r = next-job b end next (r .0) (r .1) (r .2)
 
 abbrev Inv-loop : tie.InvT-loop
-Inv-loop s powers at jobs frame₀ first₀ job₀ spawn₀ join₀ place₀ actions₀ j₀ frame first job spawn join place actions j =
+Inv-loop s at jobs frame₀ first₀ job₀ spawn₀ join₀ place₀ actions₀ j₀ frame first job spawn join place actions j =
     Begun s at jobs (record { frame = frame; first = first; rows = record { job = job; spawn = spawn; join = join } }) place actions j
 
 abbrev μ-loop : tie.MeasureT-loop
-μ-loop s powers at jobs frame₀ first₀ job₀ spawn₀ join₀ place₀ actions₀ j₀ frame first job spawn join place actions j =
+μ-loop s at jobs frame₀ first₀ job₀ spawn₀ join₀ place₀ actions₀ j₀ frame first job spawn join place actions j =
     jobs - j
 
 loop-holds : tie.Need-loop-holds Inv-loop μ-loop
@@ -112,7 +112,7 @@ read-job-requires c κs =
     let i = c .before .before .before .before .before in
     let h = i .before .loop .inv in
     let p = i .before .before .before .pre in
-    (omega (arith, h .near, h .low, p .0, p .1, i .loop-test .taken), omega (arith, p .1, i .loop-test .taken), h .low, h .long, p .4)
+    (omega (arith, h .near, h .low, p .0, p .1, i .loop-test .taken), omega (arith, p .1, i .loop-test .taken), h .low, h .long)
 
 enum-known-cause : tie.Need-enum-known-cause Inv-loop μ-loop
 enum-known-cause c = search needs
