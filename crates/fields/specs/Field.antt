@@ -8,7 +8,6 @@
 --   fieldAt s w at   == the field of w bits at place at of the bytes s, or that the bits ran out
 --   stepOf f         == the step that the field reader's answer stands for
 use Prim.Native.Nat.{ℕ, zero, suc, _+_, _*_, _/_, _%_, _^_, _<_}
-use mathlib.Core.Path.{_≡_}
 use mathlib.Core.Bool.{true, false}
 use mathlib.Core.List.{List, [], _∷_, _++_}
 use lib.ListN.{length, getD, take, drop, replicate}

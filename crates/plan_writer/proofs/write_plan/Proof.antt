@@ -11,7 +11,6 @@ use Rattle.plan_writer.specs.ActionBits.{actionBits}
 use Rattle.fields.proofs.Laws.Puts.{empty, empty-sound, put-none, put-length, put-both}
 use Rattle.plan_writer.proofs.Laws.Numbers.{plan-written}
 use Rattle.plan_writer.proofs.Laws.PlanBits.{upTo, upTo-rises, plan-upTo, plan-room, few-jobs, place-writable}
-use borrow.Author.Needs.{needs}
 use Rattle.plan_writer.proofs.write_plan.Statement.{statement}
 use Rattle.plan_writer.proofs.write_plan.Tie as tie
 

@@ -1,7 +1,5 @@
 -- `fields::field::put` meets its contract.
-use Prim.Native.Nat.{_+_, _-_}
 use native.Mathlib.Omega.{arith}
-use lib.Pow.{pow-mono}
 use Rattle.fields.proofs.Laws.Sink.{put-loose, put-written}
 use borrow.Author.Needs.{needs}
 use Rattle.fields.proofs.field.put.Statement.{statement}

@@ -1,7 +1,7 @@
 -- `reader::read_into` meets its contract: what it answers at each test is what `readPlan` gives there, and where it accepts,
 -- the arrays hold the plan that `planAt` reads.
 use Prim.Native.Nat.{ℕ, _*_, _^_, _≤_, _<_}
-use mathlib.Core.Path.{_≡_, refl, sym, _∙_}
+use mathlib.Core.Path.{_≡_, sym, _∙_}
 use mathlib.Core.Bool.{Bool, true, false, not}
 use mathlib.Core.List.{List}
 use borrow.Author.Needs.{needs}
