@@ -14,7 +14,7 @@ pub enum Field {
     Cut { value: u32, next: usize },
 }
 
-// Worked out and not looked up: where this runs there may be little read-only memory (document 02, L4).
+// 2^k, worked out and not looked up: where this runs there may be little read-only memory (document 02, L4).
 fn power(k: usize) -> u64
     requires { ⌜ k ≤ 32 ⌝ }
     ensures { λ r. ⌜ r ≡ 2 ^ k ⌝ }

@@ -38,8 +38,7 @@ reach : (l : tie.At-loop Inv-loop μ-loop) → let s = l .before .before .before
 reach l = let w = written l in (omega (arith, put-length (empty-sound _) w), w .same)
 
 put-requires : tie.Need-put-requires Inv-loop μ-loop
-put-requires c κs =
-    (empty-sound _, (omega arith, omega arith, omega (arith, room (c .before .before))))
+put-requires c κs = (empty-sound _, (omega arith, omega arith, omega (arith, room (c .before .before))))
 
 put-requires-2 : tie.Need-put-requires-2 Inv-loop μ-loop
 put-requires-2 c κs =

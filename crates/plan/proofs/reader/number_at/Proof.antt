@@ -39,7 +39,6 @@ cut-requires-2 : tie.Need-cut-requires-2
 cut-requires-2 c κs =
     let k = c .before .before .before .before in
     let f = c .before .before .there in
-    let p = k .before .before .pre in
     (omega (arith, field-read (now (k .before .before .args .s)) 1 (k .before .before .args .at) _ _ (sym (k .cut .ensures) ∙ ap stepOf (f .given .1)) .1), omega arith)
 
 enum-known-value : tie.Need-enum-known-value

@@ -41,7 +41,6 @@ returns c = no-child _ _ _ (sym (c .before .before .number-at .ensures) ∙ ap n
 number-at-requires-2 : tie.Need-number-at-requires-2
 number-at-requires-2 c κs =
     let k = c .before .before .before in
-    let p = k .before .before .pre in
     omega (arith, number-next (now (k .before .before .args .s)) (k .before .before .args .at) _ _ (sym (k .number-at .ensures) ∙ ap numberStep (c .before .child .given .1)) .1)
 
 enum-known-target : tie.Need-enum-known-target
