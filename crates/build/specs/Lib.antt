@@ -1,3 +1,2 @@
--- What a reader must believe of the entry: Build. Given says what a function that is no entry is given.
+-- What a reader must believe of the entry.
 pub mod Build
-pub mod Given

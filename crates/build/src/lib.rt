@@ -3,13 +3,15 @@ ghost use mathlib.Core.Path.{_≡_};
 ghost use Rattle.plan.specs.Contract.{Some, _⇒_, before};
 ghost use Rattle.plan.specs.Refusal.{accepted};
 ghost use Rattle.runs.specs.Run.{admitted};
-ghost use Rattle.build.specs.Given.{BuildGiven};
+ghost use Rattle.scheduler.specs.Loaded.{RunIn};
 ghost use Rattle.build.specs.Build.{countsOf, ranWith, buildOf, builtOf, Claimed};
 use numbers::units8;
 use numbers::wide8;
-use plan::flat::Found;
+use plan::reader::Found;
 use plan::reader::read_into;
 use plan::refusal::Refusal;
+use plan::sheet::PLACES;
+use plan::sheet::Sheet;
 use plan_measure::measure_read;
 use scheduler::run::Ran;
 use scheduler::run::run_read;
@@ -32,39 +34,32 @@ pub enum Built {
     Counted(Counts),
 }
 
-// Runs the plan that the arrays hold and measures it.
-fn build_read<'a>(
+// Runs the plan that the array holds and measures it. `missing` has how many joins enter each action.
+fn build_read(
     jobs: usize,
     actions: usize,
     workers: u32,
     choices: &[u8],
-    frame: &'a [u16; 256],
-    first: &'a [u16; 257],
-    spawn: &'a [u16; 2048],
-    join: &'a [u16; 2048],
-    parent: &'a [u8; 256],
+    plan: &Sheet,
     missing: &mut [u8; 2048],
 ) -> Built
-    requires { ⌜ Some (BuildGiven jobs actions (now frame) (now first) (now spawn) (now join) (now parent) (now missing)) ⌝ }
-    ensures { λ r. ⌜ BuildGiven jobs actions (before frame) (before first) (before spawn) (before join) (before parent) (before missing)
+    requires { ⌜ Some (RunIn jobs actions (now plan) (now missing)) ⌝ }
+    ensures { λ r. ⌜ RunIn jobs actions (before plan) (before missing)
         ⇒ (λ p. builtOf r ≡ countsOf (accepted p) (admitted (accepted p) workers (before choices))) ⌝ }
 {
     let mut schedule = [0u8; 4100];
     match run_read(
+        jobs,
         actions,
         workers,
         choices,
         &mut schedule,
-        frame,
-        first,
-        spawn,
-        join,
-        parent,
+        plan,
         missing,
     ) {
         Ran::Refused(cause) => Built::Refused(cause),
         Ran::Done(t) => {
-            let m = measure_read(jobs, actions, frame, first, spawn, join, parent);
+            let m = measure_read(jobs, actions, plan);
             Built::Counted(Counts {
                 rounds: t.rounds,
                 actions: t.actions,
@@ -84,36 +79,16 @@ fn build_read<'a>(
 fn build_plan(workers: u32, choices: &[u8], plan: &[u8]) -> Built
     ensures { λ r. ⌜ builtOf r ≡ ranWith (before plan) workers (before choices) ⌝ }
 {
-    let mut frame = [0u16; 256];
-    let mut first = [0u16; 257];
-    let mut job = [0u8; 2048];
-    let mut spawn = [0u16; 2048];
-    let mut join = [0u16; 2048];
-    let mut parent = [0u8; 256];
-    let mut position = [255u8; 256];
+    let mut sheet = [0u16; PLACES];
     let mut entering = [0u8; 2048];
-    match read_into(
-        plan,
-        &mut frame,
-        &mut first,
-        &mut job,
-        &mut spawn,
-        &mut join,
-        &mut parent,
-        &mut position,
-        &mut entering,
-    ) {
+    match read_into(plan, &mut sheet, &mut entering) {
         Found::Refused(cause) => Built::Refused(cause),
         Found::Plan { jobs, actions } => build_read(
             jobs,
             actions,
             workers,
             choices,
-            &frame,
-            &first,
-            &spawn,
-            &join,
-            &parent,
+            &sheet,
             &mut entering,
         ),
     }

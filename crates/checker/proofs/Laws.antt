@@ -3,6 +3,8 @@ pub mod Header
 pub mod RowBytes
 pub mod Form
 pub mod Keeping
-pub mod Following
+pub mod Chains
 pub mod Buckets
+pub mod Senders
+pub mod Following
 pub mod Judging

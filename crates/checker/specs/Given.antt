@@ -1,21 +1,31 @@
 -- What the test of a schedule's rules is given. Private functions alone cite it.
---   RulesGiven p rows .. == the bytes hold the rows of a schedule for the plan p, and the arrays hold the plan
+--   Task                        == a plan and the rows of a schedule for it
+--   Tasked schedule plan t      == the bytes hold the rows and the array holds the plan
+--   ActionGiven k schedule plan t == besides, k is the place of an action
+--   RulesGiven workers actions schedule plan t == besides, there are so many actions, and at least one worker
 use Prim.Native.Nat.{ℕ, _≤_, _<_}
 use mathlib.Core.Path.{_≡_}
 use mathlib.Core.List.{List}
-use lib.ListN.{length, getD}
-use Rattle.plan.specs.Plan.{Plan, total, parent}
-use Rattle.plan.specs.Rules.{Accepted}
-use Rattle.plan.specs.Flat.{Firsts, Spawns, Joins}
+use lib.ListN.{length}
+use Rattle.plan.specs.Plan.{Plan, total}
+use Rattle.plan.specs.Sheet.{Planned}
 use Rattle.courses.specs.Row.{Row}
 use Rattle.checker.specs.Rows.{RowsAt}
 
-pub record RulesGiven (p : Plan) (rows : List Row) (jobs : ℕ) (schedule firstOf spawnOf joinOf parentOf : List ℕ) : Type 0 where
-  pub plan : Accepted p
-  pub count : jobs ≡ length p
-  pub bytes : RowsAt rows schedule
-  pub all : length rows ≡ total p
-  pub firsts : Firsts p firstOf
-  pub spawns : Spawns p spawnOf
-  pub joins : Joins p joinOf
-  pub parents : (c : ℕ) → 1 ≤ c → c < length p → getD parentOf c 0 ≡ parent p c
+pub record Task : Type 0 where
+  pub plan : Plan
+  pub rows : List Row
+
+pub record Tasked (schedule plan : List ℕ) (t : Task) : Type 0 where
+  pub planned : Planned plan (t .plan)
+  pub bytes : RowsAt (t .rows) schedule
+  pub all : length (t .rows) ≡ total (t .plan)
+
+pub record ActionGiven (k : ℕ) (schedule plan : List ℕ) (t : Task) : Type 0 where
+  pub within : k < total (t .plan)
+  pub tasked : Tasked schedule plan t
+
+pub record RulesGiven (workers actions : ℕ) (schedule plan : List ℕ) (t : Task) : Type 0 where
+  pub some : 1 ≤ workers
+  pub count : actions ≡ total (t .plan)
+  pub tasked : Tasked schedule plan t

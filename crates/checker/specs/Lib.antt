@@ -3,4 +3,6 @@ pub mod Answer
 pub mod Rows
 pub mod Formed
 pub mod Given
+pub mod Chains
+pub mod Senders
 pub mod Judging

@@ -3,6 +3,7 @@
 ghost use mathlib.Core.Path.{_≡_};
 ghost use Prim.Native.Nat.{_+_, _*_, _≤_};
 ghost use lib.ListN.{length};
+ghost use Rattle.plan.specs.Contract.{before};
 ghost use Rattle.checker.specs.Formed.{Formed, Headed, RoundsTold};
 use fields::field::Field;
 use fields::field::cut;
@@ -10,7 +11,7 @@ use numbers::wide8;
 
 // The worker count of a header for so many actions, or 0 where the header is not well formed: a worker count of 0 is not.
 fn header(schedule: &[u8], actions: usize) -> usize
-    ensures { λ r. ⌜ Headed (now (schedule .entry)) actions r ⌝ }
+    ensures { λ r. ⌜ Headed (before schedule) actions r ⌝ }
 {
     let Field::Cut {
         value: form,
@@ -55,7 +56,7 @@ fn header(schedule: &[u8], actions: usize) -> usize
 // No row has a round of 0. A row is two bytes, and its round is all but the last four bits of them.
 fn rounds_given(schedule: &[u8], actions: usize) -> bool
     requires { ⌜ (actions ≤ 2048) × (length (now schedule) ≡ 4 + 2 * actions) ⌝ }
-    ensures { λ r. ⌜ RoundsTold (now (schedule .entry)) actions r ⌝ }
+    ensures { λ r. ⌜ RoundsTold (before schedule) actions r ⌝ }
 {
     let mut k = 0;
     while k < actions {
@@ -71,7 +72,7 @@ fn rounds_given(schedule: &[u8], actions: usize) -> bool
 // The schedule's worker count where it is well formed for so many actions, or 0.
 pub fn form(schedule: &[u8], actions: usize) -> usize
     requires { ⌜ actions ≤ 2048 ⌝ }
-    ensures { λ r. ⌜ Formed (now (schedule .entry)) actions r ⌝ }
+    ensures { λ r. ⌜ Formed (before schedule) actions r ⌝ }
 {
     if schedule.len() != 4 + 2 * actions {
         return 0;

@@ -4,13 +4,15 @@ ghost use mathlib.Core.Path.{_≡_};
 ghost use Rattle.courses.specs.Schedule.{checked};
 ghost use Rattle.checker.specs.Answer.{judgedOf};
 use form::form;
-use plan::flat::Found;
+use plan::reader::Found;
 use plan::reader::read_into;
 use plan::refusal::Refusal;
+use plan::sheet::PLACES;
 use rules::rules_kept;
 
 mod form;
 mod rules;
+mod senders;
 
 pub enum Judged {
     Refused(Refusal),
@@ -22,32 +24,16 @@ pub enum Judged {
 pub fn check(plan: &[u8], schedule: &[u8]) -> Judged
     ensures { λ r. ⌜ judgedOf r ≡ checked (now (plan .entry)) (now (schedule .entry)) ⌝ }
 {
-    let mut frame = [0u16; 256];
-    let mut first = [0u16; 257];
-    let mut job = [0u8; 2048];
-    let mut spawn = [0u16; 2048];
-    let mut join = [0u16; 2048];
-    let mut parent = [0u8; 256];
-    let mut position = [255u8; 256];
+    let mut sheet = [0u16; PLACES];
     let mut entering = [0u8; 2048];
-    match read_into(
-        plan,
-        &mut frame,
-        &mut first,
-        &mut job,
-        &mut spawn,
-        &mut join,
-        &mut parent,
-        &mut position,
-        &mut entering,
-    ) {
+    match read_into(plan, &mut sheet, &mut entering) {
         Found::Refused(cause) => Judged::Refused(cause),
-        Found::Plan { jobs, actions } => {
+        Found::Plan { actions, .. } => {
             let workers = form(schedule, actions);
             if workers == 0 {
                 return Judged::Refused(Refusal::Schedule);
             }
-            if rules_kept(schedule, workers, jobs, &first, &spawn, &join, &parent) {
+            if rules_kept(schedule, workers, actions, &sheet) {
                 Judged::Accepted
             } else {
                 Judged::Refused(Refusal::Rule)

@@ -1,10 +1,10 @@
 // Bit fields, most significant bit first (document 01, "Plan"): one reader and one writer for every width up to 24 bits.
 ghost use mathlib.Core.Path.{_≡_};
-ghost use Prim.Native.Nat.{_+_, _*_, _/_, _^_, _≤_, _<_};
-ghost use mathlib.Core.List.{[]};
-ghost use lib.ListN.{length, take, drop};
-ghost use Rattle.fields.specs.Field.{fieldAt, stepOf, bitsOf, number};
-ghost use Rattle.fields.specs.FieldParts.{windowOf, Loose};
+ghost use Prim.Native.Nat.{ℕ, _+_, _*_, _-_, _/_, _^_, _≤_, _<_};
+ghost use mathlib.Core.List.{List, []};
+ghost use lib.ListN.{length, getD, drop};
+ghost use Rattle.fields.specs.Field.{fieldAt, stepOf, bitsOf};
+ghost use Rattle.fields.specs.FieldParts.{Windowed, Loose};
 ghost use Rattle.fields.specs.Sink.{Sound, Room, Put, Done};
 use numbers::long8;
 
@@ -14,53 +14,94 @@ pub enum Field {
     Cut { value: u32, next: usize },
 }
 
-// 2^k, worked out and not looked up: where this runs there may be little read-only memory (document 02, L4).
-fn power(k: usize) -> u64
-    requires { ⌜ k ≤ 32 ⌝ }
-    ensures { λ r. ⌜ r ≡ 2 ^ k ⌝ }
-{
-    1 << k
+// The four bytes from some byte on as one number, with zeros for those behind the end, and how many of their bits are there.
+pub struct Window {
+    pub bits: u64,
+    pub held: usize,
 }
 
-// The bytes from byte i on that hold the first `bits` bits there, at the top of 32.
-fn window(s: &[u8], i: usize, bits: usize) -> u64
-    requires { ⌜ (i < 4294967296) × (bits ≤ 32) × (8 * i + bits ≤ 8 * length (now s)) ⌝ }
-    ensures { λ r. ⌜ (r ≡ number (windowOf (take ((bits + 7) / 8) (drop i (now (s .entry)))))) × (r < 4294967296) ⌝ }
+// Four bytes as one number.
+fn joined(a: u64, b: u64, c: u64, d: u64) -> u64
+    requires { ⌜ (a < 256) × (b < 256) × (c < 256) × (d < 256) ⌝ }
+    ensures { λ r. ⌜ r ≡ a * 16777216 + b * 65536 + c * 256 + d ⌝ }
 {
-    if bits == 0 {
-        return 0;
-    }
-    let a = long8(s[i]) * 16777216;
-    if bits <= 8 {
-        return a;
-    }
-    let b = a + long8(s[i + 1]) * 65536;
-    if bits <= 16 {
-        return b;
-    }
-    let c = b + long8(s[i + 2]) * 256;
-    if bits <= 24 {
-        return c;
-    }
-    c + long8(s[i + 3])
+    a * 16777216 + b * 65536 + c * 256 + d
 }
 
-// The field of `width` bits at place `at`, counted in bits. The field is cut out of the whole bytes that it lies in: what stands
-// before it is shifted out to the left, and what stands behind it is shifted out to the right, both by a product with a power
-// of two.
+// Byte i, or 0 behind the end.
+fn byte_or_0(s: &[u8], i: usize) -> u64
+    ensures { λ r. ⌜ (r ≡ getD (now (s .entry)) i 0) × (r < 256) ⌝ }
+{
+    if i < s.len() { long8(s[i]) } else { 0 }
+}
+
+// How many bits there are from byte i on, where less than a window is left.
+fn bits_left(s: &[u8], i: usize) -> usize
+    requires { ⌜ length (now s) < i + 4 ⌝ }
+    ensures { λ r. ⌜ r ≡ 8 * (length (now (s .entry)) - i) ⌝ }
+{
+    if s.len() < i { 0 } else { 8 * (s.len() - i) }
+}
+
+// The window from byte i on.
+pub fn window_at(s: &[u8], i: usize) -> Window
+    requires { ⌜ i < 4294967296 ⌝ }
+    ensures { λ r. ⌜ Windowed r (drop i (now (s .entry))) ⌝ }
+{
+    if i + 4 <= s.len() {
+        return Window {
+            bits: joined(
+                long8(s[i]),
+                long8(s[i + 1]),
+                long8(s[i + 2]),
+                long8(s[i + 3]),
+            ),
+            held: 32,
+        };
+    }
+    Window {
+        bits: joined(
+            byte_or_0(s, i),
+            byte_or_0(s, i + 1),
+            byte_or_0(s, i + 2),
+            byte_or_0(s, i + 3),
+        ),
+        held: bits_left(s, i),
+    }
+}
+
+// The field of `width` bits at bit `at` of a window: what stands before it is shifted out to the left, and what stands behind it
+// to the right.
+pub fn cut_in(w: Window, at: usize, width: usize) -> Field
+    requires { ⌜ at + width ≤ 32 ⌝ }
+    ensures { λ r. ⌜ ((t : List ℕ) → Windowed w t → stepOf r ≡ fieldAt t width at) ⌝ }
+{
+    let next = at + width;
+    if w.held < next {
+        return Field::RanOut;
+    }
+    let value = (w.bits << at) % 4294967296 >> (32 - width);
+    Field::Cut {
+        value: value as u32,
+        next,
+    }
+}
+
+// The field of `width` bits at place `at`, counted in bits.
 pub fn cut(s: &[u8], at: usize, width: usize) -> Field
     requires { ⌜ (at < 4294967296) × (width ≤ 24) ⌝ }
     ensures { λ r. ⌜ stepOf r ≡ fieldAt (now (s .entry)) width at ⌝ }
 {
-    if s.len() < (at + width + 7) / 8 {
+    let i = at / 8;
+    if s.len() < i {
         return Field::RanOut;
     }
-    let skip = at % 8;
-    let from_field = window(s, at / 8, skip + width) * power(skip) % 4294967296;
-    let value = from_field * power(width) / 4294967296;
+    let Field::Cut { value, next } = cut_in(window_at(s, i), at % 8, width) else {
+        return Field::RanOut;
+    };
     Field::Cut {
-        value: value as u32,
-        next: at + width,
+        value,
+        next: 8 * i + next,
     }
 }
 
@@ -94,6 +135,14 @@ fn flush(out: &mut [u8], sink: Sink) -> Sink
         bits -= 8;
     }
     Sink { bytes, held, bits }
+}
+
+// 2^k, worked out and not looked up: where this runs there may be little read-only memory (document 02, L4).
+fn power(k: usize) -> u64
+    requires { ⌜ k ≤ 32 ⌝ }
+    ensures { λ r. ⌜ r ≡ 2 ^ k ⌝ }
+{
+    1 << k
 }
 
 // Writes one field of `width` bits behind what is written.

@@ -4,12 +4,14 @@ pub mod Counts
 pub mod Placed
 pub mod Spawning
 pub mod Valid
+pub mod Listing
+pub mod Noting
 pub mod Recording
 pub mod Joining
 pub mod Steps
-pub mod Written
+pub mod Sheets
+pub mod Action
 pub mod Accepted
-pub mod Blank
 pub mod Found
 pub mod Outcomes
 pub mod Fits

@@ -1,68 +1,83 @@
--- What the loops over the flat arrays keep from action to action. Private functions alone cite this file.
---   spawning c a     == the action spawns job c
---   Recorded p k ..  == the first k actions keep the rules of their own spawns, and the arrays hold what they spawn:
---                       a position of 255 marks a job that none of them spawns
---   SpawnAt jobs k .. p, SpawnsFrom jobs actions .. p == so it is before action k, and before the first one, of arrays that hold p
---   SpawnTold k r .. p == the answer r tells whether the first k actions keep those rules, or the spawn rules are broken
---   AllTold jobs l r == the answer r tells whether every job but 0 has a position other than 255
---   Counted p k l    == the first k actions keep the rules of their own joins, and the array holds how many of their joins
---                       enter each action: at most 8
---   JoinAt k .. p, JoinsFrom actions .. p == so it is before action k, and before the first one, of arrays that hold p
---   JoinTold k r l p == the answer r tells whether the first k actions keep those rules, or the join rules are broken
-use Prim.Native.Nat.{ℕ, suc, _+_, _≤_, _<_}
+-- What the loops over a plan's array keep from action to action. Private functions alone cite this file.
+--   spawning c a      == the action spawns job c
+--   Recorded k plan p == the array has the jobs and actions of p, of which the first k keep the rules of their own spawns, and what
+--                        these spawn: a job with no spawn noted is one that none of them spawns
+--   SpawnAt jobs k plan p == so it is before action k of p, which spawns a job; p has so many jobs
+--   SpawnTold k r plan p == the answer r tells whether the first k actions keep those rules, or the spawn rules are broken
+--   AllTold jobs plan r  == the answer r tells whether every job but 0 has a spawn noted
+--   Counted k l p     == the first k actions keep the rules of their own joins, and the array l holds how many of their joins enter
+--                        each action: at most 8
+--   Ready plan p      == the array has the jobs and actions of p, which keeps the spawn rules, and its spawns
+--   JoinAt k plan l p, JoinsFrom actions plan l p == so it is before action k of p, which sends a join, and before the first one
+--                        of so many
+--   JoinTold k r l p  == the answer r tells whether the first k actions keep those rules, or the join rules are broken
+--   LastsIn jobs plan p == the array has the jobs and actions of p, which has so many jobs
+--   LastsTold jobs plan r == the answer r tells whether the last action of every job but 0 sends a join
+use Prim.Native.Nat.{ℕ, suc, _+_, _-_, _≤_, _<_}
 use mathlib.Core.Path.{_≡_}
 use mathlib.Core.Bool.{Bool}
 use mathlib.Core.List.{List}
 use lib.ListN.{length, getD, take}
 use lib.Dec.{T, eqb}
-use Rattle.plan.specs.Test.{both, count}
+use Rattle.plan.specs.Test.{count}
 use Rattle.plan.specs.Plan.{Plan, Placed, size, total, placed, noPlaced, parent, spawnAt, enters}
-use Rattle.plan.specs.Given.{SpawnsGiven, JoinsGiven}
-use Rattle.plan.specs.Rules.{spawnFits, spawnRules, joinFits, lastSends, joinRules}
+use Rattle.plan.specs.Rules.{spawnFits, spawnRules, joinFits, joinRules}
+use Rattle.plan.specs.Sheet.{childAt, targetAt, firstAt, parentAt, spawnedAt, Laid, Spawned}
 
 abbrev pub spawning : ℕ → Placed → Bool
 spawning c a = eqb (a .spawn) (suc c)
 
-pub record Recorded (p : Plan) (k : ℕ) (parents positions : List ℕ) : Type 0 where
-  pub long : (length p ≤ length parents) × (length p ≤ length positions)
+pub record Recorded (k : ℕ) (plan : List ℕ) (p : Plan) : Type 0 where
+  pub laid : Laid plan p
   pub fits : (i : ℕ) → i < k → T (spawnFits (length p) (getD (placed p) i noPlaced))
-  pub none : (c : ℕ) → c < length p → getD positions c 0 ≡ 255 → count (spawning c) (take k (placed p)) ≡ 0
-  pub once : (c : ℕ) → c < length p → (getD positions c 0 ≡ 255 → ⊥)
-      → (count (spawning c) (take k (placed p)) ≡ 1) × (getD parents c 0 ≡ parent p c) × (getD positions c 0 ≡ spawnAt p c)
+  pub none : (c : ℕ) → c < length p → spawnedAt plan c ≡ 0 → count (spawning c) (take k (placed p)) ≡ 0
+  pub once : (c : ℕ) → c < length p → (spawnedAt plan c ≡ 0 → ⊥)
+      → (count (spawning c) (take k (placed p)) ≡ 1) × (parentAt plan c ≡ parent p c) × (spawnedAt plan c ≡ suc (spawnAt p c))
 
-pub record SpawnAt (jobs k : ℕ) (first job spawn parents positions : List ℕ) (p : Plan) : Type 0 where
-  pub given : SpawnsGiven jobs (total p) first job spawn p
+pub record SpawnAt (jobs k : ℕ) (plan : List ℕ) (p : Plan) : Type 0 where
+  pub count : jobs ≡ length p
   pub here : k < total p
-  pub recorded : Recorded p k parents positions
+  pub spawns : childAt plan k ≡ 0 → ⊥
+  pub recorded : Recorded k plan p
 
-pub record SpawnsFrom (jobs actions : ℕ) (first job spawn parents positions : List ℕ) (p : Plan) : Type 0 where
-  pub given : SpawnsGiven jobs actions first job spawn p
-  pub recorded : Recorded p 0 parents positions
-
-pub record SpawnTold (k : ℕ) (r : Bool) (parents positions : List ℕ) (p : Plan) : Type 0 where
-  pub kept : T r → Recorded p k parents positions
+pub record SpawnTold (k : ℕ) (r : Bool) (plan : List ℕ) (p : Plan) : Type 0 where
+  pub kept : T r → Recorded k plan p
   pub broken : (T r → ⊥) → T (spawnRules p) → ⊥
 
-pub record AllTold (jobs : ℕ) (positions : List ℕ) (r : Bool) : Type 0 where
-  pub kept : T r → (c : ℕ) → 1 ≤ c → c < jobs → getD positions c 0 ≡ 255 → ⊥
-  pub broken : (T r → ⊥) → (c : ℕ) × (1 ≤ c) × (c < jobs) × (getD positions c 0 ≡ 255)
+pub record AllTold (jobs : ℕ) (plan : List ℕ) (r : Bool) : Type 0 where
+  pub kept : T r → (c : ℕ) → 1 ≤ c → c < jobs → spawnedAt plan c ≡ 0 → ⊥
+  pub broken : (T r → ⊥) → (c : ℕ) × (1 ≤ c) × (c < jobs) × (spawnedAt plan c ≡ 0)
 
-pub record Counted (p : Plan) (k : ℕ) (l : List ℕ) : Type 0 where
-  pub long : total p ≤ length l
-  pub whole : length l ≡ 2048
-  pub fits : (i : ℕ) → i < k → T (both (joinFits p (getD (placed p) i noPlaced)) (lastSends p (getD (placed p) i noPlaced)))
+pub record Counted (k : ℕ) (l : List ℕ) (p : Plan) : Type 0 where
+  pub long : length l ≡ 2048
+  pub fits : (i : ℕ) → i < k → T (joinFits p (getD (placed p) i noPlaced))
   pub counts : (q t : ℕ) → q < length p → t < size p q → getD l (total (take q p) + t) 0 ≡ count (enters p q t) (take k (placed p))
   pub few : (q t : ℕ) → q < length p → t < size p q → getD l (total (take q p) + t) 0 ≤ 8
 
-pub record JoinAt (k : ℕ) (first job spawn join parents positions entering : List ℕ) (p : Plan) : Type 0 where
-  pub given : JoinsGiven (total p) first job spawn join parents positions p
-  pub here : k < total p
-  pub counted : Counted p k entering
+pub record Ready (plan : List ℕ) (p : Plan) : Type 0 where
+  pub laid : Laid plan p
+  pub rules : T (spawnRules p)
+  pub spawned : Spawned plan p
 
-pub record JoinsFrom (actions : ℕ) (first job spawn join parents positions entering : List ℕ) (p : Plan) : Type 0 where
-  pub given : JoinsGiven actions first job spawn join parents positions p
-  pub counted : Counted p 0 entering
+pub record JoinAt (k : ℕ) (plan l : List ℕ) (p : Plan) : Type 0 where
+  pub given : Ready plan p
+  pub here : k < total p
+  pub sends : targetAt plan k ≡ 0 → ⊥
+  pub counted : Counted k l p
+
+pub record JoinsFrom (actions : ℕ) (plan l : List ℕ) (p : Plan) : Type 0 where
+  pub given : Ready plan p
+  pub all : actions ≡ total p
+  pub counted : Counted 0 l p
 
 pub record JoinTold (k : ℕ) (r : Bool) (l : List ℕ) (p : Plan) : Type 0 where
-  pub kept : T r → Counted p k l
+  pub kept : T r → Counted k l p
   pub broken : (T r → ⊥) → T (joinRules p) → ⊥
+
+pub record LastsIn (jobs : ℕ) (plan : List ℕ) (p : Plan) : Type 0 where
+  pub count : jobs ≡ length p
+  pub laid : Laid plan p
+
+pub record LastsTold (jobs : ℕ) (plan : List ℕ) (r : Bool) : Type 0 where
+  pub kept : T r → (j : ℕ) → 1 ≤ j → j < jobs → targetAt plan (firstAt plan (j + 1) - 1) ≡ 0 → ⊥
+  pub broken : (T r → ⊥) → (j : ℕ) × (1 ≤ j) × (j < jobs) × (targetAt plan (firstAt plan (j + 1) - 1) ≡ 0)

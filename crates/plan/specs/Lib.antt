@@ -5,7 +5,10 @@ pub mod Plan
 pub mod Rules
 pub mod Reader
 pub mod Contract
-pub mod Flat
-pub mod Given
+pub mod Sheet
+pub mod Entering
+pub mod Found
 pub mod Progress
+pub mod Action
+pub mod Listed
 pub mod Kept

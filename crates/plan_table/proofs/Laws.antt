@@ -3,5 +3,6 @@ pub mod OpenTable
 pub mod RoundTrip
 pub mod Rows
 pub mod RowRules
+pub mod RowsInRange
 pub mod TakeRows
 pub mod Answers

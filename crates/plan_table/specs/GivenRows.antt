@@ -1,33 +1,40 @@
 -- What private functions that take rows over and write rows are given and answer. No public entry cites these.
---   RowsGiven .. p   == the arrays that the rows are written from hold the plan p
---   rowAt t at       == the row whose four numbers stand at `at` of the table t
---   fitsAt t at      == that row has small numbers and may stand where it stands: first, or below the row before it
---   TakeGiven t ..   == the table t keeps its row rules, and the arrays are ready to take its rows
---   Taken rows r ..  == what taking rows over into the arrays answers: they hold the rows' plan, or a number is out of range
-use Prim.Native.Nat.{ℕ, _+_, _-_, _*_, _≤_}
+--   RowsGiven actions plan p == the array has the jobs and actions of the plan p, so many actions in all
+--   rowOn plan k       == the row of the action at place k, by the array
+--   withRow t at a     == the table t with the four numbers of the row a at `at`
+--   rowAt t at         == the row whose four numbers stand at `at` of the table t
+--   fitsAt t at        == that row has small numbers and may stand where it stands: first, or below the row before it
+--   TableKept t        == the table t has whole rows and keeps its row rules
+--   RowFits p a k      == the row a, at place k of the plan p, has its numbers and its place in its job in range
+--   begun t k          == how many jobs the first k rows of the table t begin
+--   RowsTaken t k plan == the table t is kept and not too long, those rows fit, and the array has of their plan what they tell
+--   RowTaken t k r plan == what taking over row k, behind those, answers: so it is with row k, or a number is out of range
+--   Taken rows r plan  == what taking all rows over answers: the array has their plan, or a number is out of range
+use Prim.Native.Nat.{ℕ, zero, suc, _+_, _-_, _*_, _/_, _%_, _≤_, _<_}
 use mathlib.Core.Path.{_≡_}
 use mathlib.Core.Bool.{Bool, true, false}
 use mathlib.Core.List.{List}
-use lib.ListN.{length, getD}
+use lib.ListN.{length, getD, take, set}
 use lib.Dec.{T, eqb}
-use Rattle.plan.specs.declared.refusal.Refusal.{Refusal}
 use Rattle.plan.specs.declared.refusal.Refusal.the-variants.{Range}
 use Rattle.plan_table.specs.declared.rows.Jobs.{Jobs as Counted}
 use Rattle.plan_table.specs.declared.rows.Jobs.the-variants.{Refused, Count}
-use Rattle.plan.specs.Plan.{Plan, total}
+use Rattle.plan.specs.Plan.{Plan, job, total}
 use Rattle.plan.specs.Rules.{inRange}
 use Rattle.plan.specs.Test.{both}
+use Rattle.plan.specs.Sheet.{childAt, targetAt, frameAt, firstAt, spawnedAt, jobAt, Laid, LaidIn}
 use Rattle.plan_table.specs.Table.{Row, rowsOf, small, goesOn, rowRules, planOf}
-use Rattle.plan.specs.Flat.{Frames, Jobs, Spawns, Joins}
-use Rattle.plan_writer.specs.Given.{WriterGiven}
 
-pub record RowsGiven (actions : ℕ) (frame job spawn join : List ℕ) (p : Plan) : Type 0 where
-  pub few : total p ≤ 2048
+pub record RowsGiven (actions : ℕ) (plan : List ℕ) (p : Plan) : Type 0 where
   pub all : actions ≡ total p
-  pub frames : Frames p frame
-  pub owners : Jobs p job
-  pub spawns : Spawns p spawn
-  pub joins : Joins p join
+  pub laid : Laid plan p
+
+abbrev pub rowOn : List ℕ → ℕ → Row
+rowOn plan k =
+    record { job = jobAt plan k; frame = frameAt plan (jobAt plan k); spawn = childAt plan k; join = targetAt plan k }
+
+abbrev pub withRow : List ℕ → ℕ → Row → List ℕ
+withRow t at a = set (set (set (set t at (a .job)) (at + 1) (a .frame)) (at + 2) (a .spawn)) (at + 3) (a .join)
 
 abbrev pub rowAt : List ℕ → ℕ → Row
 rowAt t at = record { job = getD t at 0; frame = getD t (at + 1) 0; spawn = getD t (at + 2) 0; join = getD t (at + 3) 0 }
@@ -36,19 +43,37 @@ unfoldable pub fitsAt : List ℕ → ℕ → Bool
 fitsAt t at =
     both (small (rowAt t at)) (elim (eqb at 0) [ true ↦ eqb (getD t at 0) 0 | false ↦ goesOn (rowAt t (at - 4)) (rowAt t at) ])
 
-pub record TakeGiven (table : List ℕ) (rows : ℕ) (frame first job spawn join : List ℕ) : Type 0 where
-  pub whole : length table ≡ 4 * rows
-  pub few : rows ≤ 2048
-  pub rules : T (rowRules (rowsOf table))
-  pub frames : length frame ≡ 256
-  pub firsts : length first ≡ 257
-  pub owners : length job ≡ 2048
-  pub spawns : length spawn ≡ 2048
-  pub joins : length join ≡ 2048
-  pub begins : getD first 0 0 ≡ 0
-  pub children : (k : ℕ) → getD spawn k 0 ≤ 256
-  pub targets : (k : ℕ) → getD join k 0 ≤ 256
+pub record TableKept (t : List ℕ) : Type 0 where
+  pub whole : length t % 4 ≡ 0
+  pub rules : T (rowRules (rowsOf t))
 
-abbrev pub Taken : List Row → Counted → List ℕ → List ℕ → List ℕ → List ℕ → List ℕ → Type 0
-Taken rows (Refused cause) frame first job spawn join = (cause ≡ Range) × (inRange (planOf rows) ≡ false)
-Taken rows (Count n) frame first job spawn join = WriterGiven n (length rows) frame first job spawn join (planOf rows)
+pub record RowFits (p : Plan) (a : Row) (k : ℕ) : Type 0 where
+  pub some : 1 ≤ a .frame
+  pub word : a .frame ≤ 65535
+  pub few : a .job < 256
+  pub short : k < total (take (a .job) p) + 255
+
+abbrev pub begun : List ℕ → ℕ → ℕ
+begun t zero = 0
+begun t (suc k) = suc (rowAt t (4 * k) .job)
+
+pub record RowsTaken (t : List ℕ) (k : ℕ) (plan : List ℕ) : Type 0 where
+  pub kept : TableKept t
+  pub few : length t / 4 ≤ 2048
+  pub long : length plan ≡ 9217
+  pub fit : (i : ℕ) → i < k → RowFits (planOf (rowsOf t)) (rowAt t (4 * i)) i
+  pub frames : (j : ℕ) → j < begun t k → frameAt plan j ≡ job (planOf (rowsOf t)) j .frame
+  pub firsts : (j : ℕ) → j < begun t k → firstAt plan j ≡ total (take j (planOf (rowsOf t)))
+  pub end : firstAt plan (begun t k) ≡ k
+  pub owners : (i : ℕ) → i < k → jobAt plan i ≡ rowAt t (4 * i) .job
+  pub children : (i : ℕ) → i < k → childAt plan i ≡ rowAt t (4 * i) .spawn
+  pub targets : (i : ℕ) → i < k → targetAt plan i ≡ rowAt t (4 * i) .join
+  pub unspawned : (c : ℕ) → c < 256 → spawnedAt plan c ≡ 0
+
+abbrev pub RowTaken : List ℕ → ℕ → Bool → List ℕ → Type 0
+RowTaken t k true plan = RowsTaken t (suc k) plan
+RowTaken t k false plan = inRange (planOf (rowsOf t)) ≡ false
+
+abbrev pub Taken : List Row → Counted → List ℕ → Type 0
+Taken rows (Refused cause) plan = (cause ≡ Range) × (inRange (planOf rows) ≡ false)
+Taken rows (Count n) plan = LaidIn n (length rows) plan (planOf rows)

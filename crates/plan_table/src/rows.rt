@@ -1,41 +1,47 @@
-// The rows of an open table (document 01, "Plan"): their rules, and from rows to flat arrays and back.
+// The rows of an open table (document 01, "Plan"): their rules, and from rows to a plan and back.
 ghost use mathlib.Core.Path.{_≡_};
-ghost use Prim.Native.Nat.{_+_, _*_, _%_, _≤_};
+ghost use Prim.Native.Nat.{_+_, _*_, _/_, _%_, _≤_, _<_};
 ghost use mathlib.Core.List.{_++_};
 ghost use lib.ListN.{length, drop};
 ghost use lib.Dec.{eqb};
 ghost use Rattle.plan.specs.Test.{both};
 ghost use Rattle.plan.specs.Contract.{Some, _⇒_, before, after};
+ghost use Rattle.plan.specs.Sheet.{jobAt, Blank};
 ghost use Rattle.plan_table.specs.Table.{tableOf, rowRules, rowsOf};
-ghost use Rattle.plan_table.specs.GivenRows.{RowsGiven, fitsAt, TakeGiven, Taken};
-use numbers::double8;
-use numbers::wide8;
+ghost use Rattle.plan_table.specs.GivenRows.{RowsGiven, rowOn, withRow, fitsAt, TableKept, RowsTaken, RowTaken, Taken};
 use numbers::wide16;
 use plan::refusal::Refusal;
+use plan::sheet::Sheet;
+use plan::sheet::child_at;
+use plan::sheet::first_of;
+use plan::sheet::frame_of;
+use plan::sheet::job_at;
+use plan::sheet::set_action;
+use plan::sheet::set_first;
+use plan::sheet::set_frame;
+use plan::sheet::target_at;
+
+// Writes the row of the action at place k.
+fn write_row(k: usize, plan: &Sheet, rows: &mut [u16])
+    requires { ⌜ (k < 2048) × (jobAt (now plan) k < 256) × (4 * k + 4 ≤ length (now rows)) ⌝ }
+    ensures { λ _. ⌜ after rows ≡ withRow (before rows) (4 * k) (rowOn (before plan) k) ⌝ }
+{
+    let at = 4 * k;
+    let j = job_at(plan, k);
+    rows[at] = j as u16;
+    rows[at + 1] = frame_of(plan, j) as u16;
+    rows[at + 2] = child_at(plan, k) as u16;
+    rows[at + 3] = target_at(plan, k) as u16;
+}
 
 // Writes the rows of the actions, in plan order.
-pub fn write_rows<'a>(
-    actions: usize,
-    frame: &'a [u16; 256],
-    job: &'a [u8; 2048],
-    spawn: &'a [u16; 2048],
-    join: &'a [u16; 2048],
-    rows: &mut [u16],
-)
-    requires { ⌜ Some (RowsGiven actions (now frame) (now job) (now spawn) (now join)) ⌝ }
-    requires { ⌜ 4 * actions ≤ length (now rows) ⌝ }
-    ensures { λ r. ⌜ RowsGiven actions (before frame) (before job) (before spawn) (before join)
-        ⇒ (λ p. after rows ≡ tableOf p ++ drop (4 * actions) (before rows)) ⌝ }
+pub fn write_rows(actions: usize, plan: &Sheet, rows: &mut [u16])
+    requires { ⌜ Some (RowsGiven actions (now plan)) × (4 * actions ≤ length (now rows)) ⌝ }
+    ensures { λ _. ⌜ RowsGiven actions (before plan) ⇒ (λ p. after rows ≡ tableOf p ++ drop (4 * actions) (before rows)) ⌝ }
 {
     let mut k = 0;
     while k < actions {
-        let at = 4 * k;
-        let owner = job[k];
-        let j = wide8(owner);
-        rows[at] = double8(owner);
-        rows[at + 1] = frame[j];
-        rows[at + 2] = spawn[k];
-        rows[at + 3] = join[k];
+        write_row(k, plan, rows);
         k += 1;
     }
 }
@@ -91,43 +97,42 @@ pub enum Jobs {
     Count(usize),
 }
 
-// Takes the rows over into the arrays, and tells how many jobs they have. `first` holds the end of the rows taken behind the
-// last job begun, so a row that begins a job finds its own place there.
-pub fn take_rows(
-    table: &[u16],
-    rows: usize,
-    frame: &mut [u16; 256],
-    first: &mut [u16; 257],
-    job: &mut [u8; 2048],
-    spawn: &mut [u16; 2048],
-    join: &mut [u16; 2048],
-) -> Jobs
-    requires { ⌜ TakeGiven (now table) rows (now frame) (now first) (now job) (now spawn) (now join) ⌝ }
-    ensures { λ r. ⌜ Taken (rowsOf (before table)) r (after frame) (after first) (after job) (after spawn) (after join) ⌝ }
+// Takes row k over into the array, if its numbers and its place in its job are in range. Behind the last job begun the array has
+// the end of the rows taken, so a row that begins a job finds its own place there.
+fn take_row(table: &[u16], k: usize, plan: &mut Sheet) -> bool
+    requires { ⌜ (k < length (now table) / 4) × RowsTaken (now table) k (now plan) ⌝ }
+    ensures { λ r. ⌜ RowTaken (before table) k r (after plan) ⌝ }
 {
+    let at = 4 * k;
+    let number = wide16(table[at]);
+    let weight = table[at + 1];
+    if weight == 0 {
+        return false;
+    }
+    if 256 <= number {
+        return false;
+    }
+    if 255 <= k - first_of(plan, number) {
+        return false;
+    }
+    set_frame(plan, number, weight);
+    set_first(plan, number + 1, k + 1);
+    set_action(plan, k, number, table[at + 2], table[at + 3]);
+    true
+}
+
+// Takes the rows over into the array, and tells how many jobs they have.
+pub fn take_rows(table: &[u16], plan: &mut Sheet) -> Jobs
+    requires { ⌜ TableKept (now table) × (length (now table) / 4 ≤ 2048) × Blank (now plan) ⌝ }
+    ensures { λ r. ⌜ Taken (rowsOf (before table)) r (after plan) ⌝ }
+{
+    let rows = table.len() / 4;
     let mut k = 0;
-    let mut jobs = 0;
     while k < rows {
-        let at = 4 * k;
-        let number = wide16(table[at]);
-        let weight = table[at + 1];
-        if weight == 0 {
+        if !take_row(table, k, plan) {
             return Jobs::Refused(Refusal::Range);
         }
-        if 256 <= number {
-            return Jobs::Refused(Refusal::Range);
-        }
-        let begun = wide16(first[number]);
-        if 255 <= k - begun {
-            return Jobs::Refused(Refusal::Range);
-        }
-        frame[number] = weight;
-        first[number + 1] = (k + 1) as u16;
-        job[k] = number as u8;
-        spawn[k] = table[at + 2];
-        join[k] = table[at + 3];
-        jobs = number + 1;
         k += 1;
     }
-    Jobs::Count(jobs)
+    Jobs::Count(wide16(table[4 * rows - 4]) + 1)
 }

@@ -1,108 +1,96 @@
-// Writing plan bytes from flat arrays (document 01, "Plan").
+// Writing plan bytes from a plan that was read or taken over (document 01, "Plan").
 ghost use mathlib.Core.Path.{_≡_};
-ghost use Prim.Native.Nat.{_≤_, _<_};
+ghost use Prim.Native.Nat.{_^_, _≤_, _<_};
 ghost use mathlib.Core.List.{_++_};
 ghost use lib.ListN.{length, drop};
-ghost use Rattle.plan.specs.Contract.{Some, _⇒_, before, after};
-ghost use Rattle.fields.specs.Field.{bitsOf};
-ghost use Rattle.plan_writer.specs.Writer.{numberBits, planBits, planBytes};
+ghost use Rattle.fields.specs.Field.{bitsOf, number};
 ghost use Rattle.fields.specs.Sink.{Sound, Room, Put};
+ghost use Rattle.plan.specs.Contract.{Some, _⇒_, before, after};
+ghost use Rattle.plan.specs.Sheet.{PlanIn};
+ghost use Rattle.plan_writer.specs.Writer.{numberBits, planBits, planBytes};
 ghost use Rattle.plan_writer.specs.ActionBits.{Writable, actionBits};
-ghost use Rattle.plan_writer.specs.Given.{BitsGiven, WriterGiven, WritesInto};
+ghost use Rattle.plan_writer.specs.Given.{WritesInto};
 use fields::field::Sink;
 use fields::field::finish;
 use fields::field::put;
-use numbers::wide8;
-use numbers::wide16;
+use plan::sheet::Sheet;
+use plan::sheet::child_at;
+use plan::sheet::first_of;
+use plan::sheet::frame_of;
+use plan::sheet::job_at;
+use plan::sheet::target_at;
 
-fn number_bits(x: u16) -> usize
-    ensures { λ r. ⌜ r ≡ length (numberBits x) ⌝ }
+// How many bits a number plus 1, or 0, takes.
+fn number_bits(x: usize) -> usize
+    ensures { λ r. ⌜ (r ≡ length (numberBits x)) × (r ≤ 9) ⌝ }
 {
     if x == 0 { 1 } else { 9 }
 }
 
+// Those bits as one field.
+fn number_field(x: usize) -> u64
+    requires { ⌜ x ≤ 256 ⌝ }
+    ensures { λ r. ⌜ r ≡ number (numberBits x) ⌝ }
+{
+    if x == 0 { 0 } else { x as u64 + 255 }
+}
+
+// What a field in front of those bits is multiplied by.
+fn number_scale(x: usize) -> u64
+    ensures { λ r. ⌜ r ≡ 2 ^ length (numberBits x) ⌝ }
+{
+    if x == 0 { 2 } else { 512 }
+}
+
 // How many bits the plan's fields take.
-pub fn plan_bits(jobs: usize, actions: usize, spawn: &[u16; 2048], join: &[u16; 2048]) -> usize
-    requires { ⌜ Some (BitsGiven jobs actions (now spawn) (now join)) ⌝ }
-    ensures { λ r. ⌜ (r < 65536) × (BitsGiven jobs actions (before spawn) (before join) ⇒ (λ p. r ≡ length (planBits p))) ⌝ }
+pub fn plan_bits(jobs: usize, actions: usize, plan: &Sheet) -> usize
+    requires { ⌜ Some (PlanIn jobs actions (now plan)) ⌝ }
+    ensures { λ r. ⌜ (r < 65536) × (PlanIn jobs actions (before plan) ⇒ (λ p. r ≡ length (planBits p))) ⌝ }
 {
     let mut bits = 17 + 24 * jobs;
     let mut k = 0;
     while k < actions {
-        bits += number_bits(spawn[k]) + number_bits(join[k]);
+        bits += number_bits(child_at(plan, k)) + number_bits(target_at(plan, k));
         k += 1;
     }
     bits
 }
 
-fn put_number(out: &mut [u8], sink: Sink, x: u16) -> Sink
-    requires { ⌜ Sound (now out) sink ⌝ }
-    requires { ⌜ (x ≤ 256) × Room (now out) sink (length (numberBits x)) ⌝ }
-    ensures { λ r. ⌜ Put (before out) sink (numberBits x) (after out) r ⌝ }
+// The two numbers of an action go out as one field: a field costs the same whatever its width.
+fn put_numbers(out: &mut [u8], sink: Sink, child: usize, target: usize) -> Sink
+    requires { ⌜ Sound (now out) sink × (child ≤ 256) × (target ≤ 256)
+        × Room (now out) sink (length (numberBits child ++ numberBits target)) ⌝ }
+    ensures { λ r. ⌜ Put (before out) sink (numberBits child ++ numberBits target) (after out) r ⌝ }
 {
-    if x == 0 {
-        return put(out, sink, 0, 1);
-    }
-    put(out, sink, 256 + (x as u64 - 1), 9)
+    let value = number_field(child) * number_scale(target) + number_field(target);
+    put(out, sink, value, number_bits(child) + number_bits(target))
 }
 
-fn put_numbers(out: &mut [u8], sink: Sink, spawn: u16, join: u16) -> Sink
-    requires { ⌜ Sound (now out) sink ⌝ }
-    requires { ⌜ (spawn ≤ 256) × (join ≤ 256) × Room (now out) sink (length (numberBits spawn ++ numberBits join)) ⌝ }
-    ensures { λ r. ⌜ Put (before out) sink (numberBits spawn ++ numberBits join) (after out) r ⌝ }
-{
-    let s = put_number(out, sink, spawn);
-    put_number(out, s, join)
-}
-
-fn put_header(out: &mut [u8], sink: Sink, frame: u16, size: usize) -> Sink
-    requires { ⌜ Sound (now out) sink ⌝ }
-    requires { ⌜ (size < 256) × Room (now out) sink 24 ⌝ }
+// A job's frame and its number of actions, as one field.
+fn put_header(out: &mut [u8], sink: Sink, frame: u32, size: usize) -> Sink
+    requires { ⌜ Sound (now out) sink × (frame < 65536) × (size < 256) × Room (now out) sink 24 ⌝ }
     ensures { λ r. ⌜ Put (before out) sink (bitsOf 16 frame ++ bitsOf 8 size) (after out) r ⌝ }
 {
-    let s = put(out, sink, frame as u64, 16);
-    put(out, s, size as u64, 8)
+    put(out, sink, 256 * frame as u64 + size as u64, 24)
 }
 
-fn put_action(
-    out: &mut [u8],
-    sink: Sink,
-    k: usize,
-    frame: &[u16; 256],
-    first: &[u16; 257],
-    job: &[u8; 2048],
-    spawn: &[u16; 2048],
-    join: &[u16; 2048],
-) -> Sink
-    requires { ⌜ Sound (now out) sink ⌝ }
-    requires { ⌜ Writable (now first) (now job) (now spawn) (now join) k ⌝ }
-    requires { ⌜ Room (now out) sink (length (actionBits (now frame) (now first) (now job) (now spawn) (now join) k)) ⌝ }
-    ensures { λ r. ⌜ Put (before out) sink (actionBits (before frame) (before first) (before job) (before spawn) (before join) k)
-        (after out) r ⌝ }
+fn put_action(out: &mut [u8], sink: Sink, k: usize, plan: &Sheet) -> Sink
+    requires { ⌜ Sound (now out) sink × Writable (now plan) k × Room (now out) sink (length (actionBits (now plan) k)) ⌝ }
+    ensures { λ r. ⌜ Put (before out) sink (actionBits (before plan) k) (after out) r ⌝ }
 {
-    let j = wide8(job[k]);
-    let start = wide16(first[j]);
+    let j = job_at(plan, k);
+    let start = first_of(plan, j);
     if start == k {
-        let end = wide16(first[j + 1]);
-        let s = put_header(out, sink, frame[j], end - start);
-        return put_numbers(out, s, spawn[k], join[k]);
+        let s = put_header(out, sink, frame_of(plan, j), first_of(plan, j + 1) - start);
+        return put_numbers(out, s, child_at(plan, k), target_at(plan, k));
     }
-    put_numbers(out, sink, spawn[k], join[k])
+    put_numbers(out, sink, child_at(plan, k), target_at(plan, k))
 }
 
 // Writes the plan's bytes, and tells how many they are.
-pub fn write_plan(
-    out: &mut [u8],
-    jobs: usize,
-    actions: usize,
-    frame: &[u16; 256],
-    first: &[u16; 257],
-    job: &[u8; 2048],
-    spawn: &[u16; 2048],
-    join: &[u16; 2048],
-) -> usize
-    requires { ⌜ Some (WritesInto (length (now out)) jobs actions (now frame) (now first) (now job) (now spawn) (now join)) ⌝ }
-    ensures { λ r. ⌜ WriterGiven jobs actions (before frame) (before first) (before job) (before spawn) (before join)
+pub fn write_plan(out: &mut [u8], jobs: usize, actions: usize, plan: &Sheet) -> usize
+    requires { ⌜ Some (WritesInto (length (now out)) jobs actions (now plan)) ⌝ }
+    ensures { λ r. ⌜ PlanIn jobs actions (before plan)
         ⇒ (λ p. (r ≡ length (planBytes p)) × (after out ≡ planBytes p ++ drop (length (planBytes p)) (before out))) ⌝ }
 {
     let mut sink = put(
@@ -118,7 +106,7 @@ pub fn write_plan(
     sink = put(out, sink, jobs as u64, 9);
     let mut k = 0;
     while k < actions {
-        sink = put_action(out, sink, k, frame, first, job, spawn, join);
+        sink = put_action(out, sink, k, plan);
         k += 1;
     }
     finish(out, sink)

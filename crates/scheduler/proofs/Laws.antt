@@ -1,4 +1,5 @@
 -- What holds of the runner's arrays and of the states that they stand for, in named modules.
+pub mod FlatPlan
 pub mod Missing
 pub mod FlatDeques
 pub mod Weights
@@ -18,4 +19,5 @@ pub mod Starting
 pub mod Standing
 pub mod Underway
 pub mod RunBytes
+pub mod Handing
 pub mod RunAnswers

@@ -22,13 +22,14 @@ use lib.Dec.{T, leb}
 use Rattle.plan.specs.Test.{both, count}
 use Rattle.plan.specs.Plan.{Plan, size, total, placed, enters, parent as parentOf}
 use Rattle.plan.specs.Rules.{Accepted}
-use Rattle.plan.specs.Flat.{Frames, Firsts, Spawns, Joins, Entered}
+use Rattle.scheduler.specs.Flat.{Frames, Firsts, Spawns, Joins}
+use Rattle.plan.specs.Entering.{Entered}
 use Rattle.scheduler.specs.declared.account.Account.{Account}
 use Rattle.scheduler.specs.declared.turn.Turned.{Turned}
 use Rattle.runs.specs.Setting.{setting}
 use Rattle.runs.specs.declared.worker.Worker.{Worker}
 use Rattle.runs.specs.declared.worker.Worker.the-variants.{Idle, Holding, Waiting}
-use Rattle.courses.specs.Row.{Row, noRow, place}
+use Rattle.courses.specs.Row.{noRow, place}
 use Rattle.runs.specs.State.{State, nextOf, workerOf}
 use Rattle.courses.specs.Ready.{weight}
 use Rattle.runs.specs.Steal.{dropTop, topOf}

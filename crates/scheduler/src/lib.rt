@@ -3,6 +3,7 @@
 mod account;
 mod count;
 mod deque;
+mod handed;
 mod round;
 pub mod run;
 mod seat;

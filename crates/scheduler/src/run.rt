@@ -3,22 +3,27 @@ ghost use mathlib.Core.Path.{_≡_};
 ghost use Prim.Native.Nat.{_*_, _≤_, _<_};
 ghost use mathlib.Core.List.{_++_};
 ghost use lib.ListN.{length, drop};
+ghost use Rattle.plan.specs.Contract.{Some, _⇒_, before, after};
 ghost use Rattle.plan.specs.Plan.{Plan, total};
 ghost use Rattle.runs.specs.Setting.{setting};
 ghost use Rattle.runs.specs.Run.{run as runOfPlan, choicesFit};
 ghost use Rattle.scheduler.specs.Entry.{runInto, ranOf, Claimed};
 ghost use Rattle.scheduler.specs.Machine.{RunGiven, Printed, Kept};
-ghost use Rattle.scheduler.specs.Loaded.{Loaded, Answered};
+ghost use Rattle.scheduler.specs.Loaded.{Loaded, RunIn, Answered};
 ghost use Rattle.scheduler.specs.Header.{headerBytes};
 use crate::account::Account;
 use crate::count::no_counts;
+use crate::handed::hand_actions;
+use crate::handed::hand_jobs;
 use crate::round::round;
 use numbers::units16;
 use numbers::wide8;
 use numbers::wide16;
-use plan::flat::Found;
+use plan::reader::Found;
 use plan::reader::read_into;
 use plan::refusal::Refusal;
+use plan::sheet::PLACES;
+use plan::sheet::Sheet;
 use runs::tally::Tally;
 
 // The counts of a run, or why there was none.
@@ -134,7 +139,7 @@ fn write_header(schedule: &mut [u8], n: usize, actions: usize)
 }
 
 // Runs the plan that the arrays hold and writes its schedule. `missing` has how many joins enter each action.
-pub fn run_read<'a>(
+fn run_loaded<'a>(
     actions: usize,
     workers: u32,
     choices: &[u8],
@@ -179,42 +184,58 @@ pub fn run_read<'a>(
     Ran::Done(t)
 }
 
+// Runs the plan that the one array holds and writes its schedule. `missing` has how many joins enter each action.
+pub fn run_read(
+    jobs: usize,
+    actions: usize,
+    workers: u32,
+    choices: &[u8],
+    schedule: &mut [u8],
+    plan: &Sheet,
+    missing: &mut [u8; 2048],
+) -> Ran
+    requires { ⌜ Some (RunIn jobs actions (now plan) (now missing)) ⌝ }
+    ensures { λ r. ⌜ RunIn jobs actions (before plan) (before missing)
+        ⇒ (λ p. Answered p workers (before choices) (before schedule) r (after schedule)) ⌝ }
+{
+    let mut frame = [0u16; 256];
+    let mut first = [0u16; 257];
+    let mut parent = [0u8; 256];
+    hand_jobs(jobs, plan, &mut frame, &mut first, &mut parent);
+    let mut spawn = [0u16; 2048];
+    let mut join = [0u16; 2048];
+    hand_actions(actions, plan, &mut spawn, &mut join);
+    run_loaded(
+        actions,
+        workers,
+        choices,
+        schedule,
+        &frame,
+        &first,
+        &spawn,
+        &join,
+        &parent,
+        missing,
+    )
+}
+
 // Runs the plan that the bytes hold and writes its schedule.
 pub fn run(plan: &[u8], workers: u32, choices: &[u8], schedule: &mut [u8]) -> Ran
     ensures { λ r. ⌜ record { answer = ranOf r; schedule = now (schedule .exit) }
         ≡ runInto (now (plan .entry)) workers (now (choices .entry)) (now (schedule .entry)) ⌝ }
     ensures { λ r. ⌜ Claimed (now (plan .entry)) workers (now (choices .entry)) r (now (schedule .exit)) ⌝ }
 {
-    let mut frame = [0u16; 256];
-    let mut first = [0u16; 257];
-    let mut job = [0u8; 2048];
-    let mut spawn = [0u16; 2048];
-    let mut join = [0u16; 2048];
-    let mut parent = [0u8; 256];
-    let mut position = [255u8; 256];
+    let mut sheet = [0u16; PLACES];
     let mut entering = [0u8; 2048];
-    match read_into(
-        plan,
-        &mut frame,
-        &mut first,
-        &mut job,
-        &mut spawn,
-        &mut join,
-        &mut parent,
-        &mut position,
-        &mut entering,
-    ) {
+    match read_into(plan, &mut sheet, &mut entering) {
         Found::Refused(cause) => Ran::Refused(cause),
-        Found::Plan { actions, .. } => run_read(
+        Found::Plan { jobs, actions } => run_read(
+            jobs,
             actions,
             workers,
             choices,
             schedule,
-            &frame,
-            &first,
-            &spawn,
-            &join,
-            &parent,
+            &sheet,
             &mut entering,
         ),
     }

@@ -15,14 +15,12 @@ use Rattle.plan.specs.Reader.{readPlan}
 use Rattle.plan.proofs.Laws.Valid.{total-range}
 use Rattle.plan_measure.specs.declared.Measures.{Measures}
 use Rattle.plan_measure.specs.Measure.{work, longest, heaviest, measured}
-use Rattle.plan_measure.specs.Times.{MeasureGiven}
 use Rattle.runs.specs.Setting.{setting}
 use Rattle.runs.specs.declared.tally.Tally.{Tally}
 use Rattle.runs.specs.Run.{run, admitted, runOf}
 use Rattle.courses.specs.Schedule.{scheduleBytes}
 use Rattle.runs.proofs.Laws.Admitted.{Stopped, Went, outcome}
 use Rattle.scheduler.specs.Entry.{Result, resulted}
-use Rattle.build.specs.Given.{BuildGiven}
 use Rattle.build.specs.declared.Counts.{Counts}
 use Rattle.build.specs.Build.{countsOf, ranWith, choiceCount, buildOf}
 use Rattle.scheduler.proofs.Laws.RunBytes.{run-fits}
@@ -40,17 +38,6 @@ counted t m =
       requests = t .requests;
       steals = t .steals;
       misses = t .misses;
-    }
-
--- the arrays that are run are measured too
-pub given-measured : (p : Plan) (jobs actions : ℕ) (frame first spawn join parent missing : List ℕ)
-    → BuildGiven jobs actions frame first spawn join parent missing p → MeasureGiven jobs actions frame first spawn join parent p
-given-measured p jobs actions frame first spawn join parent missing g =
-    let h = g .loaded .planned in
-    record {
-      paths = record { rules = h .accepted; count = g .count; frames = h .frames; parents = h .parents };
-      times = record { rules = h .accepted; firsts = h .firsts; spawns = h .spawns; joins = h .joins };
-      all = g .loaded .all;
     }
 
 module _ (p : Plan) (ok : Accepted p) (n : ℕ) (choices schedule : List ℕ) (long : 4100 ≤ length schedule) where

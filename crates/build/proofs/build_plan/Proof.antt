@@ -1,15 +1,16 @@
 -- `build::build_plan` meets its contract: each answer by what reading the bytes tells.
-use Rattle.plan.specs.Flat.{FlatPlan}
-use Rattle.plan.proofs.Laws.Blank.{blank}
-use Rattle.plan.proofs.Laws.Found.{Given, found-given}
-use Rattle.scheduler.proofs.Laws.RunAnswers.{given-loaded}
+use mathlib.Core.Path.{refl}
+use denote.Ref.{now}
+use Rattle.plan.specs.Found.{ReadPlan}
+use Rattle.plan.proofs.Laws.Found.{found-plan, found-none}
+use Rattle.scheduler.proofs.Laws.RunAnswers.{read-runs}
 use Rattle.build.proofs.Laws.Builds.{ran-refused, ran-read}
 use borrow.Author.Needs.{needs}
 use Rattle.build.proofs.build_plan.Statement.{statement}
 use Rattle.build.proofs.build_plan.Tie as tie
 
 read-into-requires : tie.Need-read-into-requires
-read-into-requires c κs = blank
+read-into-requires c κs = (refl, refl)
 
 enum-known-cause : tie.Need-enum-known-cause
 enum-known-cause c = search needs
@@ -17,40 +18,26 @@ enum-known-cause c = search needs
 enum-known-jobs : tie.Need-enum-known-jobs
 enum-known-jobs c = search needs
 
--- the arrays that were read into, and the plan that they hold
-abbrev flat : tie.After-jobs → FlatPlan
-flat c =
-    let l = c .before .before .read-into .last .1 in
-    record {
-      jobs = c .jobs .given .0 .0;
-      actions = c .jobs .given .0 .1 .0;
-      frame = l .0;
-      first = l .1 .0;
-      job = l .1 .1 .0;
-      spawn = l .1 .1 .1 .0;
-      join = l .1 .1 .1 .1 .0;
-      parent = l .1 .1 .1 .1 .1 .0;
-      position = l .1 .1 .1 .1 .1 .1 .0;
-      entering = l .1 .1 .1 .1 .1 .1 .1 .0;
-    }
-
-given : (c : tie.After-jobs) → Given (c .before .before .before .before .before .before .before .before .before .before .before .before .before .args .plan .now) (flat c)
-given c = found-given _ (flat c) (rw (c .jobs .given .1) at (c .before .before .read-into .ensures))
+-- what was read
+plan-read : (c : tie.After-jobs)
+    → let r = c .before .before in
+    ReadPlan (now (r .before .before .before .before .before .args .plan)) (c .jobs .given .0 .0) (c .jobs .given .0 .1 .0) (r .read-into .last .1 .0) (r .read-into .last .1 .1 .0)
+plan-read c = found-plan _ _ _ _ (c .before .before .read-into .ensures) _ _ (c .jobs .given .1)
 
 build-read-requires : tie.Need-build-read-requires
 build-read-requires c κs =
-    let g = given (c .before .before .before .before .before .before .before) in
-    (g .plan, record { loaded = given-loaded _ _ g; count = g .holds .jobs })
+    let g = plan-read (c .before .before .before) in
+    (g .is, read-runs _ _ _ _ _ g)
 
 returns : tie.Need-returns
 returns c =
     let z = c .before in
-    ran-refused _ _ _ _ (rw (z .cause .given .1) at (z .before .before .read-into .ensures))
+    ran-refused _ _ _ _ (found-none _ _ _ _ (z .before .before .read-into .ensures) _ (z .cause .given .1))
 
 returns-2 : tie.Need-returns-2
 returns-2 c =
-    let g = given (c .before .before .before .before .before .before .before .before) in
-    ran-read _ _ _ (g .plan) _ (g .read) (c .build-read .ensures (g .plan) (record { loaded = given-loaded _ _ g; count = g .holds .jobs }))
+    let g = plan-read (c .before .before .before .before) in
+    ran-read _ _ _ (g .is) _ (g .read) (c .build-read .ensures (g .is) (read-runs _ _ _ _ _ g))
 
 pub build-plan-spec : {M : Type 1} → statement M
 build-plan-spec =

@@ -2,7 +2,7 @@
 use mathlib.Core.Path.{sym, ap, _∙_}
 use native.Mathlib.Omega.{arith}
 use Rattle.scheduler.specs.Entry.{Result, ranOf}
-use Rattle.build.proofs.Laws.Builds.{given-measured, build-refused, build-counted}
+use Rattle.build.proofs.Laws.Builds.{build-refused, build-counted}
 use borrow.Author.Needs.{needs}
 use Rattle.build.proofs.build_read.Statement.{statement}
 use Rattle.build.proofs.build_read.Tie as tie
@@ -11,9 +11,7 @@ slice-aggregate-run-read : tie.Need-slice-aggregate-run-read
 slice-aggregate-run-read c = search needs
 
 run-read-requires : tie.Need-run-read-requires
-run-read-requires c κs =
-    let (p, g) = c .before .before .before .pre in
-    (p, g .loaded)
+run-read-requires c κs = c .before .before .before .pre
 
 enum-known-cause : tie.Need-enum-known-cause
 enum-known-cause c = search needs
@@ -24,20 +22,20 @@ enum-known-t c = search needs
 measure-read-requires : tie.Need-measure-read-requires
 measure-read-requires c κs =
     let (p, g) = c .before .before .before .before .before .before .before .before .pre in
-    (p, given-measured p _ _ _ _ _ _ _ _ g)
+    (p, g .holds)
 
 returns : tie.Need-returns
 returns c = λ p g.
     let r = c .before .before .before .before in
-    build-refused p (g .loaded .planned .accepted) _ _ _ (omega arith) _
-    (sym (ap ranOf (c .before .cause .given .1)) ∙ ap (λ (r : Result). r .answer) (r .run-read .ensures p (g .loaded) .0))
+    build-refused p (g .holds .planned .rules) _ _ _ (omega arith) _
+    (sym (ap ranOf (c .before .cause .given .1)) ∙ ap (λ (r : Result). r .answer) (r .run-read .ensures p g .0))
 
 returns-2 : tie.Need-returns-2
 returns-2 c = λ p g.
     let r = c .before .before .before .before .before in
-    build-counted p (g .loaded .planned .accepted) _ _ _ (omega arith) _ _
-    (sym (ap ranOf (c .before .before .t .given .1)) ∙ ap (λ (r : Result). r .answer) (r .run-read .ensures p (g .loaded) .0))
-    (c .measure-read .ensures p (given-measured p _ _ _ _ _ _ _ _ g))
+    build-counted p (g .holds .planned .rules) _ _ _ (omega arith) _ _
+    (sym (ap ranOf (c .before .before .t .given .1)) ∙ ap (λ (r : Result). r .answer) (r .run-read .ensures p g .0))
+    (c .measure-read .ensures p (g .holds))
 
 pub build-read-spec : {M : Type 1} → statement M
 build-read-spec =

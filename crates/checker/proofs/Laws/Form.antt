@@ -47,7 +47,7 @@ module _ (s : List ℕ) (n : ℕ) where
                 record {
                   rows = rowsFrom s 4 n;
                   read = rw (right-length, head .kept some, e, readSchedule);
-                  bytes = rows-held s n long;
+                  bytes = rows-held s n long rounds;
                   all = rows-length s n 4;
                 };
           }

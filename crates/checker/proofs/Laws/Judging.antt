@@ -1,12 +1,12 @@
 -- What the checker answers, by what was read of the plan and of the schedule.
-use Prim.Native.Nat.{ℕ}
+use Prim.Native.Nat.{ℕ, _≤_}
 use mathlib.Core.Path.{_≡_, sym, ap, _∙_}
 use mathlib.Core.Bool.{Bool, true, false}
 use mathlib.Core.List.{List}
+use Rattle.plan.specs.Plan.{Plan}
 use Rattle.plan.specs.Refusal.{refused, accepted}
 use Rattle.plan.specs.Reader.{readPlan}
-use Rattle.plan.specs.Flat.{FlatPlan}
-use Rattle.plan.proofs.Laws.Found.{Given}
+use Rattle.plan.specs.Sheet.{PlanIn}
 use Rattle.courses.specs.Schedule.{keeps, readSchedule, ruled, judgedBy, checked}
 use Rattle.checker.specs.Formed.{WellFormed}
 use Rattle.checker.specs.Given.{RulesGiven}
@@ -16,36 +16,31 @@ module _ (bytes s : List ℕ) where
   unfolding checked judgedBy
   judges-plan k e = rw e
 
-  module _ (f : FlatPlan) (g : Given bytes f) where
-    by-schedule : checked bytes s ≡ ruled (g .plan) (readSchedule s (f .actions))
+  -- the plan that was read into the array
+  module _ {jobs actions : ℕ} {plan : List ℕ} (p : Plan) (read : readPlan bytes ≡ accepted p) (held : PlanIn jobs actions plan p) where
+    by-schedule : checked bytes s ≡ ruled p (readSchedule s actions)
     unfolding checked judgedBy
-    by-schedule = rw (g .read, g .holds .actions)
+    by-schedule = rw (read, held .all)
 
-    pub judges-form : readSchedule s (f .actions) ≡ refused 11 → refused 11 ≡ checked bytes s
+    pub judges-form : readSchedule s actions ≡ refused 11 → refused 11 ≡ checked bytes s
     unfolding ruled
-    judges-form e = sym (by-schedule ∙ ap (ruled (g .plan)) e)
+    judges-form e = sym (by-schedule ∙ ap (ruled p) e)
 
-    module _ (workers : ℕ) (w : WellFormed s (f .actions) workers) where
-      pub rules-given : RulesGiven (g .plan) (w .rows) (f .jobs) s (f .first) (f .spawn) (f .join) (f .parent)
-      rules-given =
-          record {
-            plan = g .kept;
-            count = g .holds .jobs;
-            bytes = w .bytes;
-            all = w .all ∙ g .holds .actions;
-            firsts = g .holds .firsts;
-            spawns = g .holds .spawns;
-            joins = g .holds .joins;
-            parents = g .holds .spawned .parents;
-          }
+    -- the schedule that was read
+    module _ {workers : ℕ} (w : WellFormed s actions workers) where
+      pub rules-given : 1 ≤ workers → RulesGiven workers actions s plan (record { plan = p; rows = w .rows })
+      rules-given some = record {
+        some = some;
+        count = held .all;
+        tasked = record { planned = held .planned; bytes = w .bytes; all = w .all ∙ held .all };
+      }
 
-      by-rules : (b : Bool) → b ≡ keeps (g .plan) workers (w .rows)
-          → checked bytes s ≡ elim b [ false ↦ refused 12 | true ↦ accepted 0 ]
+      by-rules : (b : Bool) → b ≡ keeps p workers (w .rows) → checked bytes s ≡ elim b [ false ↦ refused 12 | true ↦ accepted 0 ]
       unfolding ruled
       by-rules b e = by-schedule ∙ rw (w .read, e, ruled)
 
-      pub judges-broken : (b : Bool) → b ≡ keeps (g .plan) workers (w .rows) → b ≡ false → refused 12 ≡ checked bytes s
+      pub judges-broken : (b : Bool) → b ≡ keeps p workers (w .rows) → b ≡ false → refused 12 ≡ checked bytes s
       judges-broken b e x = sym (rw x at (by-rules b e))
 
-      pub judges-kept : (b : Bool) → b ≡ keeps (g .plan) workers (w .rows) → b ≡ true → accepted 0 ≡ checked bytes s
+      pub judges-kept : (b : Bool) → b ≡ keeps p workers (w .rows) → b ≡ true → accepted 0 ≡ checked bytes s
       judges-kept b e x = sym (rw x at (by-rules b e))

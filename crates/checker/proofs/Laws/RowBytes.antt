@@ -126,12 +126,13 @@ module _ (s : List ℕ) where
       rw later (row-at n (suc (suc i)) k (omega arith))
 
   -- the rows behind the header are what the bytes hold
-  pub rows-held : (n : ℕ) → length s ≡ 4 + 2 * n → RowsAt (rowsFrom s 4 n) s
-  rows-held n e =
+  pub rows-held : (n : ℕ) → length s ≡ 4 + 2 * n → ((k : ℕ) → k < n → 16 ≤ word s (4 + 2 * k)) → RowsAt (rowsFrom s 4 n) s
+  rows-held n e some =
       let l = rows-length n 4 in
       let next : (k : ℕ) → suc (4 + 2 * k) ≡ 5 + 2 * k = λ k. omega arith in
       record {
         long = rw l e;
         row = λ k b. rw (row-at n 4 k (omega arith)) (omega (arith, ap (λ i. getD s i 0) (next k)));
+        round = λ k b. rw (row-at n 4 k (omega arith)) (omega (arith, some k (omega arith)));
         worker = λ k b. rw (row-at n 4 k (omega arith)) (omega arith);
       }

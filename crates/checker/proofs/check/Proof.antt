@@ -1,82 +1,73 @@
 -- `check` meets its contract: each answer by what reading the plan, the schedule's form and its rules tell.
 use native.Mathlib.Omega.{arith}
 use borrow.Author.Needs.{needs}
-use Rattle.plan.specs.Flat.{FlatPlan}
-use Rattle.plan.proofs.Laws.Blank.{blank}
-use Rattle.plan.proofs.Laws.Found.{Given, found-given}
+use denote.Ref.{now}
+use Rattle.plan.specs.Found.{ReadPlan}
+use Rattle.plan.proofs.Laws.Found.{found-plan, found-none, few-read}
 use Rattle.checker.specs.Formed.{WellFormed}
 use Rattle.checker.proofs.Laws.Judging.{judges-plan, judges-form, rules-given, judges-broken, judges-kept}
 use Rattle.checker.proofs.check.Statement.{statement}
 use Rattle.checker.proofs.check.Tie as tie
 
 read-into-requires : tie.Need-read-into-requires
-read-into-requires c κs = blank
+read-into-requires c κs = search needs
 
 enum-known-cause : tie.Need-enum-known-cause
 enum-known-cause c = search needs
 
-enum-known-jobs : tie.Need-enum-known-jobs
-enum-known-jobs c = search needs
+enum-known-actions : tie.Need-enum-known-actions
+enum-known-actions c = search needs
 
--- the arrays that were read into, and the plan that they hold
-abbrev flat : tie.After-jobs → FlatPlan
-flat c =
-    let l = c .before .before .read-into .last .1 in
-    record {
-      jobs = c .jobs .given .0 .0;
-      actions = c .jobs .given .0 .1 .0;
-      frame = l .0;
-      first = l .1 .0;
-      job = l .1 .1 .0;
-      spawn = l .1 .1 .1 .0;
-      join = l .1 .1 .1 .1 .0;
-      parent = l .1 .1 .1 .1 .1 .0;
-      position = l .1 .1 .1 .1 .1 .1 .0;
-      entering = l .1 .1 .1 .1 .1 .1 .1 .0;
-    }
-
-given : (c : tie.After-jobs) → Given (c .before .before .before .before .before .before .before .before .before .before .before .before .before .args .plan .now) (flat c)
-given c = found-given _ (flat c) (rw (c .jobs .given .1) at (c .before .before .read-into .ensures))
+-- the plan that was read
+plan-read : (c : tie.After-actions)
+    → let r = c .before .before in
+    ReadPlan (now (r .before .before .before .before .before .args .plan)) (c .actions .given .0 .0) (c .actions .given .0 .1 .0) (r .read-into .last .1 .0) (r .read-into .last .1 .1 .0)
+plan-read c = found-plan _ _ _ _ (c .before .before .read-into .ensures) _ _ (c .actions .given .1)
 
 form-requires : tie.Need-form-requires
-form-requires c κs = given (c .before) .few
+form-requires c κs =
+    let g = plan-read (c .before) in
+    few-read _ _ _ (g .is) (g .held)
 
 returns : tie.Need-returns
-returns c = judges-form _ _ _ (given (c .before .before .before)) (c .before .form .ensures .broken (c .if1 .taken))
+returns c =
+    let g = plan-read (c .before .before .before) in
+    judges-form _ _ (g .is) (g .read) (g .held) (c .before .form .ensures .broken (c .if1 .taken))
 
 -- the schedule that was read
 schedule-read : (c : tie.Else1)
-    → let b = c .before .before .before in
-    WellFormed (b .before .before .before .before .before .before .before .before .before .before .before .before .before .args .schedule .now) (flat b .actions) (c .before .form .result)
+    → let f = c .before in
+    let a = f .before .before in
+    WellFormed (a .before .before .before .before .before .before .before .args .schedule .now) (a .actions .given .0 .1 .0) (f .form .result)
 schedule-read c = c .before .form .ensures .kept (omega arith)
 
 rules-kept-requires : tie.Need-rules-kept-requires
 rules-kept-requires c κs =
-    let e = c .before .before .before .before in
-    let g = given (e .before .before .before) in
-    let w = schedule-read e in
-    (g .plan, w .rows, rules-given _ _ _ g _ w)
+    let f = c .before in
+    let g = plan-read (f .before .before .before) in
+    let w = schedule-read f in
+    (_, rules-given _ _ (g .is) (g .read) (g .held) w (omega arith))
 
 returns-2 : tie.Need-returns-2
 returns-2 c =
     let z = c .before in
-    judges-plan _ _ _ (rw (z .cause .given .1) at (z .before .before .read-into .ensures))
+    judges-plan _ _ _ (found-none _ _ _ _ (z .before .before .read-into .ensures) _ (z .cause .given .1))
 
 returns-3 : tie.Need-returns-3
 returns-3 c =
     let k = c .before in
-    let e = k .before .before .before .before .before in
-    let g = given (e .before .before .before) in
-    let w = schedule-read e in
-    judges-kept _ _ _ g _ w _ (k .rules-kept .ensures (g .plan) (w .rows) (rules-given _ _ _ g _ w)) (c .if2 .taken)
+    let f = k .before .before in
+    let g = plan-read (f .before .before .before) in
+    let w = schedule-read f in
+    judges-kept _ _ (g .is) (g .read) (g .held) w _ (k .rules-kept .ensures _ (rules-given _ _ (g .is) (g .read) (g .held) w (omega arith))) (c .if2 .taken)
 
 returns-4 : tie.Need-returns-4
 returns-4 c =
     let k = c .before in
-    let e = k .before .before .before .before .before in
-    let g = given (e .before .before .before) in
-    let w = schedule-read e in
-    judges-broken _ _ _ g _ w _ (k .rules-kept .ensures (g .plan) (w .rows) (rules-given _ _ _ g _ w)) (c .if2 .left)
+    let f = k .before .before in
+    let g = plan-read (f .before .before .before) in
+    let w = schedule-read f in
+    judges-broken _ _ (g .is) (g .read) (g .held) w _ (k .rules-kept .ensures _ (rules-given _ _ (g .is) (g .read) (g .held) w (omega arith))) (c .if2 .left)
 
 pub check-spec : {M : Type 1} → statement M
 check-spec =
@@ -84,7 +75,7 @@ check-spec =
     (tie.spec
     read-into-requires
     enum-known-cause
-    enum-known-jobs
+    enum-known-actions
     form-requires
     returns
     rules-kept-requires

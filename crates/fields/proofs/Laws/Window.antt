@@ -1,20 +1,27 @@
--- A field is cut out of the whole bytes that it lies in, at the top of 32 bits, by two products with powers of two.
---   window-field == what the two products leave is the field
---   product-fits == neither product goes beyond 64 bits
---   bytes-number == the four bytes of a window, each with its weight, are its number
+-- A field is cut out of the window that it lies in, the 32 bits from some byte on, by a shift to the left and one to the right.
+--   window-field  == what the two shifts leave is the field
+--   window-short  == where the window holds fewer bits than it takes, there is no such field
+--   window-behind == the field of 8 bits that stands behind one bit
+--   moved n x     == the step x, with n added to the next place
+--   field-moved   == a field behind whole bytes is that of the bytes behind them, moved
+--   field-at      == the field at a place, in the bytes from that of the place on
+--   Byte t j x    == x is byte j of the bytes t, 0 past their end
+--   bytes-window  == the four bytes from byte i on, each with its weight, are the window there
 use mathlib.Core.Path.{_≡_, refl, sym, ap, _∙_}
 use mathlib.Core.List.{List, [], _∷_, _++_}
-use Prim.Native.Nat.{ℕ, _+_, _*_, _/_, _%_, _^_, _≤_, _<_}
-use native.Mathlib.Nat.{add-mul, mul-assoc, mul-comm, mul-lt-mul-of-pos-right, mul-pos, lt-of-lt-of-le}
+use Prim.Native.Nat.{ℕ, _+_, _*_, _-_, _/_, _%_, _^_, _≤_, _<_, min}
+use native.Mathlib.Nat.{add-mul, mul-assoc, mul-comm, mul-lt-mul-of-pos-right, add-assoc, add-zero}
 use native.Mathlib.Omega.{arith}
+use native.Mathlib.Decide.{decLe}
 use lib.Arith.{digits-lt, digits-div, digits-mod}
-use lib.Pow.{pow-add, pow-pos, pow-mono, shl-lt}
-use lib.ListN.{length, getD, take, drop, replicate, length-append, length-take, length-drop, take-append-drop, List·getD-eq-default}
-use lib.Seq.{take-append-le, drop-append-le, drop-drop, getD-take, getD-drop, length-take-le}
-use Rattle.fields.specs.Field.{bitsOf, bits, number, step, fieldAt}
-use Rattle.fields.specs.FieldParts.{windowOf}
+use lib.Pow.{pow-add, pow-pos, mod-mod-pow}
+use lib.ListN.{length, getD, take, drop, replicate, length-append, length-drop, take-append-drop}
+use lib.Seq.{take-append-le, drop-append-le, drop-drop, take-add, getD-drop, length-take-le}
+use Rattle.fields.specs.declared.field.Window.{Window}
+use Rattle.fields.specs.Field.{bitsOf, bits, number, Step, stop, step, fieldAt}
+use Rattle.fields.specs.FieldParts.{windowOf, Windowed}
 use Rattle.fields.proofs.Laws.Bits.{Binary, append-binary, take-binary, drop-binary, zeros-binary, bits-binary}
-use Rattle.fields.proofs.Laws.Bits.{bits-length, bits-append, bits-take, bits-drop, number-append, number-bitsOf, number-below, field-within}
+use Rattle.fields.proofs.Laws.Bits.{bits-length, bits-append, bits-take, bits-drop, number-append, number-bitsOf, number-below, field-within, field-beyond}
 
 -- ---- the numbers
 
@@ -25,76 +32,107 @@ shifted-below : (b m p : ℕ) → b < m → 0 < p → b * p < p * m
 shifted-below b m p h l = rw (mul-comm p m) (mul-lt-mul-of-pos-right h l)
 
 -- of three numbers put together as digits, the middle one: the first goes by the remainder, the last by the quotient
-middle : (a b c p q r : ℕ) → b < q → c < r → 0 < p → 0 < q → (a * (q * r) + (b * r + c)) * p % (p * (q * r)) * q / (p * (q * r)) ≡ b
-middle a b c p q r h k l m =
-    let last : c * (p * q) < p * (q * r) = rw (mul-assoc p q r) at (shifted-below c r (p * q) k (mul-pos l m)) in
-    rw (shifted a (q * r) (b * r + c) p, digits-mod a (shifted-below (b * r + c) (q * r) p (digits-lt h k) l), mul-assoc (b * r + c) p q)
-    (rw (shifted b r c (p * q), mul-assoc p q r) (digits-div b last))
+middle : (a b c p q r : ℕ) → b < q → c < r → 0 < p → (a * (q * r) + (b * r + c)) * p % (p * (q * r)) / (p * r) ≡ b
+middle a b c p q r h k l =
+    rw (shifted a (q * r) (b * r + c) p, digits-mod a (shifted-below (b * r + c) (q * r) p (digits-lt h k) l), shifted b r c p)
+    (digits-div b (shifted-below c r p k l))
 
--- the part of w bits behind the first k, cut out of the number of all bits
-cut-number : (l : List ℕ) (k w : ℕ) → Binary l → k + w ≤ length l → number l * 2 ^ k % 2 ^ length l * 2 ^ w / 2 ^ length l ≡ number (take w (drop k l))
-cut-number l k w p h =
+-- the part of w bits behind the first k, cut out of the number of all n bits
+cut-number : (l : List ℕ) (n k w : ℕ) → Binary l → length l ≡ n → k + w ≤ n → number l * 2 ^ k % 2 ^ n / 2 ^ (n - w) ≡ number (take w (drop k l))
+cut-number l n k w p size h =
     let d = drop k l in
-    let n = length (drop w d) in
-    let d-length : length d ≡ w + n = omega (arith, length-drop k l, length-drop w d) in
+    let m = length (drop w d) in
+    let d-length : length d ≡ w + m = omega (arith, length-drop k l, length-drop w d) in
     let b-length : length (take w d) ≡ w = length-take-le w d (omega arith) in
-    let whole : 2 ^ length l ≡ 2 ^ k * (2 ^ w * 2 ^ n) =
-    ap (λ (m : ℕ). 2 ^ m) (omega (arith, length-drop k l)) ∙ pow-add 2 k (w + n) ∙ ap (λ (m : ℕ). 2 ^ k * m) (pow-add 2 w n) in
-    let parts : number l ≡ number (take k l) * (2 ^ w * 2 ^ n) + (number (take w d) * 2 ^ n + number (drop w d)) =
+    let behind : n - w ≡ k + m = omega (arith, length-drop k l) in
+    let all : n ≡ k + (w + m) = omega (arith, length-drop k l) in
+    let parts : number l ≡ number (take k l) * (2 ^ w * 2 ^ m) + (number (take w d) * 2 ^ m + number (drop w d)) =
     ap number (sym (take-append-drop k l)) ∙ number-append (take k l) d
-    ∙ rw (d-length, pow-add 2 w n) (ap (λ (m : ℕ). number (take k l) * (2 ^ w * 2 ^ n) + m) (ap number (sym (take-append-drop w d)) ∙ number-append (take w d) (drop w d))) in
-    rw (whole, parts)
-    (middle (number (take k l)) (number (take w d)) (number (drop w d)) (2 ^ k) (2 ^ w) (2 ^ n)
+    ∙ rw (d-length, pow-add 2 w m) (ap (λ (r : ℕ). number (take k l) * (2 ^ w * 2 ^ m) + r) (ap number (sym (take-append-drop w d)) ∙ number-append (take w d) (drop w d))) in
+    rw (behind, all, pow-add 2 k m, pow-add 2 k (w + m), pow-add 2 w m, parts)
+    (middle (number (take k l)) (number (take w d)) (number (drop w d)) (2 ^ k) (2 ^ w) (2 ^ m)
     (rw b-length at (number-below (take w d) (take-binary w d (drop-binary k l p))))
-    (number-below (drop w d) (drop-binary w d (drop-binary k l p))) (pow-pos k) (pow-pos w))
+    (number-below (drop w d) (drop-binary w d (drop-binary k l p))) (pow-pos k))
 
 -- ---- the bits
 
 part-front : (x y : List ℕ) (k w : ℕ) → k + w ≤ length x → take w (drop k (x ++ y)) ≡ take w (drop k x)
 part-front x y k w h = rw (drop-append-le k x y (omega arith)) (take-append-le w (drop k x) y (rw length-drop (omega arith)))
 
-window-length : (s : List ℕ) → length (windowOf s) ≡ 32
+window-length : (t : List ℕ) → length (windowOf t) ≡ 32
 unfolding windowOf
-window-length s = length-take-le 32 (bits s ++ replicate 32 0) (rw length-append (omega arith))
+window-length t = length-take-le 32 (bits t ++ replicate 32 0) (rw length-append (omega arith))
 
-window-binary : (s : List ℕ) → Binary (windowOf s)
+window-binary : (t : List ℕ) → Binary (windowOf t)
 unfolding windowOf
-window-binary s = take-binary 32 (bits s ++ replicate 32 0) (append-binary (bits s) (replicate 32 0) (bits-binary s) (zeros-binary 32))
+window-binary t = take-binary 32 (bits t ++ replicate 32 0) (append-binary (bits t) (replicate 32 0) (bits-binary t) (zeros-binary 32))
 
-window-front : (s : List ℕ) (k w : ℕ) → k + w ≤ 32 → k + w ≤ 8 * length s → take w (drop k (windowOf s)) ≡ take w (drop k (bits s))
+window-front : (t : List ℕ) (k w : ℕ) → k + w ≤ 32 → k + w ≤ 8 * length t → take w (drop k (windowOf t)) ≡ take w (drop k (bits t))
 unfolding windowOf
-window-front s k w b h =
-    let x = bits s ++ replicate 32 0 in
-    sym (part-front (take 32 x) (drop 32 x) k w (omega (arith, window-length s))) ∙ ap (λ (r : List ℕ). take w (drop k r)) (take-append-drop 32 x)
-    ∙ part-front (bits s) (replicate 32 0) k w (omega (arith, bits-length s))
+window-front t k w b h =
+    let x = bits t ++ replicate 32 0 in
+    sym (part-front (take 32 x) (drop 32 x) k w (omega (arith, window-length t))) ∙ ap (λ (r : List ℕ). take w (drop k r)) (take-append-drop 32 x)
+    ∙ part-front (bits t) (replicate 32 0) k w (omega (arith, bits-length t))
 
--- the whole bytes that the field lies in
-abbrev pub held : List ℕ → ℕ → ℕ → List ℕ
-held s at w = take ((at % 8 + w + 7) / 8) (drop (at / 8) s)
+-- ---- the window
 
-window-part : (s : List ℕ) (at w : ℕ) → w ≤ 24 → at + w ≤ 8 * length s → take w (drop (at % 8) (windowOf (held s at w))) ≡ take w (drop at (bits s))
-window-part s at w b h =
-    let i = at / 8 in
-    let k = at % 8 in
-    let n = (k + w + 7) / 8 in
-    let t = drop i s in
-    let size : length (take n t) ≡ n = length-take-le n t (omega (arith, length-drop i s)) in
-    let place : 8 * i + k ≡ at = omega arith in
-    window-front (take n t) k w (omega arith) (omega (arith, size))
-    ∙ sym (part-front (bits (take n t)) (bits (drop n t)) k w (omega (arith, size, bits-length (take n t))))
-    ∙ ap (λ (r : List ℕ). take w (drop k r)) (sym (bits-append (take n t) (drop n t)) ∙ ap bits (take-append-drop n t) ∙ bits-drop i s)
-    ∙ ap (λ (r : List ℕ). take w r) (drop-drop k (8 * i) (bits s)) ∙ ap (λ (n : ℕ). take w (drop n (bits s))) place
+module _ (w : Window) (t : List ℕ) (is : Windowed w t) (at : ℕ) where
+  -- the bits from bit `at` on, at the top of 32
+  abbrev from : ℕ
+  from = w .bits * 2 ^ at % 2 ^ 64 % 4294967296
 
--- what `cut` computes of the window x and the powers p and q
-pub window-field : (s : List ℕ) (at w x p q : ℕ) → w ≤ 24 → at + w ≤ 8 * length s → x ≡ number (windowOf (held s at w)) → p ≡ 2 ^ (at % 8) → q ≡ 2 ^ w → fieldAt s w at ≡ step (x * p % 4294967296 * q / 4294967296) (at + w)
-window-field s at w x p q b h e f g =
-    let l = window-length (held s at w) in
-    let value : x * p % 4294967296 * q / 4294967296 ≡ number (take w (drop at (bits s))) =
-    rw (e, f, g) (rw l at (cut-number (windowOf (held s at w)) (at % 8) w (window-binary (held s at w)) (omega arith))) ∙ ap number (window-part s at w b h) in
-    rw value (field-within s w at h)
+  from-part : (n : ℕ) → at + n ≤ 32 → from / 2 ^ (32 - n) ≡ number (take n (drop at (windowOf t)))
+  from-part n h =
+      rw (mod-mod-pow (w .bits * 2 ^ at) 32 32, is .front) (cut-number (windowOf t) 32 at n (window-binary t) (window-length t) h)
 
-pub product-fits : (x y k : ℕ) → x < 4294967296 → y ≡ 2 ^ k → k ≤ 32 → x * y < 2 ^ 64
-product-fits x y k h e l = rw e (lt-of-lt-of-le (shl-lt 32 k h) (pow-mono {j = 64} (omega arith)))
+  pub window-field : (n : ℕ) → at + n ≤ 32 → at + n ≤ w .held → fieldAt t n at ≡ step (from / 2 ^ (32 - n)) (at + n)
+  window-field n h b =
+      let held = is .there in
+      let c : at + n ≤ 8 * length t = omega arith in
+      rw (from-part n h, window-front t at n h c) (field-within t n at c)
+
+  pub window-short : (n : ℕ) → at + n ≤ 32 → w .held < at + n → fieldAt t n at ≡ stop 1
+  window-short n h b = let held = is .there in field-beyond t n at (omega arith)
+
+  -- the eight bits behind bit `at`
+  pub window-behind : at + 9 ≤ 32 → at + 9 ≤ w .held → fieldAt t 8 (at + 1) ≡ step (from / 8388608 % 256) (at + 1 + 8)
+  window-behind h b =
+      let held = is .there in
+      let l = drop at (windowOf t) in
+      let r = take 8 (drop 1 l) in
+      let size : length r ≡ 8 = length-take-le 8 (drop 1 l) (omega (arith, length-drop 1 l, length-drop at (windowOf t), window-length t)) in
+      let small : number r < 256 = rw size at (number-below r (take-binary 8 (drop 1 l) (drop-binary 1 l (drop-binary at (windowOf t) (window-binary t))))) in
+      let parts : from / 8388608 ≡ number (take 1 l) * 256 + number r =
+      from-part 9 h ∙ ap number (take-add 1 8 l) ∙ number-append (take 1 l) r ∙ rw size in
+      let c : at + 1 + 8 ≤ 8 * length t = omega arith in
+      rw (parts, digits-mod (number (take 1 l)) small, drop-drop 1 at (windowOf t), window-front t (at + 1) 8 (omega arith) c) (field-within t 8 (at + 1) c)
+
+-- ---- behind whole bytes
+
+abbrev pub moved : {A : Type 0} → ℕ → Step A → Step A
+moved n (stop k) = stop k
+moved n (step a at) = step a (n + at)
+
+pub field-moved : (s : List ℕ) (i w at : ℕ) → (length s < i → 0 < at + w) → fieldAt s w (8 * i + at) ≡ moved (8 * i) (fieldAt (drop i s) w at)
+field-moved s i w at h = go (decLe (8 * i + at + w) (8 * length s))
+  where
+    left : length (drop i s) ≡ length s - i
+    left = length-drop i s
+
+    go : Dec (8 * i + at + w ≤ 8 * length s) → fieldAt s w (8 * i + at) ≡ moved (8 * i) (fieldAt (drop i s) w at)
+    go (yes b) =
+        rw (field-within s w (8 * i + at) b, field-within (drop i s) w at (omega (arith, left)), bits-drop i s, drop-drop at (8 * i) (bits s), add-assoc (8 * i) at w)
+    go (no b) = rw (field-beyond s w (8 * i + at) (omega arith), field-beyond (drop i s) w at (beyond (decLe i (length s))))
+      where
+        beyond : Dec (i ≤ length s) → 8 * length (drop i s) < at + w
+        beyond (yes e) = omega (arith, left)
+        beyond (no e) = omega (arith, left, h (omega arith))
+
+-- the field at a place, in the window from the byte of that place on
+pub field-at : (s : List ℕ) (w at : ℕ) → at / 8 ≤ length s → fieldAt s w at ≡ moved (8 * (at / 8)) (fieldAt (drop (at / 8) s) w (at % 8))
+field-at s w at h =
+    let e : at ≡ 8 * (at / 8) + at % 8 = omega arith in
+    ap (fieldAt s w) e ∙ field-moved s (at / 8) w (at % 8) (λ l. omega arith)
 
 -- ---- the four bytes
 
@@ -123,19 +161,21 @@ number-none : number (bits []) ≡ 0
 unfolding bits
 number-none = refl
 
--- x is byte j of the list t, 0 past its end
-abbrev pub Byte : List ℕ → ℕ → ℕ → Type 0
+abbrev Byte : List ℕ → ℕ → ℕ → Type 0
 Byte t j x = (x ≡ getD t j 0) × (x < 256)
 
-pub bytes-number : (t : List ℕ) (a b c d : ℕ) → Byte t 0 a → Byte t 1 b → Byte t 2 c → Byte t 3 d → a * 16777216 + b * 65536 + c * 256 + d ≡ number (windowOf t)
+bytes-number : (t : List ℕ) (a b c d : ℕ) → Byte t 0 a → Byte t 1 b → Byte t 2 c → Byte t 3 d → a * 16777216 + b * 65536 + c * 256 + d ≡ number (windowOf t)
 bytes-number t a b c d f g h j =
     rw (window-bits t, ← f .0, ← g .0, ← h .0, ← j .0)
     (omega (arith, number-byte a (b ∷ c ∷ d ∷ []) (f .1), number-byte b (c ∷ d ∷ []) (g .1), number-byte c (d ∷ []) (h .1), number-byte d [] (j .1), number-none))
 
--- the n bytes from byte i on
-module _ (s : List ℕ) (i n : ℕ) where
-  pub there : (j x : ℕ) → j < n → (x ≡ getD s (i + j) 0) × (x < 256) → Byte (take n (drop i s)) j x
-  there j x h e = (e .0 ∙ sym (rw (getD-take, getD-drop)), e .1)
+module _ (s : List ℕ) (i : ℕ) where
+  behind : (j x : ℕ) → Byte s (i + j) x → Byte (drop i s) j x
+  behind j x e = (e .0 ∙ sym (getD-drop i s j 0), e .1)
 
-  pub past : (j : ℕ) → n ≤ j → Byte (take n (drop i s)) j 0
-  past j h = (sym (List·getD-eq-default (take n (drop i s)) 0 (omega (arith, length-take n (drop i s)))), omega arith)
+  pub bytes-window : (a b c d x held : ℕ) → Byte s i a → Byte s (i + 1) b → Byte s (i + 2) c → Byte s (i + 3) d → x ≡ a * 16777216 + b * 65536 + c * 256 + d → held ≡ min 32 (8 * (length s - i)) → Windowed (record { bits = x; held = held }) (drop i s)
+  bytes-window a b c d x held f g h j e k =
+      record {
+        front = e ∙ bytes-number (drop i s) a b c d (behind 0 a (rw add-zero f)) (behind 1 b g) (behind 2 c h) (behind 3 d j);
+        there = rw length-drop k;
+      }

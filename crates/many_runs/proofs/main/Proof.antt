@@ -1,6 +1,5 @@
 -- `main` ends: it reads at most 65,535 runs.
 use Prim.Native.Nat.{_-_, _≤_}
-use native.Mathlib.Omega.{arith}
 use borrow.Author.Needs.{needs}
 use Rattle.many_runs.proofs.main.Statement.{statement}
 use Rattle.many_runs.proofs.main.Tie as tie

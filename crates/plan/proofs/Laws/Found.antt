@@ -1,25 +1,24 @@
--- What reading into arrays gives where it finds a plan: that they hold it, and that it keeps every rule.
+-- What a caller of the reader has, by its answer.
 use Prim.Native.Nat.{ℕ, _≤_}
 use mathlib.Core.Path.{_≡_}
 use mathlib.Core.List.{List}
 use native.Mathlib.Omega.{arith}
-use Rattle.plan.specs.declared.flat.Found.{Found}
-use Rattle.plan.specs.Refusal.{accepted}
+use Rattle.plan.specs.declared.reader.Found.{Found}
+use Rattle.plan.specs.declared.refusal.Refusal.{Refusal}
+use Rattle.plan.specs.Refusal.{refused, numberOf}
 use Rattle.plan.specs.Plan.{Plan}
-use Rattle.plan.specs.Rules.{Accepted}
 use Rattle.plan.specs.Reader.{readPlan}
-use Rattle.plan.specs.Flat.{FlatPlan, Holds, ReadInto}
-use Rattle.plan.proofs.Laws.Accepted.{accepted-kept}
+use Rattle.plan.specs.Sheet.{PlanIn}
+use Rattle.plan.specs.Found.{ReadPlan, ReadInto}
 use Rattle.plan.proofs.Laws.Valid.{total-range}
 
-pub record Given (s : List ℕ) (f : FlatPlan) : Type 0 where
-  pub plan : Plan
-  pub read : readPlan s ≡ accepted plan
-  pub holds : Holds plan f
-  pub kept : Accepted plan
-  pub few : f .actions ≤ 2048
+module _ (s : List ℕ) (r : Found) (plan entering : List ℕ) (h : ReadInto s r plan entering) where
+  pub found-plan : (jobs actions : ℕ) → r ≡ Found.Plan jobs actions → ReadPlan s jobs actions plan entering
+  found-plan jobs actions e = rw e at h
 
-pub found-given : (s : List ℕ) (f : FlatPlan) → ReadInto s (Found.Plan (f .jobs) (f .actions)) f → Given s f
-found-given s f (p, e, h) =
-    let ok = accepted-kept s p e in
-    record { plan = p; read = e; holds = h; kept = ok; few = omega (arith, h .actions, total-range p ok) }
+  pub found-none : (cause : Refusal) → r ≡ Found.Refused cause → readPlan s ≡ refused (numberOf cause)
+  found-none cause e = rw e at h
+
+-- a plan that was read has at most 2,048 actions
+pub few-read : (jobs actions : ℕ) (plan : List ℕ) (p : Plan) → PlanIn jobs actions plan p → actions ≤ 2048
+few-read jobs actions plan p h = omega (arith, h .all, total-range p (h .planned .rules))

@@ -1,14 +1,14 @@
 -- Tests of lists, and lists by their members.
-use Prim.Native.Nat.{ℕ, zero, suc, _+_, _≤_, _<_, max}
-use mathlib.Core.Path.{_≡_, refl, ap}
+use Prim.Native.Nat.{ℕ, zero, suc, _<_}
+use mathlib.Core.Path.{_≡_, refl}
 use mathlib.Core.Bool.{Bool, true, false}
-use mathlib.Core.List.{List, [], _∷_, _++_, map}
+use mathlib.Core.List.{List, [], _∷_, map}
 use native.Mathlib.Omega.{arith}
 use native.Mathlib.Nat.{le-of-suc-le-suc, not-suc-le-zero}
 use lib.Dec.{T}
-use lib.ListN.{length, getD, take, List·getD-map}
+use lib.ListN.{length, getD, take}
 use lib.Seq.{getD-take}
-use Rattle.plan.specs.Test.{both, either, all, count, largest, below}
+use Rattle.plan.specs.Test.{both, all}
 
 pub both-intro : (a b : Bool) → T a → T b → T (both a b)
 both-intro true b s t = t

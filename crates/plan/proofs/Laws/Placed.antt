@@ -1,15 +1,13 @@
 -- Where an action stands in plan order: action i of job j at place `start p j + i`, and no two at one place.
 use Prim.Native.Nat.{ℕ, zero, suc, _+_, _-_, _≤_, _<_}
 use mathlib.Core.Path.{_≡_, refl, ap, sym, _∙_}
-use mathlib.Core.List.{List, [], _∷_, _++_, map}
+use mathlib.Core.List.{List, [], _∷_, _++_, append-assoc}
 use native.Mathlib.Omega.{arith}
 use native.Mathlib.Nat.{le-of-suc-le-suc, not-suc-le-zero, add-assoc, zero-add, add-zero}
 use native.Mathlib.Decide.{decLt}
 use lib.ListN.{length, getD, take, length-append, List·getD-append}
-use lib.Seq.{getD-append-add, getD-take}
-use Rattle.plan.specs.Plan.{Action, Job, Plan, Placed, job, size, action, total, placed, placedIn, placedFrom, noAction, noJob, noPlaced}
-use Rattle.plan.specs.Flat.{starts, Frames, Firsts, Jobs, Spawns, Joins}
-use Rattle.plan.proofs.Laws.Lists.{array-at}
+use lib.Seq.{getD-append-add}
+use Rattle.plan.specs.Plan.{Action, Job, Plan, Placed, job, size, action, total, placed, placedIn, placedFrom, noAction, noPlaced}
 
 -- the place of job j's first action
 abbrev pub start : Plan → ℕ → ℕ
@@ -27,7 +25,17 @@ placedFrom-length j (b ∷ bs) =
 pub placed-length : (p : Plan) → length (placed p) ≡ total p
 placed-length p = placedFrom-length 0 p
 
-placedIn-at : (j o : ℕ) (l : List Action) (i n : ℕ) → i < length l → o + i ≡ n
+pub placedFrom-append : (j : ℕ) (p q : Plan) → placedFrom j (p ++ q) ≡ placedFrom j p ++ placedFrom (j + length p) q
+placedFrom-append j [] q = rw add-zero
+placedFrom-append j (b ∷ p) q =
+    let e : suc j + length p ≡ j + length (b ∷ p) = omega arith in
+    rw (placedFrom-append (suc j) p q, e, append-assoc)
+
+pub total-append : (p q : Plan) → total (p ++ q) ≡ total p + total q
+total-append [] q = omega arith
+total-append (b ∷ p) q = omega (arith, total-append p q)
+
+pub placedIn-at : (j o : ℕ) (l : List Action) (i n : ℕ) → i < length l → o + i ≡ n
     → getD (placedIn j o l) i noPlaced ≡ record { job = j; position = n; spawn = getD l i noAction .spawn; join = getD l i noAction .join }
 placedIn-at j o [] i n h e = absurd (not-suc-le-zero h)
 placedIn-at j o (a ∷ l) zero n h e =
@@ -117,27 +125,3 @@ placed-of p k h = found (locate p k h)
         let e : getD (placed p) k noPlaced ≡ record { job = r .job; position = r .position; spawn = action p (r .job) (r .position) .spawn; join = action p (r .job) (r .position) .join }
         = ap (λ n. getD (placed p) n noPlaced) (r .place) ∙ placed-at p (r .job) (r .position) (r .known) (r .within) in
         rw e (record { known = r .known; within = r .within; place = r .place; spawn = refl; join = refl })
-
-starts-at : (o : ℕ) (p : List Job) (j : ℕ) → j ≤ length p → getD (starts o p) j 0 ≡ o + start p j
-starts-at o [] zero h = omega arith
-starts-at o [] (suc j) h = absurd (not-suc-le-zero h)
-starts-at o (b ∷ bs) zero h = omega arith
-starts-at o (b ∷ bs) (suc j) h = omega (arith, starts-at (o + length (b .actions)) bs j (le-of-suc-le-suc h))
-
--- what the arrays hold
-pub first-at : (p : Plan) (l : List ℕ) → Firsts p l → (j : ℕ) → j ≤ length p → getD l j 0 ≡ start p j
-first-at p l e j h =
-    let s : getD (take (suc (length p)) l) j 0 ≡ getD l j 0 = getD-take (suc (length p)) l j 0 (omega arith) in
-    rw (← s, e) (starts-at 0 p j h ∙ zero-add (start p j))
-
-pub frame-at : (p : Plan) (l : List ℕ) → Frames p l → (j : ℕ) → j < length p → getD l j 0 ≡ job p j .frame
-frame-at p l e j h = array-at (λ b. b .frame) l p noJob (length p) e refl j h
-
-pub job-at : (p : Plan) (l : List ℕ) → Jobs p l → (k : ℕ) → k < total p → getD l k 0 ≡ getD (placed p) k noPlaced .job
-job-at p l e k h = array-at (λ a. a .job) l (placed p) noPlaced (total p) e (placed-length p) k h
-
-pub spawn-at : (p : Plan) (l : List ℕ) → Spawns p l → (k : ℕ) → k < total p → getD l k 0 ≡ getD (placed p) k noPlaced .spawn
-spawn-at p l e k h = array-at (λ a. a .spawn) l (placed p) noPlaced (total p) e (placed-length p) k h
-
-pub join-at : (p : Plan) (l : List ℕ) → Joins p l → (k : ℕ) → k < total p → getD l k 0 ≡ getD (placed p) k noPlaced .join
-join-at p l e k h = array-at (λ a. a .join) l (placed p) noPlaced (total p) e (placed-length p) k h

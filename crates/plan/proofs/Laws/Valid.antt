@@ -7,7 +7,7 @@ use lib.Dec.{T, leb, ltb, eqb, leb→le, ltb→lt, eqb→eq}
 use lib.ListN.{length}
 use Rattle.plan.specs.Test.{both, either}
 use Rattle.plan.specs.Plan.{Plan, Placed, job, size, action, total, placed, noPlaced, parent, spawnAt, entering}
-use Rattle.plan.specs.Rules.{inRange, spawnRules, joinFits, fewEnter, lastSends, joinRules, Accepted}
+use Rattle.plan.specs.Rules.{joinFits, fewEnter, lastSends, joinRules, Accepted}
 use Rattle.plan.proofs.Laws.Lists.{both-left, both-right, all-at}
 use Rattle.plan.proofs.Laws.Placed.{start, placed-length, placed-at, place-below}
 use Rattle.plan.proofs.Laws.Spawning.{jobs-in-range, size-in-range, frame-in-range, total-in-range, spawner-of, spawner-once}

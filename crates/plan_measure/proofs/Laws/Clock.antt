@@ -3,15 +3,15 @@ use Prim.Native.Nat.{ℕ, zero, suc, _+_, _-_, _≤_, _<_, max}
 use mathlib.Core.Path.{_≡_, refl, ap, sym, _∙_}
 use mathlib.Core.Logic.{_⊎_, inl, inr}
 use mathlib.Core.List.{List}
-use native.Mathlib.Numerals.{add-one}
 use native.Mathlib.Omega.{arith}
 use native.Mathlib.Nat.{not-suc-le-zero}
 use native.Mathlib.Decide.{decLt}
 use lib.ListN.{length, getD, replicate}
 use Rattle.plan.specs.Plan.{Plan, Placed, noPlaced, size, action, placed, parent, spawnAt}
 use Rattle.plan_measure.specs.Measure.{longest}
-use Rattle.plan_measure.specs.Times.{at, ends, begins, TimesGiven, JobGiven, TimedFrom, SendGiven, Sent, PassGiven, Passed}
-use Rattle.plan.proofs.Laws.Placed.{start, start-suc, start-below, place-below, placed-at, first-at, spawn-at, join-at}
+use Rattle.plan_measure.specs.Times.{at, PlanOf, ends, begins, JobOf, JobGiven, JobTimed, TimedFrom, SendGiven, Sent, PassGiven, Passed}
+use Rattle.plan.specs.Sheet.{childAt, targetAt, firstAt, Laid}
+use Rattle.plan.proofs.Laws.Placed.{start, start-suc, start-below, place-below, placed-at}
 use Rattle.plan.specs.Rules.{Accepted}
 use Rattle.plan.proofs.Laws.Valid.{older, spawned-there, spawned-once, join-target, size-range, jobs-range, total-range}
 use Rattle.plan_measure.proofs.Laws.Follows.{act}
@@ -35,18 +35,13 @@ pub record Midway (p : Plan) (j i done : ℕ) (time late : ℕ → ℕ) : Type 0
   pub none : i ≡ 0 → done ≡ 0
   pub last : (a : ℕ) → i ≡ suc a → done + begins p j ≡ ends p j a
 
--- the arrays hold what the actions spawn and where they send joins
-pub record Arrays (p : Plan) (first spawn join : ℕ → ℕ) : Type 0 where
-  pub firsts : (j : ℕ) → j ≤ length p → first j ≡ start p j
-  pub spawns : (j i : ℕ) → j < length p → i < size p j → spawn (start p j + i) ≡ action p j i .spawn
-  pub joins : (j i : ℕ) → j < length p → i < size p j → join (start p j + i) ≡ action p j i .join
+-- what the array tells of action i of job j
+module _ (plan : List ℕ) (p : Plan) (laid : Laid plan p) (j i : ℕ) (h : j < length p) (b : i < size p j) where
+  child-of : childAt plan (start p j + i) ≡ action p j i .spawn
+  child-of = laid .children (start p j + i) (place-below p j i h b) ∙ ap (λ (a : Placed). a .spawn) (placed-at p j i h b)
 
-pub arrays-of : (p : Plan) (first spawn join : List ℕ) → TimesGiven p first spawn join → Arrays p (at first) (at spawn) (at join)
-arrays-of p first spawn join g = record {
-  firsts = first-at p first (g .firsts);
-  spawns = λ j i h b. spawn-at p spawn (g .spawns) (start p j + i) (place-below p j i h b) ∙ ap (λ (a : Placed). a .spawn) (placed-at p j i h b);
-  joins = λ j i h b. join-at p join (g .joins) (start p j + i) (place-below p j i h b) ∙ ap (λ (a : Placed). a .join) (placed-at p j i h b);
-}
+  target-of : targetAt plan (start p j + i) ≡ action p j i .join
+  target-of = laid .targets (start p j + i) (place-below p j i h b) ∙ ap (λ (a : Placed). a .join) (placed-at p j i h b)
 
 module _ (p : Plan) (ok : Accepted p) where
   -- nothing is known of when joins came
@@ -94,7 +89,7 @@ module _ (p : Plan) (ok : Accepted p) where
     pub tick-small : max done (late (start p j + i)) < 2048
     tick-small = omega (arith, tick, ends-small p ok j i known within)
 
-    module _ (first spawn join time′ late′ : ℕ → ℕ) (arrays : Arrays p first spawn join) (done′ : ℕ)
+    module _ (plan : List ℕ) (laid : Laid plan p) (time′ late′ : ℕ → ℕ) (done′ : ℕ)
         (is : done′ + begins p j ≡ ends p j i) (new : time′ (start p j + i) ≡ done′)
         (same : (k : ℕ) → (k ≡ start p j + i → ⊥) → time′ k ≡ time k) where
       later′ : (c a : ℕ) → j < c → c < length p → a < size p c → time′ (start p c + a) + begins p c ≡ ends p c a
@@ -142,35 +137,35 @@ module _ (p : Plan) (ok : Accepted p) where
         once = spawned-once p ok j i c known within e
 
         -- an action of the child by its place
-        child-at : (k : ℕ) → first c ≤ k → k < first (suc c) → (k ≡ start p c + (k - start p c)) × (k - start p c < size p c)
+        child-at : (k : ℕ) → firstAt plan c ≤ k → k < firstAt plan (suc c) → (k ≡ start p c + (k - start p c)) × (k - start p c < size p c)
         child-at k l u =
             let o = once in
-            omega (arith, arrays .firsts c (omega arith), arrays .firsts (suc c) (omega arith), start-suc p c (o .1))
+            omega (arith, laid .firsts c (omega arith), laid .firsts (suc c) (omega arith), start-suc p c (o .1))
 
-        sends : (k t : ℕ) → first c ≤ k → k < first (suc c) → join k ≡ suc t
+        sends : (k t : ℕ) → firstAt plan c ≤ k → k < firstAt plan (suc c) → targetAt plan k ≡ suc t
             → action p c (k - start p c) .join ≡ suc t
         sends k t l u f =
             let o = once in
             let (s, b) = child-at k l u in
-            sym (arrays .joins c (k - start p c) (o .1) b) ∙ ap join (sym s) ∙ f
+            sym (target-of plan p laid c (k - start p c) (o .1) b) ∙ ap (targetAt plan) (sym s) ∙ f
 
-        target : (k t : ℕ) → first c ≤ k → k < first (suc c) → join k ≡ suc t → t < size p j
+        target : (k t : ℕ) → firstAt plan c ≤ k → k < firstAt plan (suc c) → targetAt plan k ≡ suc t → t < size p j
         target k t l u f =
             let o = once in
             let g = join-target p ok c (k - start p c) t (o .1) (child-at k l u .1) (sends k t l u f) in
             rw (o .2) at (g .1)
 
-        at-time : (k : ℕ) → first c ≤ k → k < first (suc c) → done′ + time′ k + begins p j ≡ ends p c (k - start p c)
+        at-time : (k : ℕ) → firstAt plan c ≤ k → k < firstAt plan (suc c) → done′ + time′ k + begins p j ≡ ends p c (k - start p c)
         at-time k l u =
             let o = once in
             let (s, b) = child-at k l u in
             omega (arith, child-time c (k - start p c) (o .0) (o .1) (o .2) (o .3) b, ap time′ s)
 
-        child-given : SendGiven (first c) (first (suc c)) (start p j) done′ join time′
+        child-given : SendGiven (firstAt plan c) (firstAt plan (suc c)) (start p j) done′ (targetAt plan) time′
         child-given =
             let o = once in
-            let f = arrays .firsts c (omega arith) in
-            let g = arrays .firsts (suc c) (omega arith) in
+            let f = laid .firsts c (omega arith) in
+            let g = laid .firsts (suc c) (omega arith) in
             record {
               order = omega (arith, start-suc p c (o .1));
               fits = omega (arith, start-below p (suc c), total-range p ok);
@@ -178,12 +173,12 @@ module _ (p : Plan) (ok : Accepted p) where
               sums = λ k l u. omega (arith, at-time k l u, ends-small p ok c (k - start p c) (o .1) (child-at k l u .1));
             }
 
-        next-child : Sent (first c) (first (suc c)) (start p j) done′ join time′ late late′ → Midway p j (suc i) done′ time′ late′
+        next-child : Sent (firstAt plan c) (firstAt plan (suc c)) (start p j) done′ (targetAt plan) time′ late late′ → Midway p j (suc i) done′ time′ late′
         next-child s = next-midway (s .kept) (λ q t h b. low q t h b (s .source (start p q + t))) came
           where
             low : (q t : ℕ) → q < length p → t < size p q
                 → (late′ (start p q + t) ≡ late (start p q + t))
-                ⊎ ((k : ℕ) × (u : ℕ) × (first c ≤ k) × (k < first (suc c)) × (join k ≡ suc u) × (start p q + t ≡ start p j + u) × (late′ (start p q + t) ≡ done′ + time′ k))
+                ⊎ ((k : ℕ) × (u : ℕ) × (firstAt plan c ≤ k) × (k < firstAt plan (suc c)) × (targetAt plan k ≡ suc u) × (start p q + t ≡ start p j + u) × (late′ (start p q + t) ≡ done′ + time′ k))
                 → late′ (start p q + t) + begins p q < ends p q t
             low q t h b (inl f) = omega (arith, m .lates q t h b)
             low q t h b (inr (k, u, l, r, g, w, f)) =
@@ -199,81 +194,93 @@ module _ (p : Plan) (ok : Accepted p) where
                 let o = once in
                 let w : action p j i .spawn ≡ suc d = rw (q, r) at (spawned-there p ok d h b .1) in
                 let n : d ≡ c = omega arith in
-                let v = s .came (start p c + a) t (omega (arith, arrays .firsts c (omega arith)))
-                (omega (arith, arrays .firsts (suc c) (omega arith), start-suc p c (o .1), rw n at l)) (arrays .joins c a (o .1) (rw n at l) ∙ rw n at g) in
+                let v = s .came (start p c + a) t (omega (arith, laid .firsts c (omega arith)))
+                (omega (arith, laid .firsts (suc c) (omega arith), start-suc p c (o .1), rw n at l)) (target-of plan p laid c a (o .1) (rw n at l) ∙ rw n at g) in
                 rw n (omega (arith, child-time c a (o .0) (o .1) (o .2) (o .3) (rw n at l)))
 
-      pub pass-given : PassGiven (start p j + i) (start p j) done′ first spawn join time′
+      pub pass-given : PassGiven (start p j + i) (start p j) done′ plan time′
       pass-given = record {
         fits = omega (arith, place-below p j i known within, total-range p ok);
         child = λ c e.
-            let s : action p j i .spawn ≡ suc c = sym (arrays .spawns j i known within) ∙ e in
+            let s : action p j i .spawn ≡ suc c = sym (child-of plan p laid j i known within) ∙ e in
             (omega (arith, once c s, jobs-range p ok), child-given c s);
       }
 
-      pub pass-next : Passed (start p j + i) (start p j) done′ first spawn join time′ late late′ → Midway p j (suc i) done′ time′ late′
+      pub pass-next : Passed (start p j + i) (start p j) done′ plan time′ late late′ → Midway p j (suc i) done′ time′ late′
       pass-next r = by (action p j i .spawn) refl
         where
           by : (v : ℕ) → action p j i .spawn ≡ v → Midway p j (suc i) done′ time′ late′
-          by (suc c) e = next-child c e (r .child c (arrays .spawns j i known within ∙ e))
+          by (suc c) e = next-child c e (r .child c (child-of plan p laid j i known within ∙ e))
           by zero e =
-              let s = r .none (arrays .spawns j i known within ∙ e) in
+              let s = r .none (child-of plan p laid j i known within ∙ e) in
               next-midway (λ k. omega (arith, s k)) (λ q t h b. omega (arith, s (start p q + t), m .lates q t h b))
               (λ d a t h b q w l g.
               let z : action p j i .spawn ≡ suc d = rw (q, w) at (spawned-there p ok d h b .1) in
               absurd (omega arith))
 
 -- the same by the action's place k
-module _ (p : Plan) (j base end : ℕ) (first spawn join : List ℕ) (g : JobGiven p j base end first spawn join) where
-  rules : Accepted p
-  rules = g .arrays .rules
+module _ (base end : ℕ) (plan time₀ late₀ : List ℕ) (of : JobOf) (g : JobGiven base end plan time₀ late₀ of) where
+  abbrev MidwayAt : ℕ → ℕ → (time late : ℕ → ℕ) → Type 0
+  MidwayAt k = Midway (of .plan) (of .job) (k - base)
 
-  pub job-places : (end ≡ base + size p j) × (end ≤ 2048)
-  job-places = omega (arith, g .start, g .past, start-suc p j (g .known), start-below p (suc j), total-range p rules)
+  rules : Accepted (of .plan)
+  rules = g .planned .rules
 
-  pub place-first : (time late : ℕ → ℕ) → TimedFrom p (suc j) time late → Midway p j (base - base) 0 time late
-  place-first time late f = let z : base - base ≡ 0 = omega arith in rw z (midway-first p rules j time late f)
+  pub job-places : (end ≡ base + size (of .plan) (of .job)) × (end ≤ 2048)
+  job-places =
+      omega (arith, g .start, g .past, start-suc (of .plan) (of .job) (g .known), start-below (of .plan) (suc (of .job)), total-range (of .plan) rules)
 
-  pub place-last : (k done : ℕ) (time late : ℕ → ℕ) → k ≡ end → Midway p j (k - base) done time late
-      → TimedFrom p j time late × (done + begins p j ≡ ends p j (size p j - 1))
-  place-last k done time late e m =
-      midway-last p rules j (k - base) done time late (g .known) (omega (arith, job-places)) m
+  pub place-first : MidwayAt base 0 (at time₀) (at late₀)
+  place-first = let z : base - base ≡ 0 = omega arith in rw z (midway-first (of .plan) rules (of .job) _ _ (g .above))
 
-  module _ (k done : ℕ) (time late : ℕ → ℕ) (low : base ≤ k) (high : k < end) (m : Midway p j (k - base) done time late) where
-    inside : k - base < size p j
+  pub place-last : (k done : ℕ) (time late : List ℕ) → k ≡ end → length time ≡ 2048 → length late ≡ 2048
+      → MidwayAt k done (at time) (at late) → JobTimed done time late of
+  place-last k done time late e l n m =
+      let (t, r) = midway-last (of .plan) rules (of .job) (k - base) done _ _ (g .known) (omega (arith, job-places)) m in
+      record { long = (l, n); timed = t; last = r }
+
+  module _ (k done : ℕ) (time late : ℕ → ℕ) (low : base ≤ k) (high : k < end) (m : MidwayAt k done time late) where
+    inside : k - base < size (of .plan) (of .job)
     inside = omega (arith, job-places)
 
-    here : start p j + (k - base) ≡ k
+    here : start (of .plan) (of .job) + (k - base) ≡ k
     here = omega (arith, g .start)
 
     pub place-small : max done (late k) < 2048
-    place-small = rw here at (tick-small p rules j (k - base) done time late (g .known) inside m)
+    place-small = rw here at (tick-small (of .plan) rules (of .job) (k - base) done time late (g .known) inside m)
 
     module _ (most : ℕ) (e : most ≡ max done (late k)) (time′ : ℕ → ℕ) (new : time′ k ≡ most + 1) (same : (n : ℕ) → (n ≡ k → ⊥) → time′ n ≡ time n) where
-      is : most + 1 + begins p j ≡ ends p j (k - base)
-      is = omega (arith, rw here at (tick p rules j (k - base) done time late (g .known) inside m))
+      is : most + 1 + begins (of .plan) (of .job) ≡ ends (of .plan) (of .job) (k - base)
+      is = omega (arith, rw here at (tick (of .plan) rules (of .job) (k - base) done time late (g .known) inside m))
 
-      pub place-given : PassGiven k base (most + 1) (at first) (at spawn) (at join) time′
+      pub place-given : PassGiven k base (most + 1) plan time′
       place-given =
-          rw (here, ← (g .start)) at (pass-given p rules j (k - base) done time late (g .known) inside m (at first) (at spawn) (at join) time′ late
-          (arrays-of p first spawn join (g .arrays)) (most + 1) is (rw here new) (λ n f. same n (λ z. f (z ∙ sym here))))
+          rw (here, ← (g .start)) at (pass-given (of .plan) rules (of .job) (k - base) done time late (g .known) inside m plan (g .planned .laid) time′ late
+          (most + 1) is (rw here new) (λ n f. same n (λ z. f (z ∙ sym here))))
 
-      pub place-next : (late′ : ℕ → ℕ) → Passed k base (most + 1) (at first) (at spawn) (at join) time′ late late′
-          → Midway p j (k + 1 - base) (most + 1) time′ late′
+      pub place-next : (late′ : ℕ → ℕ) → Passed k base (most + 1) plan time′ late late′ → MidwayAt (k + 1) (most + 1) time′ late′
       place-next late′ r =
           let n : k + 1 - base ≡ suc (k - base) = omega arith in
-          rw n (pass-next p rules j (k - base) done time late (g .known) inside m (at first) (at spawn) (at join) time′ late′
-          (arrays-of p first spawn join (g .arrays)) (most + 1) is (rw here new) (λ n f. same n (λ z. f (z ∙ sym here)))
+          rw n (pass-next (of .plan) rules (of .job) (k - base) done time late (g .known) inside m plan (g .planned .laid) time′ late′
+          (most + 1) is (rw here new) (λ n f. same n (λ z. f (z ∙ sym here)))
           (rw (here, ← (g .start)) r))
 
-pub job-given : (p : Plan) (first spawn join : List ℕ) → TimesGiven p first spawn join → (j from end : ℕ) → j < length p
-    → from ≡ at first j → end ≡ at first (j + 1) → JobGiven p j from end first spawn join
-job-given p first spawn join g j from end h e f = record {
-  arrays = g;
-  known = h;
-  start = e ∙ first-at p first (g .firsts) j (omega arith);
-  past = f ∙ ap (at first) (add-one j) ∙ first-at p first (g .firsts) (suc j) h;
-}
+-- job j - 1 is given where the jobs from j on are timed
+module _ (jobs : ℕ) (plan : List ℕ) (p : Plan) (g : PlanOf jobs plan p) (j from end : ℕ) (some : 0 < j) (known : j ≤ jobs)
+    (start : from ≡ firstAt plan (j - 1)) (past : end ≡ firstAt plan (j - 1 + 1)) where
+  pub job-given : (time late : List ℕ) → length time ≡ 2048 → length late ≡ 2048 → TimedFrom p j (at time) (at late)
+      → JobGiven from end plan time late (record { plan = p; job = j - 1 })
+  job-given time late l n t =
+      let e : suc (j - 1) ≡ j = omega arith in
+      let f : j - 1 + 1 ≡ suc (j - 1) = omega arith in
+      record {
+        planned = g .planned;
+        known = omega (arith, g .count);
+        start = start ∙ g .planned .laid .firsts (j - 1) (omega (arith, g .count));
+        past = past ∙ ap (firstAt plan) f ∙ g .planned .laid .firsts (suc (j - 1)) (omega (arith, g .count));
+        long = (l, n);
+        above = rw e t;
+      }
 
 pub zeros-at : (n k : ℕ) → _≡_ {A = ℕ} (getD (replicate n 0) k 0) 0
 zeros-at zero k = refl

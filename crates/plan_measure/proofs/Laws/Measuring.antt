@@ -1,32 +1,19 @@
 -- What is measured of a plan that was read, and what the entry then answers.
-use Prim.Native.Nat.{ℕ, _≤_}
+use Prim.Native.Nat.{ℕ}
 use mathlib.Core.Path.{_≡_, sym, ap, _∙_}
 use mathlib.Core.List.{List}
-use native.Mathlib.Omega.{arith}
 use Rattle.plan.specs.Refusal.{Outcome, refused, accepted}
 use Rattle.plan.specs.Plan.{Plan}
-use Rattle.plan.specs.Flat.{FlatPlan}
 use Rattle.plan.specs.Reader.{readPlan}
+use Rattle.plan.specs.Sheet.{PlanIn}
 use Rattle.plan_measure.specs.declared.Measures.{Measures}
 use Rattle.plan_measure.proofs.Laws.Work.{work-total}
 use Rattle.plan_measure.specs.Measure.{measured, measures, longest, heaviest}
-use Rattle.plan_measure.specs.Times.{MeasureGiven}
-use Rattle.plan.proofs.Laws.Valid.{total-range}
-use Rattle.plan.proofs.Laws.Found.{Given}
+use Rattle.plan_measure.specs.Times.{PlanOf}
 
-pub given-measured : (s : List ℕ) (f : FlatPlan) (g : Given s f)
-    → MeasureGiven (f .jobs) (f .actions) (f .frame) (f .first) (f .spawn) (f .join) (f .parent) (g .plan)
-given-measured s f g =
-    let h = g .holds in
-    record {
-      paths = record { rules = g .kept; count = h .jobs; frames = h .frames; parents = h .spawned .parents };
-      times = record { rules = g .kept; firsts = h .firsts; spawns = h .spawns; joins = h .joins };
-      all = h .actions;
-    }
-
-module _ (p : Plan) (jobs actions : ℕ) (frame first spawn join parent : List ℕ) (g : MeasureGiven jobs actions frame first spawn join parent p) where
-  pub measured-few : actions ≤ 2048
-  measured-few = omega (arith, g .all, total-range p (g .paths .rules))
+module _ (p : Plan) (jobs actions : ℕ) (plan : List ℕ) (g : PlanIn jobs actions plan p) where
+  pub measured-of : PlanOf jobs plan p
+  measured-of = record { count = g .count; planned = g .planned }
 
   pub measured-by : (length path : ℕ) → length ≡ longest p → path ≡ heaviest p
       → accepted (record { actions = actions; longest = length; path = path }) ≡ measured (accepted p)

@@ -1,15 +1,15 @@
 -- `measure::measure` meets its contract.
-use mathlib.Core.Path.{sym}
-use Rattle.plan.specs.Flat.{FlatPlan}
-use Rattle.plan.proofs.Laws.Blank.{blank}
-use Rattle.plan.proofs.Laws.Found.{Given, found-given}
-use Rattle.plan_measure.proofs.Laws.Measuring.{given-measured, measures-read, measures-refused}
+use mathlib.Core.Path.{refl, sym}
+use denote.Ref.{now}
+use Rattle.plan.specs.Found.{ReadPlan}
+use Rattle.plan.proofs.Laws.Found.{found-plan, found-none}
+use Rattle.plan_measure.proofs.Laws.Measuring.{measures-read, measures-refused}
 use borrow.Author.Needs.{needs}
 use Rattle.plan_measure.proofs.measure.Statement.{statement}
 use Rattle.plan_measure.proofs.measure.Tie as tie
 
 read-into-requires : tie.Need-read-into-requires
-read-into-requires c κs = blank
+read-into-requires c κs = (refl, refl)
 
 enum-known-cause : tie.Need-enum-known-cause
 enum-known-cause c = search needs
@@ -17,40 +17,24 @@ enum-known-cause c = search needs
 enum-known-jobs : tie.Need-enum-known-jobs
 enum-known-jobs c = search needs
 
--- the arrays that were read into, and the plan that they hold
-abbrev flat : tie.After-jobs → FlatPlan
-flat c =
-    let l = c .before .before .read-into .last .1 in
-    record {
-      jobs = c .jobs .given .0 .0;
-      actions = c .jobs .given .0 .1 .0;
-      frame = l .0;
-      first = l .1 .0;
-      job = l .1 .1 .0;
-      spawn = l .1 .1 .1 .0;
-      join = l .1 .1 .1 .1 .0;
-      parent = l .1 .1 .1 .1 .1 .0;
-      position = l .1 .1 .1 .1 .1 .1 .0;
-      entering = l .1 .1 .1 .1 .1 .1 .1 .0;
-    }
-
-given : (c : tie.After-jobs) → Given (c .before .before .before .before .before .before .before .before .before .before .before .before .args .bytes .now) (flat c)
-given c = found-given _ (flat c) (rw (c .jobs .given .1) at (c .before .before .read-into .ensures))
+-- what was read
+read : (c : tie.After-jobs)
+    → let r = c .before .before .read-into in
+    ReadPlan (now (c .before .before .before .before .before .before .args .bytes)) (c .jobs .given .0 .0) (c .jobs .given .0 .1 .0) (r .last .1 .0) (r .last .1 .1 .0)
+read c = found-plan _ _ _ _ (c .before .before .read-into .ensures) _ _ (c .jobs .given .1)
 
 measure-read-requires : tie.Need-measure-read-requires
-measure-read-requires c κs =
-    let g = given (c .before .before .before .before .before .before) in
-    (g .plan, given-measured _ _ g)
+measure-read-requires c κs = let g = read (c .before .before) in (g .is, g .held)
 
 returns : tie.Need-returns
 returns c =
     let z = c .before in
-    sym (measures-refused _ _ (rw (z .cause .given .1) at (z .before .before .read-into .ensures)))
+    sym (measures-refused _ _ (found-none _ _ _ _ (z .before .before .read-into .ensures) _ (z .cause .given .1)))
 
 returns-2 : tie.Need-returns-2
 returns-2 c =
-    let g = given (c .before .before .before .before .before .before .before) in
-    measures-read _ (g .plan) _ (g .read) (c .measure-read .ensures (g .plan) (given-measured _ _ g))
+    let g = read (c .before .before .before) in
+    measures-read _ (g .is) _ (g .read) (c .measure-read .ensures (g .is) (g .held))
 
 pub measure-spec : {M : Type 1} → statement M
 measure-spec =

@@ -1,33 +1,35 @@
 -- `measure_read` meets its contract, by what its two parts tell.
 use native.Mathlib.Omega.{arith}
-use Rattle.plan_measure.proofs.Laws.Measuring.{measured-few, measured-by}
+use Rattle.plan_measure.proofs.Laws.Measuring.{measured-of, measured-by}
+use Rattle.plan.proofs.Laws.Found.{few-read}
 use Rattle.plan_measure.proofs.measure_read.Statement.{statement}
 use Rattle.plan_measure.proofs.measure_read.Tie as tie
 
-cast-t8 : tie.Need-cast-t8
-cast-t8 c =
+cast-t4 : tie.Need-cast-t4
+cast-t4 c =
     let (p, g) = c .pre in
-    omega (arith, measured-few p _ _ _ _ _ _ _ g)
+    omega (arith, few-read _ _ _ p g)
 
 longest-requires : tie.Need-longest-requires
 longest-requires c κs =
     let (p, g) = c .pre in
-    (p, record { times = g .times; count = g .paths .count })
+    (p, measured-of p _ _ _ g)
 
 heaviest-requires : tie.Need-heaviest-requires
 heaviest-requires c κs =
     let (p, g) = c .before .pre in
-    (p, g .paths)
+    (p, measured-of p _ _ _ g)
 
 returns : tie.Need-returns
 returns c = λ p g.
-    measured-by p _ _ _ _ _ _ _ g _ _ (c .before .longest .ensures p (record { times = g .times; count = g .paths .count })) (c .heaviest .ensures p (g .paths))
+    let o = measured-of p _ _ _ g in
+    measured-by p _ _ _ g _ _ (c .before .longest .ensures p o) (c .heaviest .ensures p o)
 
 pub measure-read-spec : {M : Type 1} → statement M
 measure-read-spec =
     tie.close
     (tie.spec
-    cast-t8
+    cast-t4
     longest-requires
     heaviest-requires
     returns)

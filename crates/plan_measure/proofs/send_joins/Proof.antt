@@ -5,17 +5,18 @@ use native.Mathlib.Numerals.{add-one}
 use native.Mathlib.Omega.{arith}
 use borrow.Author.Needs.{needs}
 use lib.ListN.{length}
+use Rattle.plan.specs.Sheet.{targetAt}
 use Rattle.plan_measure.specs.Times.{at, Sent}
 use Rattle.plan_measure.proofs.Laws.Sends.{sent-none, sent-then, part-given}
 use Rattle.plan_measure.proofs.send_joins.Statement.{statement}
 use Rattle.plan_measure.proofs.send_joins.Tie as tie
 
 abbrev Inv-loop : tie.InvT-loop
-Inv-loop from end base spawned join time late₀ k₀ late k =
-    (length late ≡ 2048) × (from ≤ k) × (k ≤ end) × Sent from k base spawned (at join) (at time) (at late₀) (at late)
+Inv-loop from end base spawned plan time late₀ k₀ late k =
+    (length late ≡ 2048) × (from ≤ k) × (k ≤ end) × Sent from k base spawned (targetAt plan) (at time) (at late₀) (at late)
 
 abbrev μ-loop : tie.MeasureT-loop
-μ-loop from end base spawned join time late₀ k₀ late k = end - k
+μ-loop from end base spawned plan time late₀ k₀ late k = end - k
 
 loop-holds : tie.Need-loop-holds Inv-loop μ-loop
 loop-holds c = (c .pre .0, omega arith, c .pre .1 .order, sent-none _ _ _ _ _ _)

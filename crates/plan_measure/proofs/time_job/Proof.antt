@@ -1,30 +1,28 @@
 -- `measure::time_job` meets its contract: before each action the times of those before it and when joins came are known.
-use Prim.Native.Nat.{ℕ, suc, _-_, _≤_, _<_}
+use Prim.Native.Nat.{_-_, _≤_, _<_}
 use mathlib.Core.Path.{_≡_}
 use native.Mathlib.Omega.{arith}
 use borrow.Author.Needs.{needs}
 use lib.ListN.{length, length-set}
 use lib.Seq.{getD-set-same, getD-set-other}
-use Rattle.plan.specs.Plan.{Plan}
-use Rattle.plan_measure.specs.Times.{at, JobGiven, TimedFrom}
+use Rattle.plan_measure.specs.Times.{at, JobOf, JobGiven}
 use Rattle.plan_measure.proofs.Laws.Clock.{Midway, job-places, place-first, place-last, place-small, place-given, place-next}
 use Rattle.plan_measure.proofs.time_job.Statement.{statement}
 use Rattle.plan_measure.proofs.time_job.Tie as tie
 
 abbrev Inv-loop : tie.InvT-loop
-Inv-loop base end first spawn join time₀ late₀ done₀ k₀ time late done k =
+Inv-loop base end plan time₀ late₀ done₀ k₀ time late done k =
     (length time ≡ 2048) × (length late ≡ 2048) × (base ≤ k) × (k ≤ end) × (end ≤ 2048)
-    × ((p : Plan) (j : ℕ) → JobGiven p j base end first spawn join → TimedFrom p (suc j) (at time₀) (at late₀)
-    → Midway p j (k - base) done (at time) (at late))
+    × ((of : JobOf) → JobGiven base end plan time₀ late₀ of → Midway (of .plan) (of .job) (k - base) done (at time) (at late))
 
 abbrev μ-loop : tie.MeasureT-loop
-μ-loop base end first spawn join time₀ late₀ done₀ k₀ time late done k = end - k
+μ-loop base end plan time₀ late₀ done₀ k₀ time late done k = end - k
 
 loop-holds : tie.Need-loop-holds Inv-loop μ-loop
 loop-holds c =
-    let (p, j, g, f) = c .pre .2 in
-    let b = job-places p j _ _ _ _ _ g in
-    (c .pre .0, c .pre .1, omega arith, omega arith, b .1, λ p j g f. place-first p j _ _ _ _ _ g _ _ f)
+    let (of, g) = c .pre in
+    let b = job-places _ _ _ _ _ of g in
+    (g .long .0, g .long .1, omega arith, omega arith, b .1, λ of g. place-first _ _ _ _ _ of g)
 
 mul-later : tie.Need-mul-later Inv-loop μ-loop
 mul-later c = omega arith
@@ -38,11 +36,11 @@ later-requires c κs = search needs
 add-done : tie.Need-add-done Inv-loop μ-loop
 add-done c =
     let l = c .before .before .before in
-    let (p, j, g, f) = l .before .pre .2 in
+    let (of, g) = l .before .pre in
     omega (
       arith,
       c .later .ensures,
-      place-small p j _ _ _ _ _ g _ _ _ _ (l .loop .inv .2) (omega arith) (l .loop .inv .5 p j g f),
+      place-small _ _ _ _ _ of g _ _ _ _ (l .loop .inv .2) (omega arith) (l .loop .inv .5 of g),
     )
 
 mul-time : tie.Need-mul-time Inv-loop μ-loop
@@ -54,9 +52,9 @@ element-write-time c = omega arith
 pass-child-requires : tie.Need-pass-child-requires Inv-loop μ-loop
 pass-child-requires c κs =
     let l = c .before .before .before .before .before in
-    let (p, j, g, f) = l .before .pre .2 in (
+    let (of, g) = l .before .pre in (
       l .loop .inv .1,
-      place-given p j _ _ _ _ _ g _ _ (at (l .loop .time)) _ (l .loop .inv .2) (omega arith) (l .loop .inv .5 p j g f)
+      place-given _ _ _ _ _ of g _ _ (at (l .loop .time)) _ (l .loop .inv .2) (omega arith) (l .loop .inv .5 of g)
           _ (c .before .before .later .ensures) _
           (getD-set-same (l .loop .time) _ _ 0 (omega arith)) (λ n d. getD-set-other (l .loop .time) _ n _ 0 d),
     )
@@ -77,8 +75,8 @@ loop-again c =
       omega arith,
       omega arith,
       l .loop .inv .4,
-      λ p j g f.
-          place-next p j _ _ _ _ _ g _ _ (at (l .loop .time)) _ (l .loop .inv .2) h (l .loop .inv .5 p j g f)
+      λ of g.
+          place-next _ _ _ _ _ of g _ _ (at (l .loop .time)) _ (l .loop .inv .2) h (l .loop .inv .5 of g)
           _ (c .before .before .before .later .ensures) _
           (getD-set-same (l .loop .time) _ _ 0 b) (λ n d. getD-set-other (l .loop .time) _ n _ 0 d) _ (c .pass-child .ensures .1),
     )
@@ -86,7 +84,7 @@ loop-again c =
 returns : tie.Need-returns Inv-loop μ-loop
 returns c =
     let l = c .before .loop in
-    (l .inv .0, l .inv .1, λ p j g f. place-last p j _ _ _ _ _ g (l .k) _ _ _ (omega arith) (l .inv .5 p j g f))
+    λ of g. place-last _ _ _ _ _ of g (l .k) _ _ _ (omega arith) (l .inv .0) (l .inv .1) (l .inv .5 of g)
 
 pub time-job-spec : {M : Type 1} → statement M
 time-job-spec =

@@ -1,7 +1,7 @@
 -- What the two entries of the open table answer, by what was read.
 use Prim.Native.Nat.{ℕ, _*_, _%_, _≤_, _<_}
 use native.Mathlib.Omega.{arith}
-use mathlib.Core.Path.{_≡_, refl, sym, _∙_}
+use mathlib.Core.Path.{_≡_, sym, _∙_}
 use mathlib.Core.Bool.{true, false}
 use mathlib.Core.List.{List, _++_}
 use lib.ListN.{length, drop}
@@ -10,14 +10,13 @@ use borrow.Author.Tests.{le-leb, lt-leb}
 use Rattle.plan.specs.Refusal.{refused, accepted}
 use Rattle.plan.specs.Plan.{Plan, total}
 use Rattle.plan.specs.Reader.{readPlan}
-use Rattle.plan.specs.Flat.{Spawned}
+use Rattle.plan.specs.Sheet.{PlanIn}
 use Rattle.plan_table.specs.Table.{written, tableOf, tabled, toTable, rowsOf, rowRules, planOf, ruled, readTable, encoded, toPlan}
 use Rattle.plan.specs.Test.{both}
-use Rattle.plan.specs.Rules.{inRange, spawnRules, joinRules}
+use Rattle.plan.specs.Rules.{inRange, spawnRules, joinRules, Accepted}
 use Rattle.plan_writer.specs.Writer.{planBytes}
-use Rattle.plan.specs.Given.{SpawnsGiven, JoinsGiven}
-use Rattle.plan_writer.specs.Given.{WriterGiven, BitsGiven}
-use Rattle.plan.proofs.Laws.Lists.{true-of, of-true}
+use Rattle.plan_table.specs.GivenRows.{RowsGiven}
+use Rattle.plan.proofs.Laws.Lists.{true-of}
 use Rattle.plan_table.proofs.Laws.Rows.{table-length}
 
 pub written-short : (output : List ℕ) (n : ℕ) (buffer : List ℕ) → length buffer < length output
@@ -49,33 +48,34 @@ table-whole s buffer p n l e a h w =
     rw (w, a, ← table-length p)
     (sym (written-whole (tableOf p) (total p) buffer (omega (arith, table-length p))) ∙ tabled-plan s buffer p e)
 
--- what a plan of arrays answers: 4, 5, 9, or its bytes
+-- what a plan answers: 3, 4, 5, 9, or its bytes
 
-module _ (p : Plan) (buffer : List ℕ) (range : T (inRange p)) where
-  pub encoded-spawns : spawnRules p ≡ false → record { answer = refused 4; buffer = buffer } ≡ encoded (ruled p) buffer
+module _ (p : Plan) (buffer : List ℕ) where
+  out-of-range : inRange p ≡ false → record { answer = refused 3; buffer = buffer } ≡ encoded (ruled p) buffer
   unfolding ruled encoded
-  encoded-spawns e = rw (ruled, true-of (inRange p) range, e)
+  out-of-range e = rw (ruled, e)
 
-  pub encoded-joins : spawnRules p ≡ true → joinRules p ≡ false → record { answer = refused 5; buffer = buffer } ≡ encoded (ruled p) buffer
+  pub encoded-spawns : T (inRange p) → spawnRules p ≡ false → record { answer = refused 4; buffer = buffer } ≡ encoded (ruled p) buffer
   unfolding ruled encoded
-  encoded-joins s e = rw (ruled, true-of (inRange p) range, s, e)
+  encoded-spawns r e = rw (ruled, true-of (inRange p) r, e)
 
-  encoded-plan : spawnRules p ≡ true → joinRules p ≡ true → written (planBytes p) (length (planBytes p)) buffer ≡ encoded (ruled p) buffer
+  pub encoded-joins : T (inRange p) → T (spawnRules p) → joinRules p ≡ false
+      → record { answer = refused 5; buffer = buffer } ≡ encoded (ruled p) buffer
   unfolding ruled encoded
-  encoded-plan s j = rw (ruled, true-of (inRange p) range, s, j)
+  encoded-joins r s e = rw (ruled, true-of (inRange p) r, true-of (spawnRules p) s, e)
 
-  pub encoded-short : spawnRules p ≡ true → joinRules p ≡ true → length buffer < length (planBytes p)
-      → record { answer = refused 9; buffer = buffer } ≡ encoded (ruled p) buffer
-  encoded-short s j h = sym (written-short (planBytes p) (length (planBytes p)) buffer h) ∙ encoded-plan s j
+  module _ (ok : Accepted p) where
+    encoded-plan : written (planBytes p) (length (planBytes p)) buffer ≡ encoded (ruled p) buffer
+    unfolding ruled encoded
+    encoded-plan = rw (ruled, true-of (inRange p) (ok .range), true-of (spawnRules p) (ok .spawns), true-of (joinRules p) (ok .joins))
 
-  pub encoded-whole : spawnRules p ≡ true → joinRules p ≡ true → length (planBytes p) ≤ length buffer → (n : ℕ) (l : List ℕ)
-      → n ≡ length (planBytes p) → l ≡ planBytes p ++ drop (length (planBytes p)) buffer
-      → record { answer = accepted n; buffer = l } ≡ encoded (ruled p) buffer
-  encoded-whole s j h n l e w = rw (e, w) (sym (written-whole (planBytes p) (length (planBytes p)) buffer h) ∙ encoded-plan s j)
+    pub encoded-short : length buffer < length (planBytes p) → record { answer = refused 9; buffer = buffer } ≡ encoded (ruled p) buffer
+    encoded-short h = sym (written-short (planBytes p) (length (planBytes p)) buffer h) ∙ encoded-plan
 
-out-of-range : (p : Plan) (buffer : List ℕ) → inRange p ≡ false → record { answer = refused 3; buffer = buffer } ≡ encoded (ruled p) buffer
-unfolding ruled encoded
-out-of-range p buffer e = rw (ruled, e)
+    pub encoded-whole : length (planBytes p) ≤ length buffer → (n : ℕ) (l : List ℕ)
+        → n ≡ length (planBytes p) → l ≡ planBytes p ++ drop (length (planBytes p)) buffer
+        → record { answer = accepted n; buffer = l } ≡ encoded (ruled p) buffer
+    encoded-whole h n l e w = rw (e, w) (sym (written-whole (planBytes p) (length (planBytes p)) buffer h) ∙ encoded-plan)
 
 -- what a table answers: 10, 3, or what its plan answers
 
@@ -92,34 +92,8 @@ module _ (t buffer : List ℕ) where
       → record { answer = refused 3; buffer = buffer } ≡ toPlan t buffer
   plan-range e r = out-of-range (planOf (rowsOf t)) buffer r ∙ plan-ruled e
 
--- what the rules and the writer are given of the arrays
+-- what the writer of rows is given
 
-module _ {p : Plan} {jobs actions : ℕ} {frame first job spawn join : List ℕ} (g : WriterGiven jobs actions frame first job spawn join p) where
-  pub spawns-given : SpawnsGiven jobs actions first job spawn p
-  spawns-given =
-      record {
-        range = g .laid .range;
-        count = g .laid .count;
-        all = g .all;
-        firsts = g .laid .firsts;
-        owners = g .laid .owners;
-        spawns = g .laid .spawns;
-      }
-
-  pub joins-given : (parent position : List ℕ) → spawnRules p ≡ true → Spawned p parent position
-      → JoinsGiven actions first job spawn join parent position p
-  joins-given parent position e s =
-      record {
-        range = g .laid .range;
-        rules = of-true (spawnRules p) e;
-        all = g .all;
-        firsts = g .laid .firsts;
-        owners = g .laid .owners;
-        spawns = g .laid .spawns;
-        joins = g .laid .joins;
-        spawned = s;
-      }
-
-  pub bits-given : BitsGiven jobs actions spawn join p
-  bits-given =
-      record { range = g .laid .range; count = g .laid .count; all = g .all; spawns = g .laid .spawns; joins = g .laid .joins }
+module _ {jobs actions : ℕ} {plan : List ℕ} {p : Plan} (g : PlanIn jobs actions plan p) where
+  pub rows-given : RowsGiven actions plan p
+  rows-given = record { all = g .all; laid = g .planned .laid }

@@ -1,12 +1,12 @@
 -- The rows of a table: by their places, those of a plan's table, and the plan that rows make.
-use Prim.Native.Nat.{ℕ, zero, suc, _+_, _*_, _≤_, _<_, min}
+use Prim.Native.Nat.{ℕ, zero, suc, _+_, _*_, _≤_, _<_}
 use mathlib.Core.Path.{_≡_, refl, ap, ap₂, sym, _∙_}
 use mathlib.Core.Bool.{Bool, true, false}
 use mathlib.Core.List.{List, [], _∷_, _++_, append-assoc}
 use native.Mathlib.Omega.{arith}
 use native.Mathlib.Numerals.{add-one, add-two, add-three, add-four, towards-suc}
 use native.Mathlib.Nat.{le-of-suc-le-suc, not-suc-le-zero, add-assoc, zero-add}
-use lib.ListN.{length, getD, take, drop, set, length-append, length-take, length-map, List·getD-append}
+use lib.ListN.{length, getD, take, drop, set, length-append, List·getD-append}
 use lib.Seq.{drop-cons, getD-append-add, set-at, take-suc, length-take-le}
 use lib.Dec.{T, eqb, eqb→eq}
 use borrow.Author.Tests.{eqb-true, eqb-false}
@@ -26,10 +26,11 @@ use Rattle.plan_table.specs.Table.{
   infront,
   planOf,
 }
-use Rattle.plan_table.specs.GivenRows.{rowAt, RowsGiven}
-use Rattle.plan.specs.Flat.{Jobs}
+use Rattle.plan_table.specs.GivenRows.{rowAt, rowOn, withRow, RowsGiven}
+use Rattle.plan.specs.Sheet.{jobAt}
 use Rattle.plan.proofs.Laws.Lists.{both-left, both-right}
-use Rattle.plan.proofs.Laws.Placed.{start, Stands, placed-of, placed-length, frame-at, job-at, spawn-at, join-at}
+use Rattle.plan.proofs.Laws.Placed.{start, Stands, placed-of}
+use Rattle.plan.proofs.Laws.Spawning.{jobs-in-range}
 
 -- rows by their places
 
@@ -143,25 +144,20 @@ row-placed p k h = found (getD (placed p) k noPlaced) (placed-of p k h)
     found a s = rw (s .place, row-at p (a .job) (a .position) (s .known) (s .within), s .spawn, s .join)
 
 -- what stands at 4 * k to 4 * k + 3 of a plan's table
-pub table-at : (p : Plan) (k : ℕ) → k < total p → rowAt (tableOf p) (4 * k) ≡ rowPlaced p (getD (placed p) k noPlaced)
+table-at : (p : Plan) (k : ℕ) → k < total p → rowAt (tableOf p) (4 * k) ≡ rowPlaced p (getD (placed p) k noPlaced)
 table-at p k h =
     sym (rowsOf-at (tableOf p) k (omega (arith, table-length p))) ∙ ap (λ l. getD l k noRow) (table-rows p) ∙ row-placed p k h
 
--- arrays that hold a plan are long enough
-pub owners-few : (p : Plan) (l : List ℕ) → Jobs p l → total p ≤ length l
-owners-few p l e =
-    let h : min (total p) (length l) ≡ total p
-    = sym (length-take (total p) l) ∙ ap length e ∙ length-map (placed p) (λ a. a .job) ∙ placed-length p in
-    omega arith
-
--- the k-th row of a plan's table, from the arrays that hold the plan
-pub row-given : (p : Plan) (n : ℕ) (frame owner spawn join : List ℕ) → RowsGiven n frame owner spawn join p → (k : ℕ) → k < n
-    → rowAt (tableOf p) (4 * k) ≡ record { job = getD owner k 0; frame = getD frame (getD owner k 0) 0; spawn = getD spawn k 0; join = getD join k 0 }
-row-given p n frame owner spawn join g k h =
+-- the k-th row of a plan's table, from the array that holds the plan
+pub row-given : (p : Plan) (n : ℕ) (plan : List ℕ) → RowsGiven n plan p → (k : ℕ) → k < n
+    → (jobAt plan k < 256) × (rowAt (tableOf p) (4 * k) ≡ rowOn plan k)
+row-given p n plan g k h =
     let l : k < total p = omega (arith, g .all) in
-    let j = job-at p owner (g .owners) k l in
-    table-at p k l
-    ∙ rw (j, spawn-at p spawn (g .spawns) k l, join-at p join (g .joins) k l, frame-at p frame (g .frames) (getD (placed p) k noPlaced .job) (placed-of p k l .known))
+    let j = g .laid .owners k l in
+    let s = placed-of p k l in (
+      omega (arith, j, s .known, jobs-in-range p (g .laid .range)),
+      table-at p k l ∙ rw (j, g .laid .children k l, g .laid .targets k l, g .laid .frames (getD (placed p) k noPlaced .job) (s .known)),
+    )
 
 -- the plan that rows make
 
@@ -249,12 +245,6 @@ plan-rows (a ∷ rows) t =
     let g = grouped a rows (both-left (rising a rows) (all small (a ∷ rows)) (both-right (eqb (a .job) 0) rest t)) in
     (ap (λ j. rowsFrom j (planOf (a ∷ rows))) (sym z) ∙ g .made, g .filled)
 
-pub rows-small : (l : List Row) → T (rowRules l) → T (all small l)
-unfolding rowRules
-rows-small [] t = absurd t
-rows-small (a ∷ rows) t =
-    both-right (rising a rows) (all small (a ∷ rows)) (both-right (eqb (a .job) 0) (both (rising a rows) (all small (a ∷ rows))) t)
-
 -- a list that is written over another from the front: one number more, and one row more
 
 written-more : (t r : List ℕ) (n m v : ℕ) → m ≡ n + 1 → n < length t → n < length r → getD t n 0 ≡ v
@@ -263,8 +253,7 @@ written-more t r n m v i h b e =
     rw (i, add-one, drop-cons r n 0 b, set-at (take n t) (getD r n 0) (drop (suc n) r) v n (length-take-le n t (omega arith)), take-suc t n 0 h, append-assoc, e)
 
 pub written-row : (t r l : List ℕ) (at : ℕ) (a : Row) → at + 4 ≤ length t → at + 4 ≤ length r → rowAt t at ≡ a
-    → l ≡ take at t ++ drop at r
-    → set (set (set (set l at (a .job)) (at + 1) (a .frame)) (at + 2) (a .spawn)) (at + 3) (a .join) ≡ take (at + 4) t ++ drop (at + 4) r
+    → l ≡ take at t ++ drop at r → withRow l at a ≡ take (at + 4) t ++ drop (at + 4) r
 written-row t r l at a h b e w =
     rw (
       w,

@@ -1,116 +1,102 @@
 -- `plan_table::encode` meets its contract: each answer by what the rules and the writer tell of the plan.
-use Prim.Native.Nat.{_+_, _/_}
+use Prim.Native.Nat.{ℕ, _+_, _/_}
 use mathlib.Core.Path.{_≡_, refl, ap, sym, _∙_}
-use mathlib.Core.Bool.{true, false}
+use mathlib.Core.List.{List}
 use native.Mathlib.Omega.{arith}
 use lib.ListN.{length}
 use borrow.Author.Tests.{not-true, not-false}
 use Rattle.plan.specs.Plan.{Plan}
-use Rattle.plan.specs.Rules.{spawnRules, joinRules}
-use Rattle.plan.specs.Flat.{Spawned}
+use Rattle.plan.specs.Sheet.{LaidIn, SpawnedIn, PlanIn}
 use Rattle.plan_writer.specs.Writer.{planBytes}
-use Rattle.plan_writer.specs.Given.{WriterGiven}
 use Rattle.plan.proofs.Laws.Lists.{of-true}
+use Rattle.plan.proofs.Laws.Sheets.{planned-by}
 use Rattle.plan_writer.proofs.Laws.PlanBytes.{planBytes-length}
-use Rattle.plan_table.proofs.Laws.Answers.{
-  spawns-given,
-  joins-given,
-  bits-given,
-  encoded-spawns,
-  encoded-joins,
-  encoded-short,
-  encoded-whole,
-}
+use Rattle.plan_table.proofs.Laws.Answers.{encoded-spawns, encoded-joins, encoded-short, encoded-whole}
 use borrow.Author.Needs.{needs}
 use Rattle.plan_table.proofs.encode.Statement.{statement}
 use Rattle.plan_table.proofs.encode.Tie as tie
 
 abbrev Given : tie.Start → Plan → Type 0
-Given s p =
-    let a = s .args in
-    WriterGiven (a .jobs) (a .rows) (a .frame .now) (a .first .now) (a .job .now) (a .spawn .now) (a .join .now) p
+Given s p = LaidIn (s .args .jobs) (s .args .rows) (s .args .plan .now) p
 
 -- the spawn rules are kept
 abbrev start : tie.Else1 → tie.Start
-start c = c .before .before .before .before .before
+start c = c .before .before .before .before
 
-spawned : (c : tie.Else1) (p : Plan) → Given (start c) p
-    → (spawnRules p ≡ true) × Spawned p (c .before .spawn-rules .last .1 .1 .1 .1 .1 .0) (c .before .spawn-rules .last .1 .1 .1 .1 .1 .1 .0)
-spawned c p g =
-    let r = c .before .spawn-rules in
-    let e = r .ensures p (spawns-given g) in
-    let k : r .result ≡ true = not-false _ (c .if1 .left) in
-    (sym (e .0) ∙ k, e .1 (of-true _ k))
+abbrev plan : tie.Else1 → List ℕ
+plan c = c .before .spawn-rules .last .1 .1 .0
+
+spawned : (c : tie.Else1) (p : Plan) → Given (start c) p → SpawnedIn (start c .args .jobs) (start c .args .rows) (plan c) p
+spawned c p g = let r = c .before .spawn-rules in r .ensures p g .1 (of-true (r .result) (not-false _ (c .if1 .left)))
 
 -- the join rules are kept
 abbrev else1 : tie.Else2 → tie.Else1
-else1 c = c .before .before .before .before .before
+else1 c = c .before .before .before .before
 
-joined : (c : tie.Else2) (p : Plan) → Given (start (else1 c)) p → joinRules p ≡ true
-joined c p g =
-    let s = spawned (else1 c) p g in
+planned : (c : tie.Else2) (p : Plan) → let s = start (else1 c) in
+    Given s p → PlanIn (s .args .jobs) (s .args .rows) (plan (else1 c)) p
+planned c p g =
+    let h = spawned (else1 c) p g in
     let r = c .before .join-rules in
-    let e = r .ensures p (joins-given g _ _ (s .0) (s .1)) in
-    let k : r .result ≡ true = not-false _ (c .if2 .left) in
-    sym (e .0) ∙ k
+    planned-by _ _ _ p h (of-true _ (sym (r .ensures p h .0) ∙ not-false _ (c .if2 .left)))
 
 spawn-rules-requires : tie.Need-spawn-rules-requires
-spawn-rules-requires c κs =
-    let q = c .before .before .before .pre in
-    ((q .0, spawns-given (q .1)), record { parents = refl; positions = refl })
+spawn-rules-requires c κs = c .before .before .pre
 
 returns : tie.Need-returns
 returns c p g =
     let r = c .before .spawn-rules in
-    let k : r .result ≡ false = not-true _ (c .if1 .taken) in
-    encoded-spawns p _ (g .laid .range) (sym (r .ensures p (spawns-given g) .0) ∙ k)
+    encoded-spawns p _ (g .laid .range) (sym (r .ensures p g .0) ∙ not-true _ (c .if1 .taken))
 
 join-rules-requires : tie.Need-join-rules-requires
 join-rules-requires c κs =
-    let o = c .before .before .before in
+    let o = c .before .before in
     let q = start o .pre in
-    let s = spawned o (q .0) (q .1) in
-    ((q .0, joins-given (q .1) _ _ (s .0) (s .1)), refl)
+    ((q .0, spawned o (q .0) (q .1)), refl)
 
 returns-2 : tie.Need-returns-2
 returns-2 c p g =
-    let s = spawned (c .before .before .before .before .before) p g in
+    let h = spawned (c .before .before .before .before) p g in
     let r = c .before .join-rules in
-    let k : r .result ≡ false = not-true _ (c .if2 .taken) in
-    encoded-joins p _ (g .laid .range) (s .0) (sym (r .ensures p (joins-given g _ _ (s .0) (s .1)) .0) ∙ k)
+    encoded-joins p _ (g .laid .range) (h .rules) (sym (r .ensures p h .0) ∙ not-true _ (c .if2 .taken))
 
 plan-bits-requires : tie.Need-plan-bits-requires
 plan-bits-requires c κs =
-    let q = start (else1 c) .pre in
-    (q .0, bits-given (q .1))
+    let o = c .before in
+    let q = start (else1 o) .pre in
+    (q .0, planned o (q .0) (q .1))
 
 add-if3 : tie.Need-add-if3
 add-if3 c = omega arith
 
 -- what the bytes take
-bits : (c : tie.After-plan-bits) (p : Plan) → Given (start (else1 (c .before))) p → (c .plan-bits .result + 7) / 8 ≡ length (planBytes p)
-bits c p g = ap (λ n. (n + 7) / 8) (c .plan-bits .ensures .1 p (bits-given g)) ∙ sym (planBytes-length p)
+bits : (c : tie.After-plan-bits) (p : Plan) → Given (start (else1 (c .before .before))) p → (c .plan-bits .result + 7) / 8 ≡ length (planBytes p)
+bits c p g = ap (λ n. (n + 7) / 8) (c .plan-bits .ensures .1 p (planned (c .before .before) p g)) ∙ sym (planBytes-length p)
 
 returns-3 : tie.Need-returns-3
 returns-3 c p g =
-    let o = c .before .before in
-    encoded-short p _ (g .laid .range) (spawned (else1 o) p g .0) (joined o p g) (omega (arith, bits (c .before) p g))
+    encoded-short p _ (planned (c .before .before .before) p g .planned .rules) (omega (arith, bits (c .before) p g))
 
 write-plan-requires : tie.Need-write-plan-requires
 write-plan-requires c κs =
-    let b = c .before .before in
-    let q = start (else1 (b .before)) .pre in
-    (q .0, record { given = q .1; room = omega (arith, bits b (q .0) (q .1), planBytes-length (q .0)) })
+    let b = c .before .before .before in
+    let q = start (else1 (b .before .before)) .pre in (
+      q .0,
+      record {
+        given = planned (b .before .before) (q .0) (q .1);
+        room = omega (arith, bits b (q .0) (q .1), planBytes-length (q .0));
+      },
+    )
 
 same-length : tie.Need-same-length
 same-length c = search needs
 
 returns-4 : tie.Need-returns-4
 returns-4 c p g =
-    let b = c .before .before .before .before .before in
-    let o = b .before in
-    let w = c .before .before .write-plan .ensures p g in
-    encoded-whole p _ (g .laid .range) (spawned (else1 o) p g .0) (joined o p g) (omega (arith, bits b p g)) _ _ (w .0) (w .1)
+    let b = c .before .before .before .before .before .before in
+    let h = planned (b .before .before) p g in
+    let w = c .before .before .write-plan .ensures p h in
+    encoded-whole p _ (h .planned .rules) (omega (arith, bits b p g)) _ _ (w .0) (w .1)
 
 pub encode-spec : {M : Type 1} → statement M
 encode-spec =

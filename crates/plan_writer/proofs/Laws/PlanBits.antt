@@ -1,6 +1,7 @@
--- The bits of a plan by the arrays that hold it, action by action in plan order.
+-- The bits of a plan by the array that holds it, action by action in plan order.
 --   upTo f k       == f 0 ++ f 1 ++ .., the first k of them
---   plan-count     == how many bits there are, by the numbers of the arrays
+--   action-first, action-later == what is added at a place, by the numbers that were read there
+--   plan-count     == how many bits there are, by the numbers of the array
 --   plan-upTo      == a plan's bits are its form, its job count and then those of each action
 --   plan-room      == n bytes that have room for the plan's have room for these bits
 --   place-writable == the numbers at a place fit their fields
@@ -16,11 +17,11 @@ use lib.ListN.{length, getD, length-append}
 use Rattle.plan.specs.Plan.{Action, Job, Plan, job, size, action, total, noAction, noPlaced, placed}
 use Rattle.fields.specs.Field.{bitsOf}
 use Rattle.plan_writer.specs.Writer.{numberBits, actionsBits, jobsBits, planBits}
-use Rattle.plan.specs.Flat.{Spawns, Joins}
-use Rattle.plan_writer.specs.Given.{BitsGiven, WriterGiven}
+use Rattle.plan.specs.Sheet.{childAt, targetAt, frameAt, firstAt, jobAt, Laid, PlanIn}
 use Rattle.plan_writer.specs.ActionBits.{openingBits, actionBits, Writable}
-use Rattle.plan.proofs.Laws.Placed.{start, start-suc, placed-at, placed-of, place-below, first-at, frame-at, job-at, spawn-at, join-at}
+use Rattle.plan.proofs.Laws.Placed.{start, start-suc, placed-at, placed-of, place-below}
 use Rattle.plan.proofs.Laws.Spawning.{jobs-in-range, size-in-range, total-in-range}
+use Rattle.plan.proofs.Laws.Valid.{small-numbers}
 use Rattle.plan_writer.proofs.Laws.Numbers.{number-few}
 
 abbrev pub upTo : (ℕ → List ℕ) → ℕ → List ℕ
@@ -97,95 +98,102 @@ module _ (f : ℕ → List ℕ) where
       let n = length-append (actionsBits (b .actions)) (jobsBits p) in
       rw (← e) (omega arith)
 
-pub opening-first : (frame first : List ℕ) (j k : ℕ) → getD first j 0 ≡ k
-    → openingBits frame first j k ≡ bitsOf 16 (getD frame j 0) ++ bitsOf 8 (getD first (j + 1) 0 - getD first j 0)
+opening-first : (plan : List ℕ) (j k : ℕ) → firstAt plan j ≡ k
+    → openingBits plan j k ≡ bitsOf 16 (frameAt plan j) ++ bitsOf 8 (firstAt plan (j + 1) - firstAt plan j)
 unfolding openingBits
-opening-first frame first j k e = rw (openingBits, eq-eqb (getD first j 0) k e)
+opening-first plan j k e = rw (openingBits, eq-eqb (firstAt plan j) k e)
 
-pub opening-later : (frame first : List ℕ) (j k : ℕ) → (getD first j 0 ≡ k → ⊥) → openingBits frame first j k ≡ []
+opening-later : (plan : List ℕ) (j k : ℕ) → (firstAt plan j ≡ k → ⊥) → openingBits plan j k ≡ []
 unfolding openingBits
-opening-later frame first j k n = rw (openingBits, ne-eqb (getD first j 0) k n)
-
--- what the two arrays of numbers hold at the place of action i of job j
-module _ (p : Plan) (spawn join : List ℕ) (spawns : Spawns p spawn) (joins : Joins p join) where
-  numbers-at : (j i : ℕ) → j < length p → i < size p j
-      → numberBits (getD spawn (start p j + i) 0) ++ numberBits (getD join (start p j + i) 0) ≡ numbers (action p j i)
-  numbers-at j i h b =
-      let l = place-below p j i h b in
-      let a = placed-at p j i h b in
-      let s = spawn-at p spawn spawns (start p j + i) l in
-      let t = join-at p join joins (start p j + i) l in
-      rw (s, t, a)
+opening-later plan j k n = rw (openingBits, ne-eqb (firstAt plan j) k n)
 
 -- the bits of the numbers alone, by place
-abbrev pub numbersAt : List ℕ → List ℕ → ℕ → List ℕ
-numbersAt spawn join k = numberBits (getD spawn k 0) ++ numberBits (getD join k 0)
+abbrev pub numbersAt : List ℕ → ℕ → List ℕ
+numbersAt plan k = numberBits (childAt plan k) ++ numberBits (targetAt plan k)
 
-pub numbers-more : (spawn join : List ℕ) (k : ℕ)
-    → length (upTo (numbersAt spawn join) (k + 1)) ≡ length (upTo (numbersAt spawn join) k) + (length (numberBits (getD spawn k 0)) + length (numberBits (getD join k 0)))
-numbers-more spawn join k = rw (add-one, length-append, length-append)
+-- what is added at place k, by the numbers that were read there: its job j, which begins at place s and ends at e, and the frame f
+module _ (plan : List ℕ) (k j s : ℕ) (owner : j ≡ jobAt plan k) (begins : s ≡ firstAt plan j) where
+  pub action-later : (s ≡ k → ⊥) → actionBits plan k ≡ numbersAt plan k
+  action-later n = rw (← owner, opening-later plan j k (λ e. n (begins ∙ e)))
 
-pub numbers-few : (spawn join : List ℕ) (k : ℕ) → length (upTo (numbersAt spawn join) k) ≤ 18 * k
-numbers-few spawn join zero = omega arith
-numbers-few spawn join (suc k) =
-    let m = rw add-one at (numbers-more spawn join k) in
-    omega (arith, numbers-few spawn join k, number-few (getD spawn k 0), number-few (getD join k 0))
+  module _ (e f : ℕ) (ends : e ≡ firstAt plan (j + 1)) (frame : f ≡ frameAt plan j) where
+    pub action-first : s ≡ k → actionBits plan k ≡ (bitsOf 16 f ++ bitsOf 8 (e - s)) ++ numbersAt plan k
+    action-first h = rw (← owner, opening-first plan j k (sym begins ∙ h), ← begins, ← ends, ← frame)
 
-pub bits-bounds : (p : Plan) (jobs actions : ℕ) (spawn join : List ℕ) → BitsGiven jobs actions spawn join p → (jobs ≤ 256) × (actions ≤ 2048)
-bits-bounds p jobs actions spawn join g =
-    (rw (g .count) (jobs-in-range p (g .range) .1), rw (g .all) (total-in-range p (g .range) .1))
+    pub header-size : Writable plan k → (s ≤ e) × (e - s < 256)
+    header-size w =
+        let r = rw (← owner, ← begins, ← ends) at (w .rises) in
+        let x = rw (← owner, ← begins, ← ends) at (w .few) in
+        omega arith
 
-pub plan-count : (p : Plan) (jobs actions : ℕ) (spawn join : List ℕ) → BitsGiven jobs actions spawn join p
-    → length (planBits p) ≡ 17 + 24 * jobs + length (upTo (numbersAt spawn join) actions)
-unfolding planBits
-plan-count p jobs actions spawn join g =
-    let c = jobs-count (numbersAt spawn join) 0 p (λ j i h b. rw zero-add (numbers-at p spawn join (g .spawns) (g .joins) j i h b)) in
-    rw (g .all, g .count) (omega (arith, rw (zero-add (total p)) at c))
+pub numbers-more : (plan : List ℕ) (k : ℕ)
+    → length (upTo (numbersAt plan) (k + 1)) ≡ length (upTo (numbersAt plan) k) + (length (numberBits (childAt plan k)) + length (numberBits (targetAt plan k)))
+numbers-more plan k = rw (add-one, length-append, length-append)
 
-module _ (p : Plan) (jobs actions : ℕ) (frame first owner spawn join : List ℕ) (g : WriterGiven jobs actions frame first owner spawn join p) where
-  opening-at : (j i : ℕ) → j < length p → openingBits frame first j (start p j + i) ≡ opening (job p j) i
+pub numbers-few : (plan : List ℕ) (k : ℕ) → length (upTo (numbersAt plan) k) ≤ 18 * k
+numbers-few plan zero = omega arith
+numbers-few plan (suc k) =
+    let m = rw add-one at (numbers-more plan k) in
+    omega (arith, numbers-few plan k, number-few (childAt plan k), number-few (targetAt plan k))
+
+module _ {p : Plan} {jobs actions : ℕ} {plan : List ℕ} (g : PlanIn jobs actions plan p) where
+  laid : Laid plan p
+  laid = g .planned .laid
+
+  pub plan-bounds : (jobs ≤ 256) × (actions ≤ 2048)
+  plan-bounds = (rw (g .count) (jobs-in-range p (laid .range) .1), rw (g .all) (total-in-range p (laid .range) .1))
+
+  -- what the array holds at the place of action i of job j
+  numbers-at : (j i : ℕ) → j < length p → i < size p j → numbersAt plan (start p j + i) ≡ numbers (action p j i)
+  numbers-at j i h b =
+      let l = place-below p j i h b in
+      rw (laid .children (start p j + i) l, laid .targets (start p j + i) l, placed-at p j i h b)
+
+  opening-at : (j i : ℕ) → j < length p → openingBits plan j (start p j + i) ≡ opening (job p j) i
   opening-at j zero h =
-      let a = first-at p first (g .laid .firsts) j (omega arith) in
-      let b = first-at p first (g .laid .firsts) (suc j) h in
-      let c = frame-at p frame (g .laid .frames) j h in
+      let a = laid .firsts j (omega arith) in
+      let b = laid .firsts (suc j) h in
       let d : start p (suc j) - start p j ≡ size p j = omega (arith, start-suc p j h) in
-      rw (opening-first frame first j (start p j + 0) (omega arith), add-one, b, a, d, c)
-  opening-at j (suc i) h = opening-later frame first j (start p j + suc i) (omega (arith, first-at p first (g .laid .firsts) j (omega arith)))
+      rw (opening-first plan j (start p j + 0) (omega arith), add-one, b, a, d, laid .frames j h)
+  opening-at j (suc i) h = opening-later plan j (start p j + suc i) (omega (arith, laid .firsts j (omega arith)))
 
-  action-at : (j i : ℕ) → j < length p → i < size p j → actionBits frame first owner spawn join (start p j + i) ≡ added p j i
+  action-at : (j i : ℕ) → j < length p → i < size p j → actionBits plan (start p j + i) ≡ added p j i
   action-at j i h b =
-      let o = job-at p owner (g .laid .owners) (start p j + i) (place-below p j i h b) in
-      let a = placed-at p j i h b in
-      let e : getD owner (start p j + i) 0 ≡ j = rw a at o in
-      rw e (ap₂ (λ (x y : List ℕ). x ++ y) (opening-at j i h) (numbers-at p spawn join (g .laid .spawns) (g .laid .joins) j i h b))
+      let e : jobAt plan (start p j + i) ≡ j = rw (placed-at p j i h b) at (laid .owners (start p j + i) (place-below p j i h b)) in
+      rw e (ap₂ (λ (x y : List ℕ). x ++ y) (opening-at j i h) (numbers-at j i h b))
+
+  pub plan-count : length (planBits p) ≡ 17 + 24 * jobs + length (upTo (numbersAt plan) actions)
+  unfolding planBits
+  plan-count =
+      let c = jobs-count (numbersAt plan) 0 p (λ j i h b. rw zero-add (numbers-at j i h b)) in
+      rw (g .all, g .count) (omega (arith, rw (zero-add (total p)) at c))
 
   -- all bits of the plan
-  pub plan-upTo : planBits p ≡ bitsOf 8 1 ++ (bitsOf 9 jobs ++ upTo (actionBits frame first owner spawn join) actions)
+  pub plan-upTo : planBits p ≡ bitsOf 8 1 ++ (bitsOf 9 jobs ++ upTo (actionBits plan) actions)
   unfolding planBits
   plan-upTo =
-      let f = actionBits frame first owner spawn join in
-      let u = jobs-upTo f 0 p (λ j h. size-in-range p (g .laid .range) j h .0) (λ j i h b. rw zero-add (action-at j i h b)) in
-      rw (g .all, g .laid .count, rw zero-add at u)
+      let u = jobs-upTo (actionBits plan) 0 p (λ j h. size-in-range p (laid .range) j h .0) (λ j i h b. rw zero-add (action-at j i h b)) in
+      rw (g .all, g .count, rw zero-add at u)
 
-  pub plan-room : (n : ℕ) → (length (planBits p) + 7) / 8 ≤ n → 17 + length (upTo (actionBits frame first owner spawn join) actions) ≤ 8 * n
+  pub plan-room : (n : ℕ) → (length (planBits p) + 7) / 8 ≤ n → 17 + length (upTo (actionBits plan) actions) ≤ 8 * n
   plan-room n h = let e = ap (λ (l : List ℕ). length l) plan-upTo in omega arith
 
-  pub few-jobs : jobs ≤ 256
-  few-jobs = rw (g .laid .count) (jobs-in-range p (g .laid .range) .1)
-
-  pub place-writable : (k : ℕ) → k < actions → Writable first owner spawn join k
+  pub place-writable : (k : ℕ) → k < actions → Writable plan k
   place-writable k h =
       let l : k < total p = rw (g .all) at h in
       let s = placed-of p k l in
-      let o = job-at p owner (g .laid .owners) k l in
-      let a = first-at p first (g .laid .firsts) (getD (placed p) k noPlaced .job) (omega (arith, s .known)) in
-      let b = first-at p first (g .laid .firsts) (suc (getD (placed p) k noPlaced .job)) (s .known) in
-      let c = start-suc p (getD (placed p) k noPlaced .job) (s .known) in
-      let z = size-in-range p (g .laid .range) (getD (placed p) k noPlaced .job) (s .known) in
+      let o = laid .owners k l in
+      let j = getD (placed p) k noPlaced .job in
+      let a = laid .firsts j (omega (arith, s .known)) in
+      let b = laid .firsts (suc j) (s .known) in
+      let c = start-suc p j (s .known) in
+      let z = size-in-range p (laid .range) j (s .known) in
+      let n = small-numbers p (g .planned .rules) j (getD (placed p) k noPlaced .position) (s .known) (s .within) in
       record {
-        place = omega (arith, total-in-range p (g .laid .range));
+        place = omega (arith, plan-bounds);
+        owner = omega (arith, o, s .known, jobs-in-range p (laid .range));
         rises = rw (o, add-one, a, b) (omega arith);
         few = rw (o, add-one, a, b) (omega arith);
-        child = g .children k;
-        target = g .targets k;
+        child = omega (arith, laid .children k l, s .spawn, n);
+        target = omega (arith, laid .targets k l, s .join, n);
       }

@@ -1,165 +1,134 @@
 -- `plan_writer::put_action` meets its contract: a header at the first action of a job, and none at a later one.
-use Prim.Native.Nat.{_+_, _-_, _≤_, _<_}
+use Prim.Native.Nat.{_-_, _≤_, _<_}
 use mathlib.Core.Path.{_≡_}
 use mathlib.Core.List.{_++_}
 use native.Mathlib.Omega.{arith}
-use lib.ListN.{getD}
 use Rattle.fields.specs.Field.{bitsOf}
 use Rattle.plan_writer.specs.ActionBits.{actionBits}
 use Rattle.fields.proofs.Laws.Puts.{put-length, put-both}
-use Rattle.plan_writer.proofs.Laws.PlanBits.{numbersAt, opening-first, opening-later}
+use Rattle.plan_writer.proofs.Laws.PlanBits.{numbersAt, action-first, action-later, header-size}
 use borrow.Author.Needs.{needs}
 use Rattle.plan_writer.proofs.put_action.Statement.{statement}
 use Rattle.plan_writer.proofs.put_action.Tie as tie
 
 -- what is written at the first action of a job
-opened : (c : tie.After-wide162) →
-    let s = c .before .before .before .before .before .before .before .before .args in
-    actionBits (s .frame .now) (s .first .now) (s .job .now) (s .spawn .now) (s .join .now) (s .k)
-    ≡ (bitsOf 16 (getD (s .frame .now) (c .before .before .before .before .before .wide8 .result) 0) ++ bitsOf 8 (c .wide162 .result - c .before .before .before .wide16 .result))
-    ++ numbersAt (s .spawn .now) (s .join .now) (s .k)
+opened : (c : tie.After-first-of2) → let a = c .before .before .before .before .before .before .before .args in
+    actionBits (a .plan .now) (a .k)
+    ≡ (bitsOf 16 (c .before .frame-of .result) ++ bitsOf 8 (c .first-of2 .result - c .before .before .before .before .first-of .result))
+    ++ numbersAt (a .plan .now) (a .k)
 opened c =
-    let s = c .before .before .before .before .before .before .before .before .args in
-    let j = c .before .before .before .before .before .wide8 .ensures .0 in
-    let a = c .before .before .before .wide16 .ensures .0 in
-    let e = c .wide162 .ensures .0 in
-    let t = c .before .before .if1 .taken in
-    rw (e, a, j, opening-first (s .frame .now) (s .first .now) (getD (s .job .now) (s .k) 0) (s .k) (cc))
+    let s = c .before .before .before .before in
+    let a = s .before .before .before .args in
+    action-first (a .plan .now) (a .k) _ _ (s .before .job-at .ensures .0) (s .first-of .ensures .0) _ _
+    (c .first-of2 .ensures .0) (c .before .frame-of .ensures .0) (c .before .before .before .if1 .taken)
 
-sizes : (c : tie.After-wide162) → (c .before .before .before .wide16 .result ≤ c .wide162 .result) × (c .wide162 .result < c .before .before .before .wide16 .result + 256)
+sizes : (c : tie.After-first-of2) → let s = c .before .before .before .before .first-of .result in
+    (s ≤ c .first-of2 .result) × (c .first-of2 .result - s < 256)
 sizes c =
-    let w = c .before .before .before .before .before .before .before .before .pre .1 .0 in
-    rw (c .wide162 .ensures .0, c .before .before .before .wide16 .ensures .0, c .before .before .before .before .before .wide8 .ensures .0) (w .rises, w .few)
+    let s = c .before .before .before .before in
+    let a = s .before .before .before in
+    header-size (a .args .plan .now) (a .args .k) _ _ (s .before .job-at .ensures .0) (s .first-of .ensures .0) _ _
+    (c .first-of2 .ensures .0) (c .before .frame-of .ensures .0) (a .pre .1)
 
 -- at a later action
-continued : (c : tie.Else1) →
-    let s = c .before .before .before .before .before .before .args in
-    actionBits (s .frame .now) (s .first .now) (s .job .now) (s .spawn .now) (s .join .now) (s .k)
-    ≡ numbersAt (s .spawn .now) (s .join .now) (s .k)
+continued : (c : tie.Else1) → let a = c .before .before .before .before .args in
+    actionBits (a .plan .now) (a .k) ≡ numbersAt (a .plan .now) (a .k)
 continued c =
-    let s = c .before .before .before .before .before .before .args in
-    let j = c .before .before .before .wide8 .ensures .0 in
-    let a = c .before .wide16 .ensures .0 in
-    rw (opening-later (s .frame .now) (s .first .now) (getD (s .job .now) (s .k) 0) (s .k) (λ e. c .if1 .left (cc)))
+    let a = c .before .before .before .before .args in
+    action-later (a .plan .now) (a .k) _ _ (c .before .before .job-at .ensures .0) (c .before .first-of .ensures .0) (c .if1 .left)
 
-element-copy-out-wide8 : tie.Need-element-copy-out-wide8
-element-copy-out-wide8 c = search needs
+job-at-requires : tie.Need-job-at-requires
+job-at-requires c κs = search needs
 
-wide8-requires : tie.Need-wide8-requires
-wide8-requires c κs = search needs
+first-of-requires : tie.Need-first-of-requires
+first-of-requires c κs = search needs
 
-mul-wide16 : tie.Need-mul-wide16
-mul-wide16 c = search needs
+frame-of-requires : tie.Need-frame-of-requires
+frame-of-requires c κs = search needs
 
-element-copy-out-wide16 : tie.Need-element-copy-out-wide16
-element-copy-out-wide16 c = search needs
+add-first-of : tie.Need-add-first-of
+add-first-of c = search needs
 
-wide16-requires : tie.Need-wide16-requires
-wide16-requires c κs = search needs
-
-add-wide16 : tie.Need-add-wide16
-add-wide16 c = search needs
-
-mul-wide16-2 : tie.Need-mul-wide16-2
-mul-wide16-2 c = search needs
-
-element-copy-out-wide16-2 : tie.Need-element-copy-out-wide16-2
-element-copy-out-wide16-2 c = search needs
-
-wide16-requires-2 : tie.Need-wide16-requires-2
-wide16-requires-2 c κs = search needs
-
-mul-put-header : tie.Need-mul-put-header
-mul-put-header c = search needs
-
-element-copy-out-put-header : tie.Need-element-copy-out-put-header
-element-copy-out-put-header c = search needs
+first-of-requires-2 : tie.Need-first-of-requires-2
+first-of-requires-2 c κs = search needs
 
 sub-put-header : tie.Need-sub-put-header
-sub-put-header c = sizes (c .before .before) .0
+sub-put-header c = sizes c .0
 
 put-header-requires : tie.Need-put-header-requires
 put-header-requires c κs =
-    let s = c .before .before .before .before .before .before .before .before .before .before in
-    let r = rw (opened (c .before .before)) at (s .pre .1 .1) in
-    (s .pre .0, (omega (arith, sizes (c .before .before)), omega arith))
+    let s = c .before .before .before .before .before .before .before in
+    let r = rw (opened c) at (s .pre .2) in
+    (s .pre .0, c .before .frame-of .ensures .1, sizes c .1, omega arith)
 
-mul-put-numbers : tie.Need-mul-put-numbers
-mul-put-numbers c = search needs
+child-at-requires : tie.Need-child-at-requires
+child-at-requires c κs = search needs
 
-element-copy-out-put-numbers : tie.Need-element-copy-out-put-numbers
-element-copy-out-put-numbers c = search needs
-
-mul-put-numbers-2 : tie.Need-mul-put-numbers-2
-mul-put-numbers-2 c = search needs
-
-element-copy-out-put-numbers-2 : tie.Need-element-copy-out-put-numbers-2
-element-copy-out-put-numbers-2 c = search needs
+target-at-requires : tie.Need-target-at-requires
+target-at-requires c κs = search needs
 
 put-numbers-requires : tie.Need-put-numbers-requires
 put-numbers-requires c κs =
-    let s = c .before .before .before .before .before .before .before .before .before .before .before .before .before .before .before .before in
-    let r = rw (opened (c .before .before .before .before .before .before .before .before)) at (s .pre .1 .1) in
+    let o = c .before .before .before .before .before .before in
+    let s = o .before .before .before .before .before .before .before in
+    let r = rw (opened o) at (s .pre .2) in
     let w = c .before .before .before .before .before .put-header .ensures in
-    (w .sound, (s .pre .1 .0 .child, s .pre .1 .0 .target, omega (arith, put-length (s .pre .0) w, w .same)))
+    let x = c .before .child-at .ensures .0 in
+    let y = c .target-at .ensures .0 in
+    rw (x, y) (w .sound, s .pre .1 .child, s .pre .1 .target, omega (arith, put-length (s .pre .0) w, w .same))
 
 same-length : tie.Need-same-length
 same-length c = search needs
 
 returns : tie.Need-returns
-returns c = rw (opened (c .before .before .before .before .before .before .before .before .before .before .before)) (put-both (c .before .before .before .before .before .before .before .before .put-header .ensures) (c .before .before .put-numbers .ensures))
+returns c =
+    let t = c .before .before .before in
+    let x = t .before .child-at .ensures .0 in
+    let y = t .target-at .ensures .0 in
+    rw (opened (t .before .before .before .before .before .before), ← x, ← y)
+    (put-both (t .before .before .before .before .before .put-header .ensures) (c .before .before .put-numbers .ensures))
 
-mul-put-numbers-3 : tie.Need-mul-put-numbers-3
-mul-put-numbers-3 c = search needs
+child-at-requires-2 : tie.Need-child-at-requires-2
+child-at-requires-2 c κs = search needs
 
-element-copy-out-put-numbers-3 : tie.Need-element-copy-out-put-numbers-3
-element-copy-out-put-numbers-3 c = search needs
-
-mul-put-numbers-4 : tie.Need-mul-put-numbers-4
-mul-put-numbers-4 c = search needs
-
-element-copy-out-put-numbers-4 : tie.Need-element-copy-out-put-numbers-4
-element-copy-out-put-numbers-4 c = search needs
+target-at-requires-2 : tie.Need-target-at-requires-2
+target-at-requires-2 c κs = search needs
 
 put-numbers-requires-2 : tie.Need-put-numbers-requires-2
 put-numbers-requires-2 c κs =
-    let s = c .before .before .before .before .before .before .before .before .before in
-    (s .pre .0, (s .pre .1 .0 .child, s .pre .1 .0 .target, rw (continued (c .before .before .before)) at (s .pre .1 .1)))
+    let s = c .before .before .before .before .before .before .before in
+    let x = c .before .child-at2 .ensures .0 in
+    let y = c .target-at2 .ensures .0 in
+    rw (x, y) (s .pre .0, s .pre .1 .child, s .pre .1 .target, rw (continued (c .before .before .before)) at (s .pre .2))
 
 same-length-2 : tie.Need-same-length-2
 same-length-2 c = search needs
 
 returns-2 : tie.Need-returns-2
-returns-2 c = rw (continued (c .before .before .before .before .before .before)) (c .before .before .put-numbers2 .ensures)
+returns-2 c =
+    let t = c .before .before .before in
+    let x = t .before .child-at2 .ensures .0 in
+    let y = t .target-at2 .ensures .0 in
+    rw (continued (t .before .before .before), ← x, ← y) (c .before .before .put-numbers2 .ensures)
 
 pub put-action-spec : {M : Type 1} → statement M
 put-action-spec =
     tie.close
     (tie.spec
-    element-copy-out-wide8
-    wide8-requires
-    mul-wide16
-    element-copy-out-wide16
-    wide16-requires
-    add-wide16
-    mul-wide16-2
-    element-copy-out-wide16-2
-    wide16-requires-2
-    mul-put-header
-    element-copy-out-put-header
+    job-at-requires
+    first-of-requires
+    frame-of-requires
+    add-first-of
+    first-of-requires-2
     sub-put-header
     put-header-requires
-    mul-put-numbers
-    element-copy-out-put-numbers
-    mul-put-numbers-2
-    element-copy-out-put-numbers-2
+    child-at-requires
+    target-at-requires
     put-numbers-requires
     same-length
     returns
-    mul-put-numbers-3
-    element-copy-out-put-numbers-3
-    mul-put-numbers-4
-    element-copy-out-put-numbers-4
+    child-at-requires-2
+    target-at-requires-2
     put-numbers-requires-2
     same-length-2
     returns-2)

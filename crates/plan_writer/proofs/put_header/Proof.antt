@@ -1,26 +1,25 @@
 -- `plan_writer::put_header` meets its contract.
-use native.Mathlib.Omega.{arith}
-use Rattle.fields.proofs.Laws.Puts.{put-length, put-both}
+use Rattle.plan_writer.proofs.Laws.Numbers.{header-field}
 use borrow.Author.Needs.{needs}
 use Rattle.plan_writer.proofs.put_header.Statement.{statement}
 use Rattle.plan_writer.proofs.put_header.Tie as tie
 
-put-requires : tie.Need-put-requires
-put-requires c κs =
-    let b = c .before .before in
-    (b .pre .0, (omega arith, omega arith, omega arith))
+mul-put : tie.Need-mul-put
+mul-put c = search needs
 
-put-requires-2 : tie.Need-put-requires-2
-put-requires-2 c κs =
-    let b = c .before .before .before .before .before .before in
-    let w = c .before .before .before .put .ensures in
-    (w .sound, (omega arith, b .pre .1 .0, omega (arith, put-length (b .pre .0) w, w .same)))
+add-put : tie.Need-add-put
+add-put c = search needs
+
+put-requires : tie.Need-put-requires
+put-requires c κs = search needs
 
 same-length : tie.Need-same-length
 same-length c = search needs
 
 returns : tie.Need-returns
-returns c = put-both (c .before .before .before .before .before .before .put .ensures) (c .before .before .put2 .ensures)
+returns c =
+    let s = c .before .before .before .before .before in
+    rw (← header-field (s .args .frame) (s .args .size) (s .pre .1) (s .pre .2)) (c .before .before .put .ensures)
 
 pub put-header-spec : {M : Type 1} → statement M
-put-header-spec = tie.close (tie.spec put-requires put-requires-2 same-length returns)
+put-header-spec = tie.close (tie.spec mul-put add-put put-requires same-length returns)

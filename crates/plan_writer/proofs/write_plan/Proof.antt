@@ -10,23 +10,23 @@ use Rattle.fields.specs.Sink.{Put}
 use Rattle.plan_writer.specs.ActionBits.{actionBits}
 use Rattle.fields.proofs.Laws.Puts.{empty, empty-sound, put-none, put-length, put-both}
 use Rattle.plan_writer.proofs.Laws.Numbers.{plan-written}
-use Rattle.plan_writer.proofs.Laws.PlanBits.{upTo, upTo-rises, plan-upTo, plan-room, few-jobs, place-writable}
+use Rattle.plan_writer.proofs.Laws.PlanBits.{upTo, upTo-rises, plan-upTo, plan-room, plan-bounds, place-writable}
 use Rattle.plan_writer.proofs.write_plan.Statement.{statement}
 use Rattle.plan_writer.proofs.write_plan.Tie as tie
 
 abbrev Inv-loop : tie.InvT-loop
-Inv-loop out₀ jobs actions frame first job spawn join sink₀ k₀ out sink k = (k ≤ actions) × Put out₀ sink₀ (upTo (actionBits frame first job spawn join) k) out sink
+Inv-loop out₀ jobs actions plan sink₀ k₀ out sink k = (k ≤ actions) × Put out₀ sink₀ (upTo (actionBits plan) k) out sink
 
 abbrev μ-loop : tie.MeasureT-loop
-μ-loop out₀ jobs actions frame first job spawn join sink₀ k₀ out sink k = actions - k
+μ-loop out₀ jobs actions plan sink₀ k₀ out sink k = actions - k
 
 -- the bits of the actions before place k
 abbrev before : tie.Start Inv-loop μ-loop → ℕ → List ℕ
-before s k = let a = s .args in upTo (actionBits (a .frame .now) (a .first .now) (a .job .now) (a .spawn .now) (a .join .now)) k
+before s k = upTo (actionBits (s .args .plan .now)) k
 
 -- the room for all bits
 room : (s : tie.Start Inv-loop μ-loop) → 17 + length (before s (s .args .actions)) ≤ 8 * length (s .args .out .now)
-room s = plan-room (s .pre .0) _ _ _ _ _ _ _ (s .pre .1 .given) (length (s .args .out .now)) (s .pre .1 .room)
+room s = plan-room (s .pre .1 .given) (length (s .args .out .now)) (s .pre .1 .room)
 
 -- all that is written at the loop's head
 written : (l : tie.At-loop Inv-loop μ-loop) → let s = l .before .before .before .before .before .before .before .before .before .before in
@@ -45,7 +45,7 @@ put-requires-2 c κs =
     let p = c .before .before .before in
     let s = p .before .before .before in
     let w = p .put .ensures in
-    (w .sound, (omega arith, omega (arith, few-jobs (s .pre .0) _ _ _ _ _ _ _ (s .pre .1 .given)), omega (arith, room s, put-length (empty-sound _) w, w .same)))
+    (w .sound, (omega arith, omega (arith, plan-bounds (s .pre .1 .given)), omega (arith, room s, put-length (empty-sound _) w, w .same)))
 
 loop-holds : tie.Need-loop-holds Inv-loop μ-loop
 loop-holds c = (omega arith, put-none _ _ (c .before .before .put2 .ensures .sound))
@@ -54,12 +54,10 @@ put-action-requires : tie.Need-put-action-requires Inv-loop μ-loop
 put-action-requires c κs =
     let l = c .before .before in
     let s = l .before .before .before .before .before .before .before .before .before .before in
-    let f = actionBits (s .args .frame .now) (s .args .first .now) (s .args .job .now) (s .args .spawn .now) (s .args .join .now) in (
+    let f = actionBits (s .args .plan .now) in (
       l .loop .inv .1 .sound,
-      (
-        place-writable (s .pre .0) _ _ _ _ _ _ _ (s .pre .1 .given) (l .loop .k) (c .before .loop-test .taken),
-        omega (arith, room s, reach l, upTo-rises f (suc (l .loop .k)) (s .args .actions) (c .before .loop-test .taken), length-append (upTo f (l .loop .k)) (f (l .loop .k))),
-      ),
+      place-writable (s .pre .1 .given) (l .loop .k) (c .before .loop-test .taken),
+      omega (arith, room s, reach l, upTo-rises f (suc (l .loop .k)) (s .args .actions) (c .before .loop-test .taken), length-append (upTo f (l .loop .k)) (f (l .loop .k))),
     )
 
 add-k : tie.Need-add-k Inv-loop μ-loop
@@ -86,7 +84,7 @@ returns c p g =
     let a = l .before .before .before .before .before .before .before .before .before .before .args in
     let e : l .loop .k ≡ a .actions = omega arith in
     plan-written (a .out .now) (l .loop .out) _ (l .loop .sink) _ p
-    (rw (plan-upTo p _ _ _ _ _ _ _ g) (rw e at (written l))) (c .before .before .finish .ensures)
+    (rw (plan-upTo g) (rw e at (written l))) (c .before .before .finish .ensures)
 
 pub write-plan-spec : {M : Type 1} → statement M
 write-plan-spec =

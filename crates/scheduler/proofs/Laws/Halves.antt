@@ -16,7 +16,7 @@ use borrow.Author.Tests.{le-leb, lt-leb}
 use lib.ListN.{getD}
 use Rattle.plan.specs.Plan.{Plan, size}
 use Rattle.plan.proofs.Laws.Valid.{jobs-range}
-use Rattle.plan.proofs.Laws.Placed.{first-at, start-suc}
+use Rattle.plan.proofs.Laws.Placed.{start-suc}
 use Rattle.scheduler.specs.declared.account.Account.{Account}
 use Rattle.runs.specs.Setting.{Setting, setting, countIn}
 use Rattle.runs.specs.declared.worker.Worker.{Worker}
@@ -35,6 +35,7 @@ use Rattle.runs.proofs.Laws.Tallies.{serve-requests}
 use Rattle.runs.proofs.Laws.Whole.{round-last, round-on}
 use Rattle.scheduler.proofs.Laws.Running.{run-fit, run-sound, run-at, run-turns}
 use Rattle.scheduler.proofs.Laws.Picks.{turns-queued}
+use Rattle.scheduler.proofs.Laws.FlatPlan.{first-at}
 
 lays-still : (S : Setting) (r k : ℕ) (b : List Worker) (s : State)
     → (lays S r k b s .next ≡ s .next) × (lays S r k b s .rows ≡ s .rows)

@@ -12,8 +12,7 @@ use Rattle.plan.specs.declared.refusal.Refusal.{Refusal}
 use Rattle.plan.specs.Refusal.{refused, accepted, numberOf}
 use Rattle.plan.specs.Plan.{Plan, total}
 use Rattle.plan.specs.Reader.{readPlan}
-use Rattle.plan.specs.Flat.{FlatPlan}
-use Rattle.plan.proofs.Laws.Found.{Given}
+use Rattle.plan.specs.Found.{ReadPlan}
 use Rattle.plan.proofs.Laws.Valid.{total-range}
 use Rattle.plan.proofs.Laws.Lists.{both-intro, both-left, both-right, true-of, false-of, of-true}
 use Rattle.runs.specs.Setting.{setting}
@@ -25,31 +24,16 @@ use Rattle.runs.specs.Run.{run, workersFit, choicesFit, admitted, runOf}
 use Rattle.courses.specs.Schedule.{scheduleBytes}
 use Rattle.scheduler.specs.Entry.{Result, resulted, runInto, ranOf, Claimed}
 use Rattle.scheduler.specs.Machine.{RunGiven, Printed, Kept as RowsKept}
-use Rattle.scheduler.specs.Loaded.{Loaded, Answered}
+use Rattle.scheduler.specs.Loaded.{RunIn, Loaded, Answered}
 use Rattle.scheduler.specs.Header.{headerBytes}
 use Rattle.runs.proofs.Laws.Fit.{Fit}
 use Rattle.runs.proofs.Laws.Demand3.{run-bounded}
 use Rattle.scheduler.proofs.Laws.RunBytes.{run-fits, run-written}
 
--- the arrays that were read are those that the run is given
-pub given-loaded : (bytes : List ℕ) (f : FlatPlan) (g : Given bytes f)
-    → Loaded (g .plan) (f .actions) (f .frame) (f .first) (f .spawn) (f .join) (f .parent) (f .entering)
-given-loaded bytes f g =
-    let h = g .holds in
-    record {
-      planned =
-          record {
-            accepted = g .kept;
-            frames = h .frames;
-            firsts = h .firsts;
-            spawns = h .spawns;
-            joins = h .joins;
-            parents = h .spawned .parents;
-          };
-      all = h .actions;
-      entered = h .entered;
-      long = h .whole;
-    }
+-- a plan that was read can be run
+pub read-runs : (bytes : List ℕ) (jobs actions : ℕ) (plan entering : List ℕ) (g : ReadPlan bytes jobs actions plan entering)
+    → RunIn jobs actions plan entering (g .is)
+read-runs bytes jobs actions plan entering g = record { holds = g .held; entered = g .entered; long = g .whole }
 
 -- what is answered to the bytes; where there was no run the claim says nothing
 abbrev pub Answers : List ℕ → ℕ → List ℕ → List ℕ → Ran → List ℕ → Type 0

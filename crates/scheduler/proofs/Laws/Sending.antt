@@ -16,7 +16,7 @@ use lib.Seq.{getD-set-same, getD-set-other, set-getD}
 use Rattle.plan.specs.Plan.{Plan, size, action, total, placed, noPlaced, spawnAt, parent as parentOf}
 use Rattle.plan.specs.Rules.{Accepted}
 use Rattle.plan.proofs.Laws.Lists.{true-of, false-of}
-use Rattle.plan.proofs.Laws.Placed.{placed-at, place-below, first-at, join-at, spawn-at}
+use Rattle.plan.proofs.Laws.Placed.{placed-at, place-below}
 use Rattle.plan.proofs.Laws.Valid.{jobs-range, size-range, total-range, older, join-target}
 use Rattle.runs.specs.declared.worker.Worker.{Worker}
 use Rattle.runs.specs.State.{State, nextOf, dequeOf}
@@ -31,6 +31,7 @@ use Rattle.scheduler.proofs.Laws.Missing.{missing-none, missing-no, mis
 use Rattle.courses.proofs.Laws.Course.{place-apart}
 use Rattle.runs.proofs.Laws.Lined.{Sound, held-job}
 use Rattle.runs.proofs.Laws.TurnSound.{acted, others, wakes-is, wakes-by, wakes-empty}
+use Rattle.scheduler.proofs.Laws.FlatPlan.{first-at, join-at, spawn-at}
 
 module _ {p : Plan} {n : ℕ} {choices : List ℕ} {r : ℕ} {b : List Worker} {s : State} {k j w weighs : ℕ}
     {frame first spawn join parent next missing slots top len : List ℕ}

@@ -18,7 +18,7 @@ use Rattle.plan.specs.Test.{both}
 use Rattle.plan.specs.Plan.{Plan, size, action, parent as parentOf}
 use Rattle.plan.specs.Rules.{Accepted}
 use Rattle.plan.proofs.Laws.Lists.{both-intro, both-left, both-right, true-of, false-of}
-use Rattle.plan.proofs.Laws.Placed.{start-suc, first-at, frame-at, place-below}
+use Rattle.plan.proofs.Laws.Placed.{start-suc, place-below}
 use Rattle.plan.proofs.Laws.Valid.{older, frame-range, jobs-range, total-range, spawned-once, join-target}
 use Rattle.scheduler.specs.declared.turn.Turned.{Turned}
 use Rattle.runs.specs.declared.worker.Worker.{Worker}
@@ -36,6 +36,7 @@ use Rattle.runs.proofs.Laws.Deques.{sound-chain}
 use Rattle.runs.proofs.Laws.TurnSound.{seatOf, stay, seat-spawn, seat-none, wakes-is}
 use Rattle.scheduler.proofs.Laws.Weights.{weight-small, weight-end, weight-same, weight-spawn}
 use Rattle.scheduler.proofs.Laws.Sending.{acting-sound, acting-job, acting-room, acting-first, acting-spawn, acting-next}
+use Rattle.scheduler.proofs.Laws.FlatPlan.{first-at, frame-at}
 
 module _ {p : Plan} {n : ℕ} {choices : List ℕ} {r : ℕ} {b : List Worker} {s : State} {k j w weighs : ℕ}
     {frame first spawn join parent next missing slots top len : List ℕ}

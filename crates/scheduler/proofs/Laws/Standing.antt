@@ -9,7 +9,7 @@ use native.Mathlib.Omega.{arith}
 use lib.ListN.{length, getD, replicate}
 use borrow.Author.Tests.{le-leb, lt-leb}
 use Rattle.plan.specs.Plan.{Plan, size, total}
-use Rattle.plan.proofs.Laws.Placed.{start-suc, first-at}
+use Rattle.plan.proofs.Laws.Placed.{start-suc}
 use Rattle.plan.proofs.Laws.Valid.{jobs-range}
 use Rattle.scheduler.specs.declared.account.Account.{Account}
 use Rattle.runs.specs.Setting.{setting}
@@ -25,6 +25,7 @@ use Rattle.runs.proofs.Laws.Rounds.{rounds-known}
 use Rattle.scheduler.proofs.Laws.Queues.{queued-later}
 use Rattle.scheduler.proofs.Laws.Picks.{firstEnds, first-queued}
 use Rattle.scheduler.proofs.Laws.Starting.{firstAccount, firstSeats, first-machine}
+use Rattle.scheduler.proofs.Laws.FlatPlan.{first-at}
 
 pub record Standing (p : Plan) (n : ℕ) (choices : List ℕ) (c : Account) (k : ℕ) (before seats after last rows next missing slots top len : List ℕ) : Type 0 where
   pub state : State

@@ -8,7 +8,7 @@ use native.Mathlib.Omega.{arith}
 use lib.ListN.{length, getD, replicate, getD-replicate}
 use Rattle.plan.specs.Plan.{Plan, job, size, total, placed, noPlaced, entering as enteringOf}
 use Rattle.plan.proofs.Laws.Lists.{array-at}
-use Rattle.plan.proofs.Laws.Placed.{placed-length, placed-at, place-below, frame-at}
+use Rattle.plan.proofs.Laws.Placed.{placed-length, placed-at, place-below}
 use Rattle.plan.proofs.Laws.Valid.{jobs-range}
 use Rattle.scheduler.specs.declared.account.Account.{Account}
 use Rattle.runs.specs.declared.worker.Worker.the-variants.{Idle, Holding}
@@ -19,6 +19,7 @@ use Rattle.scheduler.specs.Machine.{dequeAt, missingTo, Progressed, Dequ
 use Rattle.runs.proofs.Laws.Start.{none-done}
 use Rattle.runs.proofs.Laws.Coursed.{start-weight}
 use Rattle.scheduler.proofs.Laws.Missing.{missing-start}
+use Rattle.scheduler.proofs.Laws.FlatPlan.{frame-at}
 
 -- the account and the seats of a run's start, where job 0's frame weighs so much
 abbrev pub firstAccount : ℕ → Account

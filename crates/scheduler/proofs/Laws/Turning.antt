@@ -11,7 +11,7 @@ use lib.ListN.{length, getD, set, length-set}
 use lib.Seq.{getD-set-same, getD-set-other, drop-set-lt}
 use Rattle.plan.specs.Plan.{Plan, size, total}
 use Rattle.plan.proofs.Laws.Valid.{jobs-range}
-use Rattle.plan.proofs.Laws.Placed.{place-below, first-at}
+use Rattle.plan.proofs.Laws.Placed.{place-below}
 use Rattle.scheduler.specs.declared.account.Account.{Account}
 use Rattle.scheduler.specs.declared.turn.Turned.{Turned}
 use Rattle.runs.specs.Setting.{setting, countIn}
@@ -29,6 +29,7 @@ use Rattle.courses.proofs.Laws.Course.{place-apart, Acts, acted}
 use Rattle.runs.proofs.Laws.Coursed.{core, turn-ends}
 use Rattle.scheduler.proofs.Laws.Codes.{seated-set}
 use Rattle.scheduler.proofs.Laws.Running.{run-sound, run-counts, run-seats, run-at}
+use Rattle.scheduler.proofs.Laws.FlatPlan.{first-at}
 
 -- the bytes of a row, and those of others
 abbrev pub written : List ℕ → ℕ → ℕ → ℕ → List ℕ

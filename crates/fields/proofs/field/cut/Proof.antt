@@ -1,72 +1,63 @@
 -- `fields::field::cut` meets its contract.
-use mathlib.Core.Path.{sym}
-use Prim.Native.Nat.{_*_, _%_}
+use Prim.Native.Nat.{_/_}
 use native.Mathlib.Omega.{arith}
-use lib.Pow.{pow-mono}
+use mathlib.Core.Path.{sym, _∙_}
+use lib.ListN.{drop}
 use Rattle.fields.proofs.Laws.Bits.{field-beyond, field-read}
-use Rattle.fields.proofs.Laws.Window.{window-field, product-fits}
+use Rattle.fields.proofs.Laws.Window.{field-at}
 use borrow.Author.Needs.{needs}
 use Rattle.fields.proofs.field.cut.Statement.{statement}
 use Rattle.fields.proofs.field.cut.Tie as tie
 
-add-if1 : tie.Need-add-if1
-add-if1 c = search needs
-
-add-if1-2 : tie.Need-add-if1-2
-add-if1-2 c = search needs
-
 returns : tie.Need-returns
-returns c =
-    let a = c .before .before .args in
-    sym (field-beyond (a .s .now) (a .width) (a .at) (omega arith))
+returns c = let a = c .before .before .args in sym (field-beyond (a .s .now) (a .width) (a .at) (omega arith))
 
-add-window : tie.Need-add-window
-add-window c = search needs
+window-at-requires : tie.Need-window-at-requires
+window-at-requires c κs = search needs
 
-window-requires : tie.Need-window-requires
-window-requires c κs = search needs
+cut-in-requires : tie.Need-cut-in-requires
+cut-in-requires c κs = search needs
 
-power-requires : tie.Need-power-requires
-power-requires c κs = search needs
+enum-known-value : tie.Need-enum-known-value
+enum-known-value c = search needs
 
-mul-from-field : tie.Need-mul-from-field
-mul-from-field c = let a = c .before .before .before .before .args in omega (arith, product-fits (c .before .window .result) (c .power .result) (a .at % 8) (c .before .window .ensures .1) (c .power .ensures) (omega arith))
-
-power-requires-2 : tie.Need-power-requires-2
-power-requires-2 c κs = search needs
-
-mul-value : tie.Need-mul-value
-mul-value c =
-    let a = c .before .before .before .before .before .args in
-    omega (arith, product-fits (c .before .before .window .result * c .before .power .result % 4294967296) (c .power2 .result) (a .width) (omega arith) (c .power2 .ensures) (omega arith))
+enum-told : tie.Need-enum-told
+enum-told c = search needs
 
 returns-2 : tie.Need-returns-2
 returns-2 c =
-    let a = c .before .before .before .before .before .args in
-    sym (window-field (a .s .now) (a .at) (a .width) (c .before .before .window .result) (c .before .power .result) (c .power2 .result) (omega arith) (omega arith)
-    (c .before .before .window .ensures .0) (c .before .power .ensures) (c .power2 .ensures))
+    let k = c .before .before in
+    let w = k .before in
+    let a = w .before .before .before .args in
+    let e = k .cut-in .ensures (drop (a .at / 8) (a .s .now)) (w .window-at .ensures) in
+    sym (field-at (a .s .now) (a .width) (a .at) (omega arith) ∙ rw (← e, c .enum-told .given .1))
 
-cast-t15 : tie.Need-cast-t15
-cast-t15 c =
-    let a = c .before .before .before .before .before .args in
-    omega (arith, field-read (a .s .now) (a .width) (a .at) _ _ (sym (returns-2 c)) .0, pow-mono {i = a .width} {j = 24} (omega arith))
+mul-t7 : tie.Need-mul-t7
+mul-t7 c = search needs
 
-add-t10 : tie.Need-add-t10
-add-t10 c = search needs
+returns-3 : tie.Need-returns-3
+returns-3 c =
+    let k = c .before .before .before in
+    let w = k .before in
+    let a = w .before .before .before .args in
+    let e = k .cut-in .ensures (drop (a .at / 8) (a .s .now)) (w .window-at .ensures) in
+    sym (field-at (a .s .now) (a .width) (a .at) (omega arith) ∙ rw (← e, c .before .value .given .1))
+
+add-t11 : tie.Need-add-t11
+add-t11 c =
+    let a = c .before .before .before .before .before .before .before .args in
+    omega (arith, field-read (a .s .now) (a .width) (a .at) _ _ (sym (returns-3 c)) .1)
 
 pub cut-spec : {M : Type 1} → statement M
 cut-spec =
     tie.close
     (tie.spec
-    add-if1
-    add-if1-2
     returns
-    add-window
-    window-requires
-    power-requires
-    mul-from-field
-    power-requires-2
-    mul-value
-    cast-t15
-    add-t10
-    returns-2)
+    window-at-requires
+    cut-in-requires
+    enum-known-value
+    enum-told
+    returns-2
+    mul-t7
+    add-t11
+    returns-3)

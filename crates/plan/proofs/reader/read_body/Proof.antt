@@ -100,15 +100,13 @@ returns-5 c =
 
 read-jobs-requires : tie.Need-read-jobs-requires
 read-jobs-requires c κs =
-    let e = c .before .before .before .before .before in
+    let e = c .before in
     let v = e .before .before .before in
-    let f = v .before .before .before .before .before in
-    let p = f .before .before .before .before .pre in
-    (omega (arith, field-read _ 9 _ _ _ (value-read v) .1, field-read _ 8 _ _ _ (form-read f) .1), e .if3 .left, p .0, p .1)
+    (omega (arith, field-read _ 9 _ _ _ (value-read v) .1, field-read _ 8 _ _ _ (form-read (v .before .before .before .before .before)) .1), e .if3 .left)
 
 returns-6 : tie.Need-returns-6
 returns-6 c =
-    let e = c .before .before .before .before .before .before in
+    let e = c .before .before in
     let v = e .before .before .before in
     rw (went-on (v .before .before .before) ∙ within _ _ _ _ (value-read v) (e .before .if2 .left) (e .if3 .left)) (c .read-jobs .ensures)
 

@@ -13,7 +13,6 @@ use Rattle.fields.specs.Field.{Step, stop, step, then, fieldAt, stepOf}
 use Rattle.plan.specs.Progress.{Head, headerAt}
 use Rattle.fields.proofs.Laws.Bits.{field-read}
 use Rattle.plan.proofs.Laws.Steps.{either-right}
-use Rattle.plan.proofs.Laws.Written.{wrote-one}
 use Rattle.plan.proofs.reader.read_header.Statement.{statement}
 use Rattle.plan.proofs.reader.read_header.Tie as tie
 
@@ -98,22 +97,18 @@ returns-5 c =
     let v = c .before .before .before in
     went-on (v .before .before .before) ∙ over _ _ _ _ _ _ (value-read v) (c .if3 .taken)
 
-cast-frame : tie.Need-cast-frame
-cast-frame c = omega (arith, field-read _ 16 _ _ _ (weight-read (c .before .before .before .before .before .before .before .before)) .0)
+cast-set-frame : tie.Need-cast-set-frame
+cast-set-frame c = omega (arith, field-read _ 16 _ _ _ (weight-read (c .before .before .before .before .before .before .before .before .before)) .0)
 
-mul-frame : tie.Need-mul-frame
-mul-frame c = search needs
-
-element-write-frame : tie.Need-element-write-frame
-element-write-frame c = search needs
+set-frame-requires : tie.Need-set-frame-requires
+set-frame-requires c κs = search needs
 
 returns-6 : tie.Need-returns-6
 returns-6 c =
-    let v = c .before .before .before in
-    let b = v .before .before .before .before .before .before .before .before .before in (
+    let v = c .before .before .before .before .before in (
       _,
-      went-on (v .before .before .before) ∙ within _ _ _ _ _ _ (value-read v) (c .before .if2 .left) (c .if3 .left),
-      wrote-one _ _ _ (omega (arith, b .pre)),
+      went-on (v .before .before .before) ∙ within _ _ _ _ _ _ (value-read v) (c .before .before .before .if2 .left) (c .before .before .if3 .left),
+      c .set-frame .ensures,
     )
 
 pub read-header-spec : {M : Type 1} → statement M
@@ -133,7 +128,6 @@ read-header-spec =
     returns-4
     add-if3
     returns-5
-    cast-frame
-    mul-frame
-    element-write-frame
+    cast-set-frame
+    set-frame-requires
     returns-6)

@@ -1,31 +1,32 @@
--- `plan::rules::all_spawned` meets its contract. The loop's invariant: every job passed but 0 has a position other than 255.
+-- `plan::rules::all_spawned` meets its contract. The loop's invariant: every job passed but 0 has a spawn noted.
 -- The measure is what is left of the jobs.
 use Prim.Native.Nat.{ℕ, _≤_, _<_, _-_}
-use mathlib.Core.Path.{_≡_}
+use mathlib.Core.Path.{_≡_, sym, _∙_}
 use native.Mathlib.Omega.{arith}
 use borrow.Author.Count.{below-more}
-use lib.ListN.{getD}
+use Rattle.plan.specs.Sheet.{spawnedAt}
 use Rattle.plan.proofs.rules.all_spawned.Statement.{statement}
 use Rattle.plan.proofs.rules.all_spawned.Tie as tie
 
 abbrev Inv-loop : tie.InvT-loop
-Inv-loop jobs position c₀ c =
-    (1 ≤ c) × (jobs ≤ 256) × ((n : ℕ) → n < c → 1 ≤ n → getD position n 0 ≡ 255 → ⊥)
+Inv-loop jobs plan c₀ c =
+    (1 ≤ c) × (jobs ≤ 256) × ((n : ℕ) → n < c → 1 ≤ n → spawnedAt plan n ≡ 0 → ⊥)
 
 abbrev μ-loop : tie.MeasureT-loop
-μ-loop jobs position c₀ c = jobs - c
+μ-loop jobs plan c₀ c = jobs - c
 
 loop-holds : tie.Need-loop-holds Inv-loop μ-loop
 loop-holds c = (omega arith, c .pre, λ n b g e. omega arith)
 
-element-copy-out-if1 : tie.Need-element-copy-out-if1 Inv-loop μ-loop
-element-copy-out-if1 c = omega arith
+spawned-at-requires : tie.Need-spawned-at-requires Inv-loop μ-loop
+spawned-at-requires c κs = omega arith
 
 returns : tie.Need-returns Inv-loop μ-loop
 returns c =
+    let d = c .before .before in
     record {
       kept = λ x. absurd x;
-      broken = λ _. (c .before .before .before .loop .c, c .before .before .before .loop .inv .0, c .before .before .loop-test .taken, c .if1 .taken);
+      broken = λ _. (d .before .loop .c, d .before .loop .inv .0, d .loop-test .taken, sym (c .before .spawned-at .ensures .0) ∙ c .if1 .taken);
     }
 
 add-c : tie.Need-add-c Inv-loop μ-loop
@@ -35,8 +36,11 @@ loop-less : tie.Need-loop-less Inv-loop μ-loop
 loop-less c = omega arith
 
 loop-again : tie.Need-loop-again Inv-loop μ-loop
-loop-again c =
-    (omega arith, omega arith, below-more _ _ (c .before .before .before .loop .inv .2) (λ _. c .if1 .left))
+loop-again c = (
+  omega arith,
+  omega arith,
+  below-more _ _ (c .before .before .before .loop .inv .2) (λ _ e. c .if1 .left (c .before .spawned-at .ensures .0 ∙ e)),
+)
 
 returns-2 : tie.Need-returns-2 Inv-loop μ-loop
 returns-2 c =
@@ -49,7 +53,7 @@ all-spawned-spec =
     Inv-loop
     μ-loop
     loop-holds
-    element-copy-out-if1
+    spawned-at-requires
     returns
     add-c
     loop-less

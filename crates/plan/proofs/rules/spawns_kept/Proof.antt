@@ -1,48 +1,61 @@
--- `plan::rules::spawns_kept` meets its contract. The loop's invariant: the arrays hold what the actions passed spawn.
--- The measure is what is left of the actions.
+-- `plan::rules::spawns_kept` meets its contract. The loop's invariant: the array holds what the actions up to the last
+-- listed one passed spawn. The measure is what is left of the list.
 use Prim.Native.Nat.{_≤_, _-_}
-use mathlib.Core.Path.{_≡_}
+use mathlib.Core.Path.{_≡_, refl}
 use native.Mathlib.Omega.{arith}
-use native.Mathlib.Numerals.{add-one}
-use Rattle.plan.specs.Plan.{Plan, total}
-use Rattle.plan.specs.Given.{SpawnsGiven}
-use Rattle.plan.specs.Kept.{Recorded}
+use denote.Ref.{now}
+use Rattle.plan.specs.Plan.{Plan}
+use Rattle.plan.specs.Sheet.{LaidIn}
+use Rattle.plan.specs.Listed.{upto}
+use Rattle.plan.specs.Kept.{Recorded, SpawnAt}
 use Rattle.plan.proofs.Laws.Counts.{passed, not-passed}
-use Rattle.plan.proofs.Laws.Recording.{told-kept, told-broken, given-all}
+use Rattle.plan.proofs.Laws.Spawning.{total-in-range}
+use Rattle.plan.proofs.Laws.Listing.{upto-more}
+use Rattle.plan.proofs.Laws.Recording.{told-kept, told-broken, recorded-start, spawn-next, spawns-all}
 use Rattle.plan.proofs.rules.spawns_kept.Statement.{statement}
 use Rattle.plan.proofs.rules.spawns_kept.Tie as tie
 
 abbrev Inv-loop : tie.InvT-loop
-Inv-loop jobs actions first job spawn parent₀ position₀ k₀ parent position k =
-    (k ≤ actions)
-    × ((p : Plan) → SpawnsGiven jobs actions first job spawn p → Recorded p 0 parent₀ position₀ → Recorded p k parent position)
+Inv-loop jobs actions plan₀ list count m₀ plan m =
+    (actions ≤ 2048) × (m ≤ count) × ((p : Plan) → LaidIn jobs actions plan₀ p → Recorded (upto list m) plan p)
 
 abbrev μ-loop : tie.MeasureT-loop
-μ-loop jobs actions first job spawn parent₀ position₀ k₀ parent position k = actions - k
+μ-loop jobs actions plan₀ list count m₀ plan m = count - m
+
+note-spawns-requires : tie.Need-note-spawns-requires Inv-loop μ-loop
+note-spawns-requires c κs =
+    let x = c .before .before .pre in (omega (arith, x .1 .all, total-in-range (x .0) (x .1 .laid .range)), refl)
 
 loop-holds : tie.Need-loop-holds Inv-loop μ-loop
-loop-holds c = (omega arith, λ p g r. r)
+loop-holds c =
+    let x = c .before .before .before .pre in
+    (omega (arith, x .1 .all, total-in-range (x .0) (x .1 .laid .range)), omega arith, λ p g. recorded-start _ _ _ p g)
+
+mul-wide16 : tie.Need-mul-wide16 Inv-loop μ-loop
+mul-wide16 c = omega (arith, c .before .before .note-spawns .ensures .few)
+
+array-read-wide16 : tie.Need-array-read-wide16 Inv-loop μ-loop
+array-read-wide16 c = omega (arith, c .before .before .note-spawns .ensures .few)
+
+wide16-requires : tie.Need-wide16-requires Inv-loop μ-loop
+wide16-requires c κs = tt
+
+-- the next action that spawns is reached
+next : (c : tie.After-wide16 Inv-loop μ-loop) (p : Plan)
+    → let a = c .before .before .before .before .before .before .args in
+    LaidIn (a .jobs) (a .actions) (now (a .plan)) p → SpawnAt (a .jobs) (c .wide16 .result) (c .before .before .loop .plan) p
+next c p g =
+    spawn-next _ _ _ _ _ p g (c .before .before .before .note-spawns .ensures) _ _ _ (c .before .loop-test .taken) (c .wide16 .ensures .0) (c .before .before .loop .inv .2 p g)
 
 spawn-rule-requires : tie.Need-spawn-rule-requires Inv-loop μ-loop
-spawn-rule-requires c κs =
-    let x = c .before .before .before .before .pre in (
-      x .0,
-      record {
-        given = given-all (x .0) _ _ _ _ _ (x .1 .given);
-        here = omega (arith, x .1 .given .all);
-        recorded = c .before .before .before .loop .inv .1 (x .0) (x .1 .given) (x .1 .recorded);
-      },
-    )
+spawn-rule-requires c κs = let x = c .before .before .before .before .before .before .before .pre in (x .0, next (c .before) (x .0) (x .1))
 
 returns : tie.Need-returns Inv-loop μ-loop
-returns c = λ p s.
-    let g = s .given in
-    let r = s .recorded in
-    told-broken p _ _ _
-    (c .before .spawn-rule .ensures p (record { given = given-all p _ _ _ _ _ g; here = omega (arith, g .all); recorded = c .before .before .before .before .before .loop .inv .1 p g r }) .broken (not-passed (c .before .spawn-rule .result) (c .if1 .taken)))
+returns c = λ p g.
+    told-broken _ _ p (c .before .spawn-rule .ensures p (next (c .before .before .before) p g) .broken (not-passed (c .before .spawn-rule .result) (c .if1 .taken)))
 
-add-k : tie.Need-add-k Inv-loop μ-loop
-add-k c = omega arith
+add-m : tie.Need-add-m Inv-loop μ-loop
+add-m c = omega (arith, c .before .before .before .before .before .before .note-spawns .ensures .few)
 
 loop-less : tie.Need-loop-less Inv-loop μ-loop
 loop-less c = omega arith
@@ -50,16 +63,15 @@ loop-less c = omega arith
 loop-again : tie.Need-loop-again Inv-loop μ-loop
 loop-again c = (
   omega arith,
-  λ p g r. rw add-one
-      (c .before .spawn-rule .ensures p (record { given = given-all p _ _ _ _ _ g; here = omega (arith, g .all); recorded = c .before .before .before .before .before .loop .inv .1 p g r }) .kept (passed (c .before .spawn-rule .result) (c .if1 .left))),
+  omega arith,
+  λ p g. rw (← upto-more _ _ _ (c .before .before .before .wide16 .ensures .0))
+      (c .before .spawn-rule .ensures p (next (c .before .before .before) p g) .kept (passed (c .before .spawn-rule .result) (c .if1 .left))),
 )
 
 returns-2 : tie.Need-returns-2 Inv-loop μ-loop
-returns-2 c = λ p s.
-    let g = s .given in
-    let r = s .recorded in
-    let e : c .before .loop .k ≡ total p = omega (arith, g .all) in
-    told-kept p _ _ _ (rw e at (c .before .loop .inv .1 p g r))
+returns-2 c = λ p g.
+    let e : c .before .loop .m ≡ c .before .before .note-spawns .result = omega arith in
+    told-kept _ _ p (spawns-all _ _ _ _ _ p g (c .before .before .note-spawns .ensures) _ (rw e at (c .before .loop .inv .2 p g)))
 
 pub spawns-kept-spec : {M : Type 1} → statement M
 spawns-kept-spec =
@@ -67,10 +79,14 @@ spawns-kept-spec =
     (tie.spec
     Inv-loop
     μ-loop
+    note-spawns-requires
     loop-holds
+    mul-wide16
+    array-read-wide16
+    wide16-requires
     spawn-rule-requires
     returns
-    add-k
+    add-m
     loop-less
     loop-again
     returns-2)

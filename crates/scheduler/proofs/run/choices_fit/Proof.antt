@@ -1,12 +1,12 @@
 -- `run::choices_fit` meets its contract. The loop's invariant: every choice passed is below n. The measure is what is left of the choices.
-use Prim.Native.Nat.{ℕ, zero, suc, _≤_, _<_, _-_}
+use Prim.Native.Nat.{ℕ, _≤_, _<_, _-_}
 use mathlib.Core.Path.{_≡_, refl, sym}
 use mathlib.Core.Bool.{Bool, true, false}
 use mathlib.Core.List.{List, [], _∷_}
 use native.Mathlib.Omega.{arith}
 use borrow.Author.Count.{below-more}
 use lib.ListN.{length, getD}
-use lib.Dec.{T, leb, ltb, leb→le, le→leb, ltb→lt, lt→ltb}
+use lib.Dec.{leb, ltb, leb→le, le→leb, ltb→lt, lt→ltb}
 use Rattle.plan.specs.Test.{both, either, all}
 use Rattle.runs.specs.Run.{choicesFit}
 use Rattle.plan.proofs.Laws.Lists.{both-left, both-right, both-intro, true-of, false-of, all-at, all-by}

@@ -1,0 +1,115 @@
+// A plan that was read, as one array: its numbers, each kind from a fixed place on.
+ghost use mathlib.Core.Path.{_≡_};
+ghost use Prim.Native.Nat.{_+_, _<_};
+ghost use lib.ListN.{set};
+ghost use Rattle.plan.specs.Contract.{before, after};
+ghost use Rattle.plan.specs.Sheet.{childAt, targetAt, frameAt, firstAt, parentAt, spawnedAt, jobAt, withAction};
+use numbers::units16;
+use numbers::wide16;
+
+// From 0 on the children of the 2,048 actions and from 2,048 on their targets, each a number plus 1, or 0 for none; from 4,096
+// on the 256 frames; from 4,352 on the 257 places of first actions, that of the end with them; from 4,609 on the parents; from
+// 4,865 on the positions of the jobs' spawns, plus 1, or 0 where none is noted; from 5,121 on the actions' jobs. The 2,048
+// places from 7,169 on are left for a cost of each action.
+pub type Sheet = [u16; PLACES];
+
+pub const PLACES: usize = 9217;
+
+const TARGET: usize = 2048;
+
+const FRAME: usize = 4096;
+
+const FIRST: usize = 4352;
+
+const PARENT: usize = 4609;
+
+const SPAWNED: usize = 4865;
+
+const JOB: usize = 5121;
+
+// The number of the job that the action at place k spawns, plus 1, or 0.
+pub fn child_at(plan: &Sheet, k: usize) -> usize
+    requires { ⌜ k < 2048 ⌝ }
+    ensures { λ r. ⌜ (r ≡ childAt (before plan) k) × (r < 65536) ⌝ }
+{
+    wide16(plan[k])
+}
+
+// The position in its job's parent that the action at place k sends its join to, plus 1, or 0.
+pub fn target_at(plan: &Sheet, k: usize) -> usize
+    requires { ⌜ k < 2048 ⌝ }
+    ensures { λ r. ⌜ (r ≡ targetAt (before plan) k) × (r < 65536) ⌝ }
+{
+    wide16(plan[TARGET + k])
+}
+
+// The job of the action at place k.
+pub fn job_at(plan: &Sheet, k: usize) -> usize
+    requires { ⌜ k < 2048 ⌝ }
+    ensures { λ r. ⌜ (r ≡ jobAt (before plan) k) × (r < 65536) ⌝ }
+{
+    wide16(plan[JOB + k])
+}
+
+pub fn frame_of(plan: &Sheet, j: usize) -> u32
+    requires { ⌜ j < 256 ⌝ }
+    ensures { λ r. ⌜ (r ≡ frameAt (before plan) j) × (r < 65536) ⌝ }
+{
+    units16(plan[FRAME + j])
+}
+
+// The place of job j's first action, or that of the end where j is the number of jobs.
+pub fn first_of(plan: &Sheet, j: usize) -> usize
+    requires { ⌜ j < 257 ⌝ }
+    ensures { λ r. ⌜ (r ≡ firstAt (before plan) j) × (r < 65536) ⌝ }
+{
+    wide16(plan[FIRST + j])
+}
+
+pub fn parent_of(plan: &Sheet, j: usize) -> usize
+    requires { ⌜ j < 256 ⌝ }
+    ensures { λ r. ⌜ (r ≡ parentAt (before plan) j) × (r < 65536) ⌝ }
+{
+    wide16(plan[PARENT + j])
+}
+
+// The position of job j's spawn in its parent, plus 1, or 0 where none is noted.
+pub fn spawned_at(plan: &Sheet, j: usize) -> usize
+    requires { ⌜ j < 256 ⌝ }
+    ensures { λ r. ⌜ (r ≡ spawnedAt (before plan) j) × (r < 65536) ⌝ }
+{
+    wide16(plan[SPAWNED + j])
+}
+
+// The action at place k is one of job j.
+pub fn set_action(plan: &mut Sheet, k: usize, j: usize, child: u16, target: u16)
+    requires { ⌜ (k < 2048) × (j < 256) ⌝ }
+    ensures { λ _. ⌜ after plan ≡ withAction (before plan) k j child target ⌝ }
+{
+    plan[k] = child;
+    plan[TARGET + k] = target;
+    plan[JOB + k] = j as u16;
+}
+
+pub fn set_frame(plan: &mut Sheet, j: usize, weight: u16)
+    requires { ⌜ j < 256 ⌝ }
+    ensures { λ _. ⌜ after plan ≡ set (before plan) (4096 + j) weight ⌝ }
+{
+    plan[FRAME + j] = weight;
+}
+
+pub fn set_first(plan: &mut Sheet, j: usize, k: usize)
+    requires { ⌜ (j < 257) × (k < 65536) ⌝ }
+    ensures { λ _. ⌜ after plan ≡ set (before plan) (4352 + j) k ⌝ }
+{
+    plan[FIRST + j] = k as u16;
+}
+
+// Notes that job j is spawned by job q, at a position that is given plus 1.
+pub fn set_spawner(plan: &mut Sheet, j: usize, q: usize, position: usize)
+    requires { ⌜ (j < 256) × (q < 256) × (position < 65536) ⌝ }
+    ensures { λ _. ⌜ after plan ≡ set (set (before plan) (4609 + j) q) (4865 + j) position ⌝ }
+{
+    plan[PARENT + j] = q as u16;
+    plan[SPAWNED + j] = position as u16;
+}
