@@ -24,7 +24,7 @@
  *
  * The functions use no heap and no global state, and of the C library memcpy and memset alone, so they may be called
  * from several threads at once. The stack that a call takes does not grow with its input;
- * measured, it is below 32 KiB.
+ * measured, it is below 48 KiB.
  *
  * `refused` is 0 where the input is accepted, else the number of the cause, and all that stands beside it is then 0.
  *

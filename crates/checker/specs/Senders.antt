@@ -9,14 +9,14 @@ use mathlib.Core.Path.{_≡_}
 use mathlib.Core.List.{List}
 use lib.ListN.{replicate}
 use Rattle.plan.specs.Plan.{Plan, total}
-use Rattle.plan.specs.Sheet.{firstAt, parentAt, jobAt, targetAt, Planned}
+use Rattle.plan.specs.Sheet.{firstOf, parentOf, jobAt, targetAt, Planned}
 
 abbrev pub lineFrom : ℕ → ℕ → ℕ
 lineFrom first zero = 2048
 lineFrom first (suc t) = first + t
 
 abbrev pub lineOf : List ℕ → ℕ → ℕ
-lineOf plan k = lineFrom (firstAt plan (parentAt plan (jobAt plan k) % 256)) (targetAt plan k)
+lineOf plan k = lineFrom (firstOf plan (parentOf plan (jobAt plan k) % 256)) (targetAt plan k)
 
 pub record Sending (k : ℕ) (plan : List ℕ) (p : Plan) : Type 0 where
   pub within : k < total p

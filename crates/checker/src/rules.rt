@@ -13,7 +13,7 @@ use plan::sheet::Sheet;
 use plan::sheet::first_of;
 use plan::sheet::job_at;
 use plan::sheet::parent_of;
-use plan::sheet::spawned_at;
+use plan::sheet::spawn_of;
 
 // The 16 bits of row k: its round, then its worker.
 fn row_at(schedule: &[u8], k: usize) -> usize
@@ -35,7 +35,7 @@ fn round_before(schedule: &[u8], k: usize, plan: &Sheet) -> usize
     if j == 0 {
         return 0;
     }
-    let spawn = first_of(plan, parent_of(plan, j)) + (spawned_at(plan, j) - 1);
+    let spawn = first_of(plan, parent_of(plan, j)) + (spawn_of(plan, j) - 1);
     row_at(schedule, spawn) / 16
 }
 

@@ -1,4 +1,5 @@
-// Bit fields, most significant bit first (document 01, "Plan"): one reader and one writer for every width up to 24 bits.
+// Bit fields, most significant bit first (document 01, "Plan"): one reader and one writer for every width up to 24 bits, and
+// the window of bytes that fields are cut from.
 ghost use mathlib.Core.Path.{_≡_};
 ghost use Prim.Native.Nat.{ℕ, _+_, _*_, _-_, _/_, _^_, _≤_, _<_};
 ghost use mathlib.Core.List.{List, []};
@@ -72,7 +73,7 @@ pub fn window_at(s: &[u8], i: usize) -> Window
 
 // The field of `width` bits at bit `at` of a window: what stands before it is shifted out to the left, and what stands behind it
 // to the right.
-pub fn cut_in(w: Window, at: usize, width: usize) -> Field
+fn cut_in(w: Window, at: usize, width: usize) -> Field
     requires { ⌜ at + width ≤ 32 ⌝ }
     ensures { λ r. ⌜ ((t : List ℕ) → Windowed w t → stepOf r ≡ fieldAt t width at) ⌝ }
 {

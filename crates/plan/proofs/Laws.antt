@@ -2,6 +2,8 @@
 pub mod Lists
 pub mod Counts
 pub mod Placed
+pub mod Enters
+pub mod Laid
 pub mod Spawning
 pub mod Valid
 pub mod Listing

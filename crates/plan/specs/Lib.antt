@@ -5,6 +5,7 @@ pub mod Plan
 pub mod Rules
 pub mod Reader
 pub mod Contract
+pub mod Told
 pub mod Sheet
 pub mod Entering
 pub mod Found

@@ -2,14 +2,15 @@
 --   withActions plan k j l == the array with the actions l of job j, from place k on
 --   withJob plan k j x     == the array with the job x as job j, its actions from place k on
 --   withJobs plan k j l    == the array with the jobs l, the first as job j, their actions from place k on
---   headerAt s k at        == a job's frame and action count, where k actions were read before
---   jobAt s k at           == a job, where k actions were read before
+--   Head                   == a job's frame and action count
+--   headerAt s k at        == these, where k actions were read before
+--   oneJobAt s k at           == a job, where k actions were read before
 --   ActionsRead, HeaderRead, JobRead, PlanRead == the answer is that of the definition, and the array has what was read
 use Prim.Native.Nat.{ℕ, suc, _+_}
 use mathlib.Core.Path.{_≡_}
 use mathlib.Core.Bool.{true, false}
 use mathlib.Core.List.{List, [], _∷_}
-use lib.ListN.{length, set}
+use lib.ListN.{length}
 use lib.Dec.{eqb, ltb}
 use Rattle.plan.specs.declared.action.Progress.{Progress}
 use Rattle.plan.specs.declared.reader.Header.{Header}
@@ -19,7 +20,7 @@ use Rattle.plan.specs.Test.{either}
 use Rattle.plan.specs.Plan.{Action, Job, Plan, total}
 use Rattle.fields.specs.Field.{Step, stop, step, then, fieldAt}
 use Rattle.plan.specs.Reader.{actionsAt}
-use Rattle.plan.specs.Sheet.{withAction}
+use Rattle.plan.specs.Sheet.{withAction, withFrame, withFirst}
 
 abbrev pub withActions : List ℕ → (k j : ℕ) → List Action → List ℕ
 withActions plan k j [] = plan
@@ -27,15 +28,15 @@ withActions plan k j (x ∷ l) = withActions (withAction plan k j (x .spawn) (x 
 
 abbrev pub withJob : List ℕ → (k j : ℕ) → Job → List ℕ
 withJob plan k j x =
-    set (withActions (set plan (4096 + j) (x .frame)) k j (x .actions)) (4352 + (j + 1)) (k + length (x .actions))
+    withFirst (withActions (withFrame plan j (x .frame)) k j (x .actions)) (j + 1) (k + length (x .actions))
 
 abbrev pub withJobs : List ℕ → (k j : ℕ) → List Job → List ℕ
 withJobs plan k j [] = plan
 withJobs plan k j (x ∷ l) = withJobs (withJob plan k j x) (k + length (x .actions)) (suc j) l
 
-abbrev pub ActionsRead : List ℕ → (at n j k : ℕ) (plan plan′ : List ℕ) → Progress → Type 0
-ActionsRead s at n j k plan plan′ (Progress.Refused cause) = actionsAt s n at ≡ stop (numberOf cause)
-ActionsRead s at n j k plan plan′ (Progress.At next) =
+abbrev pub ActionsRead : List ℕ → (at j k n : ℕ) (plan plan′ : List ℕ) → Progress → Type 0
+ActionsRead s at j k n plan plan′ (Progress.Refused cause) = actionsAt s n at ≡ stop (numberOf cause)
+ActionsRead s at j k n plan plan′ (Progress.At next) =
     (l : List Action) × (actionsAt s n at ≡ step l next) × (plan′ ≡ withActions plan k j l)
 
 pub record Head : Type 0 where
@@ -54,20 +55,20 @@ headerAt s k at =
           ])
     ])
 
-unfoldable pub jobAt : List ℕ → ℕ → ℕ → Step Job
+unfoldable pub oneJobAt : List ℕ → ℕ → ℕ → Step Job
 unfolding headerAt
-jobAt s k at =
+oneJobAt s k at =
     then (headerAt s k at) (λ h at. then (actionsAt s (h .size) at) (λ l at. step (record { frame = h .weight; actions = l }) at))
 
-abbrev pub HeaderRead : List ℕ → (k at j : ℕ) (plan plan′ : List ℕ) → Header → Type 0
-HeaderRead s k at j plan plan′ (Header.Refused cause) = headerAt s k at ≡ stop (numberOf cause)
-HeaderRead s k at j plan plan′ (Header.Is size next) =
-    (weight : ℕ) × (headerAt s k at ≡ step (record { weight = weight; size = size }) next) × (plan′ ≡ set plan (4096 + j) weight)
+abbrev pub HeaderRead : List ℕ → (at j k : ℕ) (plan plan′ : List ℕ) → Header → Type 0
+HeaderRead s at j k plan plan′ (Header.Refused cause) = headerAt s k at ≡ stop (numberOf cause)
+HeaderRead s at j k plan plan′ (Header.Is size next) =
+    (weight : ℕ) × (headerAt s k at ≡ step (record { weight = weight; size = size }) next) × (plan′ ≡ withFrame plan j weight)
 
-abbrev pub JobRead : List ℕ → (k at j : ℕ) (plan plan′ : List ℕ) → Header → Type 0
-JobRead s k at j plan plan′ (Header.Refused cause) = jobAt s k at ≡ stop (numberOf cause)
-JobRead s k at j plan plan′ (Header.Is end next) =
-    (x : Job) × (jobAt s k at ≡ step x next) × (end ≡ k + length (x .actions)) × (plan′ ≡ withJob plan k j x)
+abbrev pub JobRead : List ℕ → (at j k : ℕ) (plan plan′ : List ℕ) → Header → Type 0
+JobRead s at j k plan plan′ (Header.Refused cause) = oneJobAt s k at ≡ stop (numberOf cause)
+JobRead s at j k plan plan′ (Header.Is end next) =
+    (x : Job) × (oneJobAt s k at ≡ step x next) × (end ≡ k + length (x .actions)) × (plan′ ≡ withJob plan k j x)
 
 abbrev pub PlanRead : Step Plan → (plan plan′ : List ℕ) → Body → Type 0
 PlanRead x plan plan′ (Body.Refused cause) = x ≡ stop (numberOf cause)

@@ -25,7 +25,7 @@ pub enum Found {
     Plan { jobs: usize, actions: usize },
 }
 
-// A job's action count, and where its actions begin.
+// A count of actions, and where reading goes on: of a job, where its actions begin, and of all jobs so far, where the last one ends.
 pub enum Header {
     Refused(Refusal),
     Is { size: usize, next: usize },
@@ -51,7 +51,7 @@ fn read_actions(
     plan: &mut Sheet,
 ) -> Progress
     requires { ⌜ (at + 18 * count < 2 ^ 17) × (j < 256) × (from + count ≤ 2048) ⌝ }
-    ensures { λ r. ⌜ ActionsRead (before s) at count j from (before plan) (after plan) r ⌝ }
+    ensures { λ r. ⌜ ActionsRead (before s) at j from count (before plan) (after plan) r ⌝ }
 {
     let mut place = at;
     let mut k = from;
@@ -69,7 +69,7 @@ fn read_actions(
 // Reads a job's frame and action count, where `earlier` actions came before it.
 fn read_header(s: &[u8], at: usize, j: usize, earlier: usize, plan: &mut Sheet) -> Header
     requires { ⌜ (at < 2 ^ 16) × (j < 256) × (earlier ≤ 2048) ⌝ }
-    ensures { λ r. ⌜ HeaderRead (before s) earlier at j (before plan) (after plan) r ⌝ }
+    ensures { λ r. ⌜ HeaderRead (before s) at j earlier (before plan) (after plan) r ⌝ }
 {
     let Field::Cut {
         value: weight,
@@ -98,7 +98,7 @@ fn read_header(s: &[u8], at: usize, j: usize, earlier: usize, plan: &mut Sheet) 
 // Reads job j, and tells how many actions there are up to its end.
 fn read_job(s: &[u8], at: usize, j: usize, earlier: usize, plan: &mut Sheet) -> Header
     requires { ⌜ (at < 2 ^ 16) × (j < 256) × (earlier ≤ 2048) ⌝ }
-    ensures { λ r. ⌜ JobRead (before s) earlier at j (before plan) (after plan) r ⌝ }
+    ensures { λ r. ⌜ JobRead (before s) at j earlier (before plan) (after plan) r ⌝ }
 {
     match read_header(s, at, j, earlier, plan) {
         Header::Refused(cause) => Header::Refused(cause),

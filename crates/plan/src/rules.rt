@@ -16,7 +16,7 @@ use crate::sheet::first_of;
 use crate::sheet::job_at;
 use crate::sheet::parent_of;
 use crate::sheet::set_spawner;
-use crate::sheet::spawned_at;
+use crate::sheet::spawn_of;
 use crate::sheet::target_at;
 use numbers::wide16;
 
@@ -57,7 +57,7 @@ fn spawn_rule(jobs: usize, k: usize, plan: &mut Sheet) -> bool
     if c <= q {
         return false;
     }
-    if spawned_at(plan, c) != 0 {
+    if spawn_of(plan, c) != 0 {
         return false;
     }
     let first = first_of(plan, q);
@@ -89,7 +89,7 @@ fn all_spawned(jobs: usize, plan: &Sheet) -> bool
 {
     let mut c = 1;
     while c < jobs {
-        if spawned_at(plan, c) == 0 {
+        if spawn_of(plan, c) == 0 {
             return false;
         }
         c += 1;
@@ -136,7 +136,7 @@ fn join_rule(k: usize, plan: &Sheet, entering: &mut [u8; 2048]) -> bool
     if j == 0 {
         return false;
     }
-    if t <= spawned_at(plan, j) {
+    if t <= spawn_of(plan, j) {
         return false;
     }
     let q = parent_of(plan, j);

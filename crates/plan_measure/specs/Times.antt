@@ -20,7 +20,7 @@ use mathlib.Core.List.{List}
 use lib.Dec.{eqb}
 use lib.ListN.{length, getD, take}
 use Rattle.plan.specs.Plan.{Plan, size, action, total, parent, spawnAt}
-use Rattle.plan.specs.Sheet.{childAt, targetAt, firstAt, Planned}
+use Rattle.plan.specs.Sheet.{childAt, targetAt, firstOf, Planned}
 use Rattle.plan_measure.specs.Measure.{after}
 
 abbrev pub at : List ℕ → ℕ → ℕ
@@ -77,9 +77,9 @@ pub record Sent (from end base spawned : ℕ) (target time late late′ : ℕ �
 pub record PassGiven (k base spawned : ℕ) (plan : List ℕ) (time : ℕ → ℕ) : Type 0 where
   pub fits : k < 2048
   pub child : (c : ℕ) → childAt plan k ≡ suc c
-      → (c < 256) × SendGiven (firstAt plan c) (firstAt plan (suc c)) base spawned (targetAt plan) time
+      → (c < 256) × SendGiven (firstOf plan c) (firstOf plan (suc c)) base spawned (targetAt plan) time
 
 pub record Passed (k base spawned : ℕ) (plan : List ℕ) (time late late′ : ℕ → ℕ) : Type 0 where
   pub none : childAt plan k ≡ 0 → (m : ℕ) → late′ m ≡ late m
   pub child : (c : ℕ) → childAt plan k ≡ suc c
-      → Sent (firstAt plan c) (firstAt plan (suc c)) base spawned (targetAt plan) time late late′
+      → Sent (firstOf plan c) (firstOf plan (suc c)) base spawned (targetAt plan) time late late′

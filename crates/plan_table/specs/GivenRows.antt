@@ -22,7 +22,7 @@ use Rattle.plan_table.specs.declared.rows.Jobs.the-variants.{Refused, Co
 use Rattle.plan.specs.Plan.{Plan, job, total}
 use Rattle.plan.specs.Rules.{inRange}
 use Rattle.plan.specs.Test.{both}
-use Rattle.plan.specs.Sheet.{childAt, targetAt, frameAt, firstAt, spawnedAt, jobAt, Laid, LaidIn}
+use Rattle.plan.specs.Sheet.{childAt, targetAt, frameOf, firstOf, spawnOf, jobAt, Laid, LaidIn}
 use Rattle.plan_table.specs.Table.{Row, rowsOf, small, goesOn, rowRules, planOf}
 
 pub record RowsGiven (actions : ℕ) (plan : List ℕ) (p : Plan) : Type 0 where
@@ -31,7 +31,7 @@ pub record RowsGiven (actions : ℕ) (plan : List ℕ) (p : Plan) : Type 0 where
 
 abbrev pub rowOn : List ℕ → ℕ → Row
 rowOn plan k =
-    record { job = jobAt plan k; frame = frameAt plan (jobAt plan k); spawn = childAt plan k; join = targetAt plan k }
+    record { job = jobAt plan k; frame = frameOf plan (jobAt plan k); spawn = childAt plan k; join = targetAt plan k }
 
 abbrev pub withRow : List ℕ → ℕ → Row → List ℕ
 withRow t at a = set (set (set (set t at (a .job)) (at + 1) (a .frame)) (at + 2) (a .spawn)) (at + 3) (a .join)
@@ -62,13 +62,13 @@ pub record RowsTaken (t : List ℕ) (k : ℕ) (plan : List ℕ) : Type 0 where
   pub few : length t / 4 ≤ 2048
   pub long : length plan ≡ 9217
   pub fit : (i : ℕ) → i < k → RowFits (planOf (rowsOf t)) (rowAt t (4 * i)) i
-  pub frames : (j : ℕ) → j < begun t k → frameAt plan j ≡ job (planOf (rowsOf t)) j .frame
-  pub firsts : (j : ℕ) → j < begun t k → firstAt plan j ≡ total (take j (planOf (rowsOf t)))
-  pub end : firstAt plan (begun t k) ≡ k
+  pub frames : (j : ℕ) → j < begun t k → frameOf plan j ≡ job (planOf (rowsOf t)) j .frame
+  pub firsts : (j : ℕ) → j < begun t k → firstOf plan j ≡ total (take j (planOf (rowsOf t)))
+  pub end : firstOf plan (begun t k) ≡ k
   pub owners : (i : ℕ) → i < k → jobAt plan i ≡ rowAt t (4 * i) .job
   pub children : (i : ℕ) → i < k → childAt plan i ≡ rowAt t (4 * i) .spawn
   pub targets : (i : ℕ) → i < k → targetAt plan i ≡ rowAt t (4 * i) .join
-  pub unspawned : (c : ℕ) → c < 256 → spawnedAt plan c ≡ 0
+  pub unspawned : (c : ℕ) → c < 256 → spawnOf plan c ≡ 0
 
 abbrev pub RowTaken : List ℕ → ℕ → Bool → List ℕ → Type 0
 RowTaken t k true plan = RowsTaken t (suc k) plan

@@ -34,7 +34,7 @@ pub fn plan_to_table(bytes: &[u8], rows: &mut [u16]) -> Answer
     let mut entering = [0u8; 2048];
     match read_into(bytes, &mut plan, &mut entering) {
         Found::Refused(cause) => Answer::Refused(cause),
-        Found::Plan { jobs: _, actions } => {
+        Found::Plan { actions, .. } => {
             if rows.len() < 4 * actions {
                 return Answer::Refused(Refusal::Short);
             }

@@ -7,12 +7,12 @@ use mathlib.Core.Bool.{true, false}
 use mathlib.Core.List.{List, [], _++_}
 use lib.Dec.{eqb}
 use Rattle.fields.specs.Field.{bitsOf}
-use Rattle.plan.specs.Sheet.{childAt, targetAt, frameAt, firstAt, jobAt}
+use Rattle.plan.specs.Sheet.{childAt, targetAt, frameOf, firstOf, jobAt}
 use Rattle.plan_writer.specs.Writer.{numberBits}
 
 unfoldable pub openingBits : List ℕ → ℕ → ℕ → List ℕ
 openingBits plan j k =
-    elim (eqb (firstAt plan j) k) [ true ↦ bitsOf 16 (frameAt plan j) ++ bitsOf 8 (firstAt plan (j + 1) - firstAt plan j) | false ↦ [] ]
+    elim (eqb (firstOf plan j) k) [ true ↦ bitsOf 16 (frameOf plan j) ++ bitsOf 8 (firstOf plan (j + 1) - firstOf plan j) | false ↦ [] ]
 
 abbrev pub actionBits : List ℕ → ℕ → List ℕ
 actionBits plan k =
@@ -21,7 +21,7 @@ actionBits plan k =
 pub record Writable (plan : List ℕ) (k : ℕ) : Type 0 where
   pub place : k < 2048
   pub owner : jobAt plan k < 256
-  pub rises : firstAt plan (jobAt plan k) ≤ firstAt plan (jobAt plan k + 1)
-  pub few : firstAt plan (jobAt plan k + 1) < firstAt plan (jobAt plan k) + 256
+  pub rises : firstOf plan (jobAt plan k) ≤ firstOf plan (jobAt plan k + 1)
+  pub few : firstOf plan (jobAt plan k + 1) < firstOf plan (jobAt plan k) + 256
   pub child : childAt plan k ≤ 256
   pub target : targetAt plan k ≤ 256

@@ -56,7 +56,7 @@ pub fn plan_bits(jobs: usize, actions: usize, plan: &Sheet) -> usize
     bits
 }
 
-// The two numbers of an action go out as one field: a field costs the same whatever its width.
+// The two numbers of an action go out as one field: the product and the test of what is held are paid once.
 fn put_numbers(out: &mut [u8], sink: Sink, child: usize, target: usize) -> Sink
     requires { ⌜ Sound (now out) sink × (child ≤ 256) × (target ≤ 256)
         × Room (now out) sink (length (numberBits child ++ numberBits target)) ⌝ }

@@ -5,16 +5,16 @@ use Prim.Native.Nat.{ℕ, suc, _%_, _<_}
 use mathlib.Core.Path.{_≡_}
 use mathlib.Core.List.{List}
 use lib.ListN.{length, getD}
-use Rattle.plan.specs.Sheet.{childAt, targetAt, frameAt, firstAt, parentAt}
+use Rattle.plan.specs.Sheet.{childAt, targetAt, frameOf, firstOf, parentOf}
 
 pub record Handed (n places : ℕ) (f : ℕ → ℕ) (l : List ℕ) : Type 0 where
   pub long : length l ≡ places
   pub each : (k : ℕ) → k < n → getD l k 0 ≡ f k
 
 pub record JobsHanded (jobs : ℕ) (plan frame first parent : List ℕ) : Type 0 where
-  pub frames : Handed jobs 256 (frameAt plan) frame
-  pub firsts : Handed (suc jobs) 257 (firstAt plan) first
-  pub parents : Handed jobs 256 (λ j. parentAt plan j % 256) parent
+  pub frames : Handed jobs 256 (frameOf plan) frame
+  pub firsts : Handed (suc jobs) 257 (firstOf plan) first
+  pub parents : Handed jobs 256 (λ j. parentOf plan j % 256) parent
 
 pub record ActionsHanded (actions : ℕ) (plan spawn join : List ℕ) : Type 0 where
   pub spawns : Handed actions 2048 (childAt plan) spawn

@@ -13,11 +13,11 @@ use native.Mathlib.Omega.{arith}
 use lib.ListN.{length, getD}
 use Rattle.plan.specs.Plan.{Plan, Placed, size, total, placed, noPlaced, parent, spawnAt}
 use Rattle.plan.specs.Rules.{Accepted}
-use Rattle.plan.specs.Sheet.{jobAt, firstAt, parentAt, spawnedAt}
+use Rattle.plan.specs.Sheet.{jobAt, firstOf, parentOf, spawnOf}
 use Rattle.plan.proofs.Laws.Placed.{start, placed-at, placed-of, Stands, place-below}
 use Rattle.plan.proofs.Laws.Valid.{older, spawned-there, spawned-once}
 use Rattle.plan_measure.proofs.Laws.Follows.{Follows, next, born, joined, act, follows-of, of-follows}
-use Rattle.courses.proofs.Laws.PlanShape.{enters-by, enters-is}
+use Rattle.plan.proofs.Laws.Enters.{enters-by, enters-is}
 use Rattle.checker.specs.Given.{Task, Tasked}
 use Rattle.checker.specs.Judging.{word, Later, InOrder, Joined, RoundBefore}
 use Rattle.checker.specs.Senders.{lineOf}
@@ -102,10 +102,10 @@ module _ (s plan : List ℕ) (t : Task) (g : Tasked s plan t) where
     pub job-small : j < 256
     job-small = omega (arith, action-room plan p (g .planned) k h)
 
-    first-is : (f : ℕ) → f ≡ firstAt plan j → f ≡ start p (getD (placed p) k noPlaced .job)
+    first-is : (f : ℕ) → f ≡ firstOf plan j → f ≡ start p (getD (placed p) k noPlaced .job)
     first-is f m = m ∙ g .planned .laid .firsts j (omega (arith, job-known)) ∙ ap (start p) job-is
 
-    module _ (f : ℕ) (m : f ≡ firstAt plan j) where
+    module _ (f : ℕ) (m : f ≡ firstOf plan j) where
       pub tells-next : f < k → (w : ℕ) → w ≡ word s (k - 1) → RoundBefore p (word s) k (w / 16)
       tells-next l w q =
           before-next p (g .planned .rules) (word s) k h (w / 16) (omega (arith, first-is f m)) (ap (λ n. n / 16) q)
@@ -114,14 +114,14 @@ module _ (s plan : List ℕ) (t : Task) (g : Tasked s plan t) where
       tells-root l z = before-root p (g .planned .rules) (word s) k h (omega (arith, first-is f m)) (sym job-is ∙ z) (round-some k h)
 
     -- the spawn of the job
-    module _ (some : j ≢ 0) (q : ℕ) (m : q ≡ parentAt plan j) where
+    module _ (some : j ≢ 0) (q : ℕ) (m : q ≡ parentOf plan j) where
       parent-is : q ≡ parent p j
       parent-is = m ∙ g .planned .spawned .parents j (omega arith) job-known
 
       pub parent-small : q < 257
       parent-small = omega (arith, parent-is, older p (g .planned .rules) j (omega arith) job-known, job-small)
 
-      module _ (u : ℕ) (n : u ≡ firstAt plan q) (i : ℕ) (d : i ≡ spawnedAt plan j) where
+      module _ (u : ℕ) (n : u ≡ firstOf plan q) (i : ℕ) (d : i ≡ spawnOf plan j) where
         spawn-is : i ≡ suc (spawnAt p j)
         spawn-is = d ∙ g .planned .spawned .spawns j (omega arith) job-known
 
@@ -131,7 +131,7 @@ module _ (s plan : List ℕ) (t : Task) (g : Tasked s plan t) where
         place-is : u + (i - 1) ≡ start p (parent p j) + spawnAt p j
         place-is =
             let b = older p (g .planned .rules) j (omega arith) job-known in
-            omega (arith, spawn-is, n ∙ ap (firstAt plan) parent-is ∙ g .planned .laid .firsts (parent p j) (omega (arith, job-known)))
+            omega (arith, spawn-is, n ∙ ap (firstOf plan) parent-is ∙ g .planned .laid .firsts (parent p j) (omega (arith, job-known)))
 
         pub spawn-within : u + (i - 1) < total p
         spawn-within =
@@ -142,7 +142,7 @@ module _ (s plan : List ℕ) (t : Task) (g : Tasked s plan t) where
               place-below p (parent p j) (spawnAt p j) (omega (arith, job-known)) (spawned-there p (g .planned .rules) j (omega arith) job-known .0),
             )
 
-        pub tells-born : (f : ℕ) → f ≡ firstAt plan j → k ≤ f → (w : ℕ) → w ≡ word s (u + (i - 1)) → RoundBefore p (word s) k (w / 16)
+        pub tells-born : (f : ℕ) → f ≡ firstOf plan j → k ≤ f → (w : ℕ) → w ≡ word s (u + (i - 1)) → RoundBefore p (word s) k (w / 16)
         tells-born f m l w e =
             before-born p (g .planned .rules) (word s) k h (omega (arith, first-is f m)) (w / 16) (omega (arith, job-is))
             (ap (λ n. n / 16) e ∙ ap (λ n. word s n / 16) place-is ∙ ap (λ n. word s (start p (parent p n) + spawnAt p n) / 16) job-is)

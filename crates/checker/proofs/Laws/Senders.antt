@@ -12,10 +12,10 @@ use native.Mathlib.Omega.{arith}
 use lib.Dec.{T}
 use lib.ListN.{length, getD}
 use Rattle.plan.specs.Plan.{Plan, Placed, total, placed, noPlaced, parent, enters}
-use Rattle.plan.specs.Sheet.{jobAt, targetAt, firstAt, parentAt, Planned}
+use Rattle.plan.specs.Sheet.{jobAt, targetAt, firstOf, parentOf, Planned}
 use Rattle.plan.proofs.Laws.Placed.{start, placed-at, placed-of, Stands, place-below}
 use Rattle.plan.proofs.Laws.Valid.{jobs-range, total-range, older, join-target}
-use Rattle.courses.proofs.Laws.PlanShape.{enters-by, enters-is}
+use Rattle.plan.proofs.Laws.Enters.{enters-by, enters-is}
 use Rattle.checker.specs.Senders.{lineOf}
 
 -- the line of an action by what the array tells of it
@@ -23,7 +23,7 @@ module _ (plan : List ℕ) (k n : ℕ) (sent : n ≡ targetAt plan k) where
   pub line-none : n ≡ 0 → 2048 ≡ lineOf plan k
   line-none z = rw (sym sent ∙ z)
 
-  pub line-some : n ≢ 0 → (j q first : ℕ) → j ≡ jobAt plan k → q ≡ parentAt plan j → first ≡ firstAt plan (q % 256)
+  pub line-some : n ≢ 0 → (j q first : ℕ) → j ≡ jobAt plan k → q ≡ parentOf plan j → first ≡ firstOf plan (q % 256)
       → first + (n - 1) ≡ lineOf plan k
   line-some some j q first e f g =
       let m : targetAt plan k ≡ suc (n - 1) = omega arith in
@@ -31,11 +31,11 @@ module _ (plan : List ℕ) (k n : ℕ) (sent : n ≡ targetAt plan k) where
 
 module _ (plan : List ℕ) (p : Plan) (g : Planned plan p) where
   -- the place of a parent's first action
-  pub parent-first : (c : ℕ) → 1 ≤ c → c < length p → firstAt plan (parentAt plan c % 256) ≡ start p (parent p c)
+  pub parent-first : (c : ℕ) → 1 ≤ c → c < length p → firstOf plan (parentOf plan c % 256) ≡ start p (parent p c)
   parent-first c o h =
       let l = older p (g .rules) c o h in
-      let e : parentAt plan c % 256 ≡ parent p c = omega (arith, g .spawned .parents c o h, jobs-range p (g .rules)) in
-      ap (firstAt plan) e ∙ g .laid .firsts (parent p c) (omega arith)
+      let e : parentOf plan c % 256 ≡ parent p c = omega (arith, g .spawned .parents c o h, jobs-range p (g .rules)) in
+      ap (firstOf plan) e ∙ g .laid .firsts (parent p c) (omega arith)
 
   module _ (x : ℕ) (h : x < total p) where
     abbrev a : Placed

@@ -3,7 +3,7 @@ use native.Mathlib.Omega.{arith}
 use borrow.Author.Needs.{needs}
 use denote.Ref.{now}
 use Rattle.plan.specs.Found.{ReadPlan}
-use Rattle.plan.proofs.Laws.Found.{found-plan, found-none, few-read}
+use Rattle.plan.proofs.Laws.Found.{found-plan, found-none, counts-few}
 use Rattle.checker.specs.Formed.{WellFormed}
 use Rattle.checker.proofs.Laws.Judging.{judges-plan, judges-form, rules-given, judges-broken, judges-kept}
 use Rattle.checker.proofs.check.Statement.{statement}
@@ -27,7 +27,7 @@ plan-read c = found-plan _ _ _ _ (c .before .before .read-into .ensures) _ _ (c 
 form-requires : tie.Need-form-requires
 form-requires c κs =
     let g = plan-read (c .before) in
-    few-read _ _ _ (g .is) (g .held)
+    counts-few _ _ _ (g .is) (g .held) .1
 
 returns : tie.Need-returns
 returns c =

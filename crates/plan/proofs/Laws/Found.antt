@@ -10,7 +10,7 @@ use Rattle.plan.specs.Plan.{Plan}
 use Rattle.plan.specs.Reader.{readPlan}
 use Rattle.plan.specs.Sheet.{PlanIn}
 use Rattle.plan.specs.Found.{ReadPlan, ReadInto}
-use Rattle.plan.proofs.Laws.Valid.{total-range}
+use Rattle.plan.proofs.Laws.Valid.{jobs-range, total-range}
 
 module _ (s : List ℕ) (r : Found) (plan entering : List ℕ) (h : ReadInto s r plan entering) where
   pub found-plan : (jobs actions : ℕ) → r ≡ Found.Plan jobs actions → ReadPlan s jobs actions plan entering
@@ -19,6 +19,7 @@ module _ (s : List ℕ) (r : Found) (plan entering : List ℕ) (h : ReadInto s r
   pub found-none : (cause : Refusal) → r ≡ Found.Refused cause → readPlan s ≡ refused (numberOf cause)
   found-none cause e = rw e at h
 
--- a plan that was read has at most 2,048 actions
-pub few-read : (jobs actions : ℕ) (plan : List ℕ) (p : Plan) → PlanIn jobs actions plan p → actions ≤ 2048
-few-read jobs actions plan p h = omega (arith, h .all, total-range p (h .planned .rules))
+-- a plan that was read has at most 256 jobs and 2,048 actions
+pub counts-few : (jobs actions : ℕ) (plan : List ℕ) (p : Plan) → PlanIn jobs actions plan p → (jobs ≤ 256) × (actions ≤ 2048)
+counts-few jobs actions plan p h =
+    omega (arith, h .count, h .all, jobs-range p (h .planned .rules), total-range p (h .planned .rules))

@@ -14,39 +14,19 @@ use lib.Seq.{getD-set-same, getD-set-other, take-all}
 use Rattle.plan.specs.Test.{both, either, all, count}
 use Rattle.plan.specs.Plan.{Plan, Placed, size, action, total, placed, noPlaced, parent, spawnAt, enters, entering}
 use Rattle.plan.specs.Rules.{inRange, joinFits, fewEnter, lastSends, joinRules, Accepted}
-use Rattle.plan.specs.Sheet.{childAt, targetAt, firstAt, jobAt, parentAt, spawnedAt, Laid, SpawnedIn}
+use Rattle.plan.specs.Sheet.{childAt, targetAt, firstOf, jobAt, parentOf, spawnOf, Laid, Parented, SpawnedIn}
 use Rattle.plan.specs.Entering.{Unentered, Entered}
 use Rattle.plan.specs.Listed.{upto, Listed}
-use Rattle.plan.specs.Kept.{Counted, Ready, JoinAt, JoinsFrom, JoinTold, LastsTold}
-use Rattle.plan.proofs.Laws.Lists.{both-intro, both-left, both-right, all-by}
+use Rattle.plan.specs.Kept.{Counted, JoinAt, JoinsFrom, JoinTold, LastsTold}
+use Rattle.plan.proofs.Laws.Lists.{both-intro, both-left, both-right, all-by, told-yes, told-no}
 use Rattle.plan.proofs.Laws.Counts.{decT, either-left, either-right, equal-tests, count-take, count-one-more, count-no-more, array-by}
 use Rattle.plan.proofs.Laws.Listing.{to-next, to-end}
-use Rattle.plan.proofs.Laws.Placed.{start, placed-length, placed-at, place-below, start-suc, placed-of}
+use Rattle.plan.proofs.Laws.Enters.{enters-by, enters-is}
+use Rattle.plan.proofs.Laws.Laid.{laid-end, laid-child, laid-target}
+use Rattle.plan.proofs.Laws.Placed.{place-once, start, placed-length, placed-at, place-below, start-suc, placed-of}
 use Rattle.plan.proofs.Laws.Spawning.{jobs-in-range, size-in-range, total-in-range, spawner-of}
 use Rattle.plan.proofs.Laws.Valid.{join-target, few-enter, last-sends}
 use Rattle.plan.proofs.Laws.Recording.{here}
-
--- no two actions stand at one place
-place-once : (p : Plan) (q t r u : ℕ) → q < length p → t < size p q → r < length p → u < size p r → start p q + t ≡ start p r + u
-    → (q ≡ r) × (t ≡ u)
-place-once p q t r u a b c d e =
-    let s = sym (placed-at p q t a b) ∙ ap (λ n. getD (placed p) n noPlaced) e ∙ placed-at p r u c d in
-    (ap (λ x. x .job) s, ap (λ x. x .position) s)
-
-module _ (p : Plan) (q t : ℕ) (a : Placed) where
-  enters-by : 1 ≤ a .job → parent p (a .job) ≡ q → a .join ≡ suc t → T (enters p q t a)
-  unfolding enters
-  enters-by h e f =
-      both-intro (leb 1 (a .job)) (both (eqb (parent p (a .job)) q) (eqb (a .join) (suc t))) (le→leb 1 (a .job) h)
-      (both-intro (eqb (parent p (a .job)) q) (eqb (a .join) (suc t)) (rw e (eqb-refl q)) (rw f (eqb-refl (suc t))))
-
-  enters-of : T (enters p q t a) → (parent p (a .job) ≡ q) × (a .join ≡ suc t)
-  unfolding enters
-  enters-of x =
-      let y : T (both (eqb (parent p (a .job)) q) (eqb (a .join) (suc t))) = both-right (leb 1 (a .job)) _ x in (
-        eqb→eq (parent p (a .job)) q (both-left (eqb (parent p (a .job)) q) (eqb (a .join) (suc t)) y),
-        eqb→eq (a .join) (suc t) (both-right (eqb (parent p (a .job)) q) (eqb (a .join) (suc t)) y),
-      )
 
 -- a join that is allowed passes the test
 fits-by : (p : Plan) (a : Placed) (t : ℕ) → a .join ≡ suc t → 1 ≤ a .job → t < size p (parent p (a .job)) → spawnAt p (a .job) < t
@@ -65,22 +45,13 @@ fits-none p a e = rw e tt
 -- at the places from w to z, and d is the position of j's spawn there, plus 1
 pub record Target (plan : List ℕ) (j s d q w z : ℕ) : Type 0 where
   pub child : j ≢ 0
-  pub spawned : d ≡ spawnedAt plan j
+  pub spawned : d ≡ spawnOf plan j
   pub late : d < s
-  pub owner : q ≡ parentAt plan j
-  pub begins : w ≡ firstAt plan q
-  pub ends : z ≡ firstAt plan (q + 1)
+  pub owner : q ≡ parentOf plan j
+  pub begins : w ≡ firstOf plan q
+  pub ends : z ≡ firstOf plan (q + 1)
 
-pub told-kept : (k : ℕ) (l : List ℕ) (p : Plan) → Counted k l p → JoinTold k true l p
-told-kept k l p r = record { kept = λ _. r; broken = λ f. absurd (f tt) }
-
-pub told-broken : (k : ℕ) (l : List ℕ) (p : Plan) → (T (joinRules p) → ⊥) → JoinTold k false l p
-told-broken k l p f = record { kept = λ x. absurd x; broken = λ _. f }
-
-pub ready : (jobs actions : ℕ) (plan : List ℕ) (p : Plan) → SpawnedIn jobs actions plan p → Ready plan p
-ready jobs actions plan p g = record { laid = g .laid; rules = g .rules; spawned = g .spawned }
-
-module _ (p : Plan) (plan : List ℕ) (g : Ready plan p) where
+module _ (p : Plan) (plan : List ℕ) (g : Parented plan p) where
   accepted : T (joinRules p) → Accepted p
   accepted t = record { range = g .laid .range; spawns = g .rules; joins = t }
 
@@ -105,7 +76,7 @@ module _ (k : ℕ) (l : List ℕ) (p : Plan) (r : Counted k l p) (h : k < total 
       record {
         long = r .long;
         fits = fits-more (fits-none p (here p k) z);
-        counts = λ q t a b. r .counts q t a b ∙ sym (same-count q t (λ y. omega (arith, enters-of p q t (here p k) y .1)));
+        counts = λ q t a b. r .counts q t a b ∙ sym (same-count q t (λ y. omega (arith, enters-is p q t (here p k) y .2)));
         few = r .few;
       }
 
@@ -136,14 +107,14 @@ module _ (p : Plan) (k : ℕ) (plan l : List ℕ) (g : JoinAt k plan l p) where
           rw own at (join-target p (accepted p plan (g .given) t) (here p k .job) (here p k .position) (s - 1) (st .known) (st .within) (sym (st .join) ∙ sent))
 
       pub refused-root : j ≡ 0 → JoinTold (suc k) false l p
-      refused-root z = told-broken (suc k) l p (λ t. omega (arith, allowed t .0))
+      refused-root z = told-no (λ t. omega (arith, allowed t .0))
 
       -- the target is not after the spawn
-      pub refused-early : j ≢ 0 → (d : ℕ) → d ≡ spawnedAt plan j → s ≤ d → JoinTold (suc k) false l p
+      pub refused-early : j ≢ 0 → (d : ℕ) → d ≡ spawnOf plan j → s ≤ d → JoinTold (suc k) false l p
       refused-early m d f b =
-          told-broken (suc k) l p (λ t. omega (arith, allowed t .2, g .given .spawned .spawns j (omega arith) known))
+          told-no (λ t. omega (arith, allowed t .2, g .given .spawned .spawns j (omega arith) known))
 
-      module _ (m : j ≢ 0) (q : ℕ) (f : q ≡ parentAt plan j) where
+      module _ (m : j ≢ 0) (q : ℕ) (f : q ≡ parentOf plan j) where
         from : q ≡ parent p j
         from = f ∙ g .given .spawned .parents j (omega arith) known
 
@@ -164,7 +135,7 @@ module _ (p : Plan) (k : ℕ) (plan l : List ℕ) (g : JoinAt k plan l p) where
         begins = x .begins ∙ lies .firsts q (omega (arith, in-plan))
 
         ends : z ≡ start p q + size p q
-        ends = x .ends ∙ ap (firstAt plan) (add-one q) ∙ lies .firsts (suc q) in-plan ∙ start-suc p q in-plan
+        ends = x .ends ∙ laid-end plan p lies q in-plan
 
         -- the target is neither the spawn nor before it
         later : spawnAt p j < s - 1
@@ -175,7 +146,7 @@ module _ (p : Plan) (k : ℕ) (plan l : List ℕ) (g : JoinAt k plan l p) where
 
         -- the parent has no such action
         pub refused-outside : z ≤ w + (s - 1) → JoinTold (suc k) false l p
-        refused-outside b = told-broken (suc k) l p (λ t. omega (arith, allowed-there t .0, begins, ends))
+        refused-outside b = told-no (λ t. omega (arith, allowed-there t .0, begins, ends))
 
         module _ (inside : w + (s - 1) < z) where
           within : s - 1 < size p q
@@ -191,12 +162,11 @@ module _ (p : Plan) (k : ℕ) (plan l : List ℕ) (g : JoinAt k plan l p) where
           spawn-before =
               let b : s - 1 - 1 < size p q = omega (arith, within) in
               let f : w + (s - 1) - 1 ≡ start p q + (s - 1 - 1) = omega (arith, begins, later) in
-              rw f (lies .children (start p q + (s - 1 - 1)) (place-below p q (s - 1 - 1) in-plan b)
-              ∙ ap (λ a. a .spawn) (placed-at p q (s - 1 - 1) in-plan b))
+              rw f (laid-child plan p lies q in-plan (s - 1 - 1) b)
 
           -- the target is right after a spawn
           pub refused-after-spawn : (c : ℕ) → c ≡ childAt plan (w + (s - 1) - 1) → c ≢ 0 → JoinTold (suc k) false l p
-          refused-after-spawn c i f = told-broken (suc k) l p (λ t. f (i ∙ spawn-before ∙ allowed-there t .1))
+          refused-after-spawn c i f = told-no (λ t. f (i ∙ spawn-before ∙ allowed-there t .1))
 
           enters-here : T (enters p q (s - 1) (here p k))
           enters-here =
@@ -209,7 +179,7 @@ module _ (p : Plan) (k : ℕ) (plan l : List ℕ) (g : JoinAt k plan l p) where
           pub refused-ninth : 8 ≤ getD l (w + (s - 1)) 0 → JoinTold (suc k) false l p
           unfolding entering
           refused-ninth b =
-              told-broken (suc k) l p
+              told-no
               (λ t. omega (
                 arith,
                 few-enter p (accepted p plan (g .given) t) q (s - 1) in-plan within,
@@ -221,7 +191,7 @@ module _ (p : Plan) (k : ℕ) (plan l : List ℕ) (g : JoinAt k plan l p) where
           pub counted-more : (c : ℕ) → c ≡ childAt plan (w + (s - 1) - 1) → c ≡ 0 → getD l (w + (s - 1)) 0 < 8
               → JoinTold (suc k) true (set l (w + (s - 1)) (getD l (w + (s - 1)) 0 + 1)) p
           counted-more c i f b =
-              told-kept (suc k) _ p
+              told-yes
               (record {
                 long = rw length-set (g .counted .long);
                 fits = fits-more k l p (g .counted) (g .here) fits;
@@ -241,9 +211,9 @@ module _ (p : Plan) (k : ℕ) (plan l : List ℕ) (g : JoinAt k plan l p) where
                   → (getD (set l target (getD l target 0 + 1)) (start p a + t) 0 ≡ count (enters p a t) (take (suc k) (placed p)))
                   × (getD (set l target (getD l target 0 + 1)) (start p a + t) 0 ≤ 8)
               after a t v u (yes y) =
-                  let i = enters-of p a t (here p k) y in
-                  let ea : a ≡ q = sym (i .0) ∙ ap (parent p) own ∙ sym parents in
-                  let et : t ≡ s - 1 = omega (arith, i .1, sent) in
+                  let i = enters-is p a t (here p k) y in
+                  let ea : a ≡ q = sym (i .1) ∙ ap (parent p) own ∙ sym parents in
+                  let et : t ≡ s - 1 = omega (arith, i .2, sent) in
                   let at : start p a + t ≡ target = rw (ea, et) (omega (arith, begins)) in
                   let now : getD (set l target (getD l target 0 + 1)) (start p a + t) 0 ≡ getD l target 0 + 1 =
                   rw at (getD-set-same l target (getD l target 0 + 1) 0 (omega (arith, target-small, g .counted .long))) in
@@ -272,7 +242,7 @@ counted-start p g l u =
 
 pub joins-from : (jobs actions : ℕ) (plan l : List ℕ) (p : Plan) → SpawnedIn jobs actions plan p → Unentered l → JoinsFrom actions plan l p
 joins-from jobs actions plan l p g u =
-    record { given = ready jobs actions plan p g; all = g .all; counted = counted-start p (g .laid .range) l u }
+    record { given = g .parented; all = g .all; counted = counted-start p (g .parented .laid .range) l u }
 
 -- the actions that send a join are listed: the next of them, and past the last one the end
 module _ (actions many : ℕ) (plan first list : List ℕ) (p : Plan) (g : JoinsFrom actions plan first p) (f : Listed (targetAt plan) actions many list) (l : List ℕ) where
@@ -296,23 +266,19 @@ module _ (actions many : ℕ) (plan first list : List ℕ) (p : Plan) (g : Joins
 
 -- the last actions
 module _ (p : Plan) (plan : List ℕ) (g : Laid plan p) (j : ℕ) (h : j < length p) where
-  end-at : firstAt plan (j + 1) ≡ start p j + size p j
-  end-at = ap (firstAt plan) (add-one j) ∙ g .firsts (suc j) h ∙ start-suc p j h
-
-  pub last-small : (1 ≤ firstAt plan (j + 1)) × (firstAt plan (j + 1) - 1 < 2048)
+  pub last-small : (1 ≤ firstOf plan (j + 1)) × (firstOf plan (j + 1) - 1 < 2048)
   last-small =
       let z = size-in-range p (g .range) j h in
-      omega (arith, end-at, z, place-below p j (size p j - 1) h (omega (arith, z)), total-in-range p (g .range))
+      omega (arith, laid-end plan p g j h, z, place-below p j (size p j - 1) h (omega (arith, z)), total-in-range p (g .range))
 
-  last-at : targetAt plan (firstAt plan (j + 1) - 1) ≡ action p j (size p j - 1) .join
+  last-at : targetAt plan (firstOf plan (j + 1) - 1) ≡ action p j (size p j - 1) .join
   last-at =
       let z = size-in-range p (g .range) j h in
       let b : size p j - 1 < size p j = omega (arith, z) in
-      let e : firstAt plan (j + 1) - 1 ≡ start p j + (size p j - 1) = omega (arith, end-at, z) in
-      ap (targetAt plan) e ∙ g .targets (start p j + (size p j - 1)) (place-below p j (size p j - 1) h b)
-      ∙ ap (λ a. a .join) (placed-at p j (size p j - 1) h b)
+      let e : firstOf plan (j + 1) - 1 ≡ start p j + (size p j - 1) = omega (arith, laid-end plan p g j h, z) in
+      ap (targetAt plan) e ∙ laid-target plan p g j h (size p j - 1) b
 
-module _ (p : Plan) (plan : List ℕ) (jobs : ℕ) (g : jobs ≡ length p) (r : Ready plan p) (told : Bool) (t : LastsTold jobs plan told) where
+module _ (p : Plan) (plan : List ℕ) (jobs : ℕ) (g : jobs ≡ length p) (r : Parented plan p) (told : Bool) (t : LastsTold jobs plan told) where
   pub lasts-broken : (T told → ⊥) → T (joinRules p) → ⊥
   lasts-broken f y =
       let u = t .broken f in

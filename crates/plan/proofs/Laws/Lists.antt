@@ -6,9 +6,10 @@ use mathlib.Core.List.{List, [], _∷_, map}
 use native.Mathlib.Omega.{arith}
 use native.Mathlib.Nat.{le-of-suc-le-suc, not-suc-le-zero}
 use lib.Dec.{T}
-use lib.ListN.{length, getD, take}
+use lib.ListN.{length, getD, take, replicate}
 use lib.Seq.{getD-take}
 use Rattle.plan.specs.Test.{both, all}
+use Rattle.plan.specs.Told.{Told}
 
 pub both-intro : (a b : Bool) → T a → T b → T (both a b)
 both-intro true b s t = t
@@ -56,3 +57,16 @@ module _ {A : Type 0} where
       map-at [] k b = absurd (not-suc-le-zero b)
       map-at (x ∷ m) zero b = refl
       map-at (x ∷ m) (suc k) b = map-at m k (le-of-suc-le-suc b)
+
+-- an array that is all zeros
+pub zeros-at : (n k : ℕ) → _≡_ {A = ℕ} (getD (replicate n 0) k 0) 0
+zeros-at zero k = refl
+zeros-at (suc n) zero = refl
+zeros-at (suc n) (suc k) = zeros-at n k
+
+-- an answer that is known
+pub told-yes : {A B : Type 0} → A → Told true A B
+told-yes a = record { kept = λ _. a; broken = λ f. absurd (f tt) }
+
+pub told-no : {A B : Type 0} → B → Told false A B
+told-no b = record { kept = λ x. absurd x; broken = λ _. b }

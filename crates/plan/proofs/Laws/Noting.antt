@@ -7,39 +7,35 @@ use native.Mathlib.Omega.{arith}
 use lib.ListN.{length, getD, set, length-set}
 use lib.Seq.{getD-set-same, getD-set-other}
 use Rattle.plan.specs.Plan.{Plan}
-use Rattle.plan.specs.Sheet.{parentAt, spawnedAt, Laid}
+use Rattle.plan.specs.Sheet.{parentOf, spawnOf, withSpawner, Laid}
 use Rattle.plan.proofs.Laws.Spawning.{jobs-in-range, total-in-range}
-
--- job c's parent q, and the position x
-abbrev pub noted : List ℕ → (c q x : ℕ) → List ℕ
-noted plan c q x = set (set plan (4609 + c) q) (4865 + c) x
 
 module _ (plan : List ℕ) (p : Plan) (g : Laid plan p) (c q x : ℕ) (h : c < length p) where
   few : length p ≤ 256
   few = jobs-in-range p (g .range) .1
 
-  elsewhere : (i : ℕ) → i ≢ 4609 + c → i ≢ 4865 + c → getD (noted plan c q x) i 0 ≡ getD plan i 0
+  elsewhere : (i : ℕ) → i ≢ 4609 + c → i ≢ 4865 + c → getD (withSpawner plan c q x) i 0 ≡ getD plan i 0
   elsewhere i a b =
       getD-set-other (set plan (4609 + c) q) (4865 + c) i x 0 b ∙ getD-set-other plan (4609 + c) i q 0 a
 
-  pub noted-parent : parentAt (noted plan c q x) c ≡ q
+  pub noted-parent : parentOf (withSpawner plan c q x) c ≡ q
   noted-parent =
       getD-set-other (set plan (4609 + c) q) (4865 + c) (4609 + c) x 0 (λ e. omega arith)
       ∙ getD-set-same plan (4609 + c) q 0 (omega (arith, g .long, few))
 
-  pub noted-spawn : spawnedAt (noted plan c q x) c ≡ x
+  pub noted-spawn : spawnOf (withSpawner plan c q x) c ≡ x
   noted-spawn =
       getD-set-same (set plan (4609 + c) q) (4865 + c) x 0 (omega (arith, length-set plan (4609 + c) q, g .long, few))
 
   -- the parents and spawns of other jobs
-  pub noted-other : (d : ℕ) → d < length p → d ≢ c → (parentAt (noted plan c q x) d ≡ parentAt plan d) × (spawnedAt (noted plan c q x) d ≡ spawnedAt plan d)
+  pub noted-other : (d : ℕ) → d < length p → d ≢ c → (parentOf (withSpawner plan c q x) d ≡ parentOf plan d) × (spawnOf (withSpawner plan c q x) d ≡ spawnOf plan d)
   noted-other d b n = (
     elsewhere (4609 + d) (λ e. n (omega arith)) (λ e. omega (arith, few)),
     elsewhere (4865 + d) (λ e. omega (arith, few)) (λ e. n (omega arith)),
   )
 
   -- it has the same jobs and actions
-  pub noted-laid : Laid (noted plan c q x) p
+  pub noted-laid : Laid (withSpawner plan c q x) p
   noted-laid =
       record {
         long = length-set (set plan (4609 + c) q) (4865 + c) x ∙ length-set plan (4609 + c) q ∙ g .long;

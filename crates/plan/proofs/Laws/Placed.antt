@@ -13,7 +13,7 @@ use Rattle.plan.specs.Plan.{Action, Job, Plan, Placed, job, size, action
 abbrev pub start : Plan → ℕ → ℕ
 start p j = total (take j p)
 
-pub placedIn-length : (j i : ℕ) (l : List Action) → length (placedIn j i l) ≡ length l
+placedIn-length : (j i : ℕ) (l : List Action) → length (placedIn j i l) ≡ length l
 placedIn-length j i [] = refl
 placedIn-length j i (a ∷ l) = ap suc (placedIn-length j (suc i) l)
 
@@ -125,3 +125,10 @@ placed-of p k h = found (locate p k h)
         let e : getD (placed p) k noPlaced ≡ record { job = r .job; position = r .position; spawn = action p (r .job) (r .position) .spawn; join = action p (r .job) (r .position) .join }
         = ap (λ n. getD (placed p) n noPlaced) (r .place) ∙ placed-at p (r .job) (r .position) (r .known) (r .within) in
         rw e (record { known = r .known; within = r .within; place = r .place; spawn = refl; join = refl })
+
+-- no two actions stand at one place
+pub place-once : (p : Plan) (q t r u : ℕ) → q < length p → t < size p q → r < length p → u < size p r → start p q + t ≡ start p r + u
+    → (q ≡ r) × (t ≡ u)
+place-once p q t r u a b c d e =
+    let s = sym (placed-at p q t a b) ∙ ap (λ n. getD (placed p) n noPlaced) e ∙ placed-at p r u c d in
+    (ap (λ x. x .job) s, ap (λ x. x .position) s)

@@ -13,13 +13,13 @@ use lib.Seq.{take-all}
 use Rattle.plan.specs.Test.{both, all, count, below}
 use Rattle.plan.specs.Plan.{Plan, Placed, total, placed, noPlaced, spawnerIn, parent, spawnAt}
 use Rattle.plan.specs.Rules.{spawnFits, spawnedOnce, spawnRules}
-use Rattle.plan.specs.Sheet.{childAt, firstAt, jobAt, parentAt, spawnedAt, Laid, LaidIn, SpawnedIn}
+use Rattle.plan.specs.Sheet.{childAt, firstOf, jobAt, parentOf, spawnOf, withSpawner, Laid, LaidIn, SpawnedIn}
 use Rattle.plan.specs.Listed.{upto, Listed}
 use Rattle.plan.specs.Kept.{spawning, Recorded, SpawnAt, SpawnTold, AllTold}
-use Rattle.plan.proofs.Laws.Lists.{both-intro, all-by}
+use Rattle.plan.proofs.Laws.Lists.{both-intro, all-by, told-yes, told-no}
 use Rattle.plan.proofs.Laws.Counts.{either-right, equal-tests, count-none, count-miss, count-take, count-one-more, count-no-more, below-by}
 use Rattle.plan.proofs.Laws.Listing.{to-next, to-end}
-use Rattle.plan.proofs.Laws.Noting.{noted, noted-parent, noted-spawn, noted-other, noted-laid}
+use Rattle.plan.proofs.Laws.Noting.{noted-parent, noted-spawn, noted-other, noted-laid}
 use Rattle.plan.proofs.Laws.Placed.{start, placed-length, placed-of}
 use Rattle.plan.proofs.Laws.Spawning.{jobs-in-range, size-in-range, spawner-hit, spawner-miss, spawn-fits, spawn-allowed, spawn-count}
 
@@ -31,12 +31,6 @@ spawner-at c (a ∷ l) zero h e t = spawner-hit c a l t
 spawner-at c (a ∷ l) (suc k) h e t =
     let n : T (spawning c a) → ⊥ = count-none (spawning c) (a ∷ take k l) e noPlaced 0 (omega arith) in
     spawner-miss c a l n ∙ spawner-at c l k (le-of-suc-le-suc h) (sym (count-miss (spawning c) a (take k l) n) ∙ e) t
-
-pub told-kept : (k : ℕ) (plan : List ℕ) (p : Plan) → Recorded k plan p → SpawnTold k true plan p
-told-kept k plan p r = record { kept = λ _. r; broken = λ f. absurd (f tt) }
-
-pub told-broken : (k : ℕ) (plan : List ℕ) (p : Plan) → (T (spawnRules p) → ⊥) → SpawnTold k false plan p
-told-broken k plan p f = record { kept = λ x. absurd x; broken = λ _. f }
 
 -- the action at place k
 abbrev pub here : Plan → ℕ → Placed
@@ -83,11 +77,11 @@ module _ (p : Plan) (jobs k : ℕ) (plan : List ℕ) (g : SpawnAt jobs k plan p)
   lies = g .recorded .laid
 
   -- the action's job is one, and its position is its place less its job's first
-  pub position-here : (q w : ℕ) → q ≡ jobAt plan k → w ≡ firstAt plan q → (q < 256) × (w ≤ k) × (k - w ≡ here p k .position) × (k - w < 255)
+  pub position-here : (q w : ℕ) → q ≡ jobAt plan k → w ≡ firstOf plan q → (q < 256) × (w ≤ k) × (k - w ≡ here p k .position) × (k - w < 255)
   position-here q w e f =
       let s = placed-of p k (g .here) in
       let own : q ≡ here p k .job = e ∙ lies .owners k (g .here) in
-      let at : w ≡ start p (here p k .job) = f ∙ ap (firstAt plan) own ∙ lies .firsts (here p k .job) (omega (arith, s .known)) in
+      let at : w ≡ start p (here p k .job) = f ∙ ap (firstOf plan) own ∙ lies .firsts (here p k .job) (omega (arith, s .known)) in
       omega (arith, s .place, s .known, s .within, size-in-range p (lies .range) (here p k .job) (s .known), jobs-in-range p (lies .range))
 
   module _ (s : ℕ) (e : s ≡ childAt plan k) where
@@ -102,20 +96,20 @@ module _ (p : Plan) (jobs k : ℕ) (plan : List ℕ) (g : SpawnAt jobs k plan p)
 
     -- the child is no job
     pub refused-many : jobs ≤ s - 1 → SpawnTold (suc k) false plan p
-    refused-many m = told-broken (suc k) plan p (λ t. omega (arith, allowed t, g .count))
+    refused-many m = told-no (λ t. omega (arith, allowed t, g .count))
 
     -- the child is not above its parent
     pub refused-older : (q : ℕ) → q ≡ jobAt plan k → s - 1 ≤ q → SpawnTold (suc k) false plan p
-    refused-older q o m = told-broken (suc k) plan p (λ t. omega (arith, allowed t, lies .owners k (g .here)))
+    refused-older q o m = told-no (λ t. omega (arith, allowed t, lies .owners k (g .here)))
 
     module _ (b : s - 1 < jobs) where
       known : s - 1 < length p
       known = omega (arith, g .count)
 
       -- the child was spawned before
-      pub refused-twice : (d : ℕ) → d ≡ spawnedAt plan (s - 1) → d ≢ 0 → SpawnTold (suc k) false plan p
+      pub refused-twice : (d : ℕ) → d ≡ spawnOf plan (s - 1) → d ≢ 0 → SpawnTold (suc k) false plan p
       refused-twice d i m =
-          told-broken (suc k) plan p
+          told-no
           (λ t. omega (
             arith,
             g .recorded .once (s - 1) known (λ z. m (i ∙ z)) .0,
@@ -125,12 +119,12 @@ module _ (p : Plan) (jobs k : ℕ) (plan : List ℕ) (g : SpawnAt jobs k plan p)
           ))
 
       -- the child is recorded
-      pub recorded-new : (q w d : ℕ) → q ≡ jobAt plan k → w ≡ firstAt plan q → q < s - 1 → d ≡ spawnedAt plan (s - 1) → d ≡ 0
-          → (after : List ℕ) → after ≡ noted plan (s - 1) q (k - w + 1) → SpawnTold (suc k) true after p
+      pub recorded-new : (q w d : ℕ) → q ≡ jobAt plan k → w ≡ firstOf plan q → q < s - 1 → d ≡ spawnOf plan (s - 1) → d ≡ 0
+          → (after : List ℕ) → after ≡ withSpawner plan (s - 1) q (k - w + 1) → SpawnTold (suc k) true after p
       unfolding parent spawnAt
       recorded-new q w d o f l i m after is =
           rw is
-          (told-kept (suc k) (noted plan (s - 1) q (k - w + 1)) p
+          (told-yes
           (record {
             laid = noted-laid plan p lies (s - 1) q (k - w + 1) known;
             fits = fits-more k plan p (g .recorded) (g .here) (fits-by (length p) (here p k) (s - 1) spawn-here known (omega (arith, lies .owners k (g .here))));
@@ -139,7 +133,7 @@ module _ (p : Plan) (jobs k : ℕ) (plan : List ℕ) (g : SpawnAt jobs k plan p)
           }))
         where
           new : List ℕ
-          new = noted plan (s - 1) q (k - w + 1)
+          new = withSpawner plan (s - 1) q (k - w + 1)
 
           before : count (spawning (s - 1)) (take k (placed p)) ≡ 0
           before = g .recorded .none (s - 1) known (sym i ∙ m)
@@ -148,15 +142,15 @@ module _ (p : Plan) (jobs k : ℕ) (plan : List ℕ) (g : SpawnAt jobs k plan p)
           spawner-here =
               spawner-at (s - 1) (placed p) k (omega (arith, placed-length p, g .here)) before (rw spawn-here (eqb-refl (suc (s - 1))))
 
-          none-of : (c : ℕ) → c < length p → spawnedAt new c ≡ 0 → Dec (c ≡ s - 1) → count (spawning c) (take (suc k) (placed p)) ≡ 0
+          none-of : (c : ℕ) → c < length p → spawnOf new c ≡ 0 → Dec (c ≡ s - 1) → count (spawning c) (take (suc k) (placed p)) ≡ 0
           none-of c v z (yes y) =
-              let x : spawnedAt new c ≡ k - w + 1 = rw y (noted-spawn plan p lies (s - 1) q (k - w + 1) known) in
+              let x : spawnOf new c ≡ k - w + 1 = rw y (noted-spawn plan p lies (s - 1) q (k - w + 1) known) in
               absurd (omega arith)
           none-of c v z (no y) =
               same-count k plan p (g .recorded) (g .here) c (omega (arith, spawn-here)) ∙ g .recorded .none c v (sym (noted-other plan p lies (s - 1) q (k - w + 1) known c v y .1) ∙ z)
 
-          once-of : (c : ℕ) → c < length p → (spawnedAt new c ≡ 0 → ⊥) → Dec (c ≡ s - 1)
-              → (count (spawning c) (take (suc k) (placed p)) ≡ 1) × (parentAt new c ≡ parent p c) × (spawnedAt new c ≡ suc (spawnAt p c))
+          once-of : (c : ℕ) → c < length p → (spawnOf new c ≡ 0 → ⊥) → Dec (c ≡ s - 1)
+              → (count (spawning c) (take (suc k) (placed p)) ≡ 1) × (parentOf new c ≡ parent p c) × (spawnOf new c ≡ suc (spawnAt p c))
           once-of c v z (yes y) =
               rw y (
                 omega (arith, more-count k plan p (g .recorded) (g .here) (s - 1) spawn-here, before),
@@ -232,10 +226,12 @@ module _ (p : Plan) (plan : List ℕ) (jobs actions : ℕ) (g : jobs ≡ length 
           record {
             count = g;
             all = n;
-            laid = r .laid;
-            rules = kept-here y;
-            spawned = record {
-              parents = λ c h b. r .once c b (t .kept y c h (omega arith)) .1;
-              spawns = λ c h b. r .once c b (t .kept y c h (omega arith)) .2;
+            parented = record {
+              laid = r .laid;
+              rules = kept-here y;
+              spawned = record {
+                parents = λ c h b. r .once c b (t .kept y c h (omega arith)) .1;
+                spawns = λ c h b. r .once c b (t .kept y c h (omega arith)) .2;
+              };
             };
           }

@@ -11,7 +11,7 @@ use lib.ListN.{length, getD, take, set, length-append, length-set, length-replic
 use lib.Seq.{getD-append-add, getD-set-same, getD-set-other, take-append-le, take-all}
 use Rattle.plan.specs.Plan.{Action, Job, Plan, Placed, job, total, placed, placedIn, noAction, noJob, noPlaced}
 use Rattle.plan.specs.Rules.{inRange, joinRules}
-use Rattle.plan.specs.Sheet.{childAt, targetAt, frameAt, firstAt, spawnedAt, jobAt, withAction, Blank, LaidIn, SpawnedIn, PlanIn}
+use Rattle.plan.specs.Sheet.{childAt, targetAt, frameOf, firstOf, spawnOf, jobAt, withAction, Blank, LaidIn, SpawnedIn, PlanIn}
 use Rattle.plan.specs.Progress.{withActions, withJob, withJobs}
 use Rattle.plan.proofs.Laws.Spawning.{jobs-in-range, total-in-range}
 use Rattle.plan.proofs.Laws.Placed.{placed-length, placedIn-at, placedFrom-append, total-append}
@@ -41,7 +41,7 @@ actions-long plan k j [] = refl
 actions-long plan k j (x ∷ l) = actions-long (withAction plan k j (x .spawn) (x .join)) (suc k) j l ∙ rw (length-set, length-set, length-set)
 
 -- what one action leaves as it was
-action-kept : (plan : List ℕ) (k j child target m : ℕ) → m ≢ k → m ≢ 2048 + k → m ≢ 5121 + k
+pub action-kept : (plan : List ℕ) (k j child target m : ℕ) → m ≢ k → m ≢ 2048 + k → m ≢ 5121 + k
     → getD (withAction plan k j child target) m 0 ≡ getD plan m 0
 action-kept plan k j child target m f g h =
     getD-set-other (set (set plan k child) (2048 + k) target) (5121 + k) m j 0 h
@@ -59,8 +59,8 @@ actions-kept plan k j (x ∷ l) m h =
     (λ i b. (λ e. h (suc i) (omega arith) .0 (omega arith), λ e. h (suc i) (omega arith) .1 (omega arith), λ e. h (suc i) (omega arith) .2 (omega arith)))
     ∙ action-kept plan k j (x .spawn) (x .join) m (λ e. z .0 (omega arith)) (λ e. z .1 (omega arith)) (λ e. z .2 (omega arith))
 
--- what was written at place k + i
-action-there : (plan : List ℕ) (k j child target : ℕ) → length plan ≡ 9217 → k < 2048
+-- what was written at place k
+pub action-there : (plan : List ℕ) (k j child target : ℕ) → length plan ≡ 9217 → k < 2048
     → (childAt (withAction plan k j child target) k ≡ child) × (targetAt (withAction plan k j child target) k ≡ target)
     × (jobAt (withAction plan k j child target) k ≡ j)
 action-there plan k j child target long h = (
@@ -90,12 +90,12 @@ actions-there plan k j (x ∷ l) (suc i) long h b =
 -- the array has the jobs p, and no spawn is noted
 record Begun (plan : List ℕ) (p : Plan) : Type 0 where
   long : length plan ≡ 9217
-  frames : (j : ℕ) → j < length p → frameAt plan j ≡ job p j .frame
-  firsts : (j : ℕ) → j ≤ length p → firstAt plan j ≡ total (take j p)
+  frames : (j : ℕ) → j < length p → frameOf plan j ≡ job p j .frame
+  firsts : (j : ℕ) → j ≤ length p → firstOf plan j ≡ total (take j p)
   owners : (k : ℕ) → k < total p → jobAt plan k ≡ getD (placed p) k noPlaced .job
   children : (k : ℕ) → k < total p → childAt plan k ≡ getD (placed p) k noPlaced .spawn
   targets : (k : ℕ) → k < total p → targetAt plan k ≡ getD (placed p) k noPlaced .join
-  unspawned : (c : ℕ) → c < 256 → spawnedAt plan c ≡ 0
+  unspawned : (c : ℕ) → c < 256 → spawnOf plan c ≡ 0
 
 begun-none : (plan : List ℕ) → Blank plan → Begun plan []
 begun-none plan e = rw e (record {
@@ -134,15 +134,15 @@ module _ (plan : List ℕ) (p : Plan) (x : Job) (h : Begun plan p) (few : length
       getD-set-other rows (4352 + (length p + 1)) m (total p + length (x .actions)) 0 g
       ∙ actions-kept framed (total p) (length p) (x .actions) m a ∙ getD-set-other plan (4096 + length p) m (x .frame) 0 f
 
-  -- what stands at one that is no place of a row
+  -- a place among the jobs' numbers is none that an action is written to
   high : (m : ℕ) → 4096 ≤ m → m < 5121 → Apart (total p) (length (x .actions)) m
   high m a b i d = (λ e. omega arith, λ e. omega arith, λ e. omega arith)
 
-  frames′ : (j : ℕ) → j < length (p ++ (x ∷ [])) → frameAt new j ≡ job (p ++ (x ∷ [])) j .frame
+  frames′ : (j : ℕ) → j < length (p ++ (x ∷ [])) → frameOf new j ≡ job (p ++ (x ∷ [])) j .frame
   unfolding new rows framed
   frames′ j b = go (decLt j (length p))
     where
-      go : Dec (j < length p) → frameAt new j ≡ job (p ++ (x ∷ [])) j .frame
+      go : Dec (j < length p) → frameOf new j ≡ job (p ++ (x ∷ [])) j .frame
       go (yes l) =
           kept (4096 + j) (λ e. omega arith) (λ e. omega arith) (high (4096 + j) (omega arith) (omega arith))
           ∙ h .frames j l ∙ ap (λ b. b .frame) (sym (List·getD-append p (x ∷ []) noJob j l))
@@ -155,11 +155,11 @@ module _ (plan : List ℕ) (p : Plan) (x : Job) (h : Begun plan p) (few : length
           ∙ actions-kept framed (total p) (length p) (x .actions) (4096 + length p) (high (4096 + length p) (omega arith) (omega arith))
           ∙ getD-set-same plan (4096 + length p) (x .frame) 0 (omega (arith, h .long)))
 
-  firsts′ : (j : ℕ) → j ≤ length (p ++ (x ∷ [])) → firstAt new j ≡ total (take j (p ++ (x ∷ [])))
+  firsts′ : (j : ℕ) → j ≤ length (p ++ (x ∷ [])) → firstOf new j ≡ total (take j (p ++ (x ∷ [])))
   unfolding new rows framed
   firsts′ j b = go (decLt (length p) j)
     where
-      go : Dec (length p < j) → firstAt new j ≡ total (take j (p ++ (x ∷ [])))
+      go : Dec (length p < j) → firstOf new j ≡ total (take j (p ++ (x ∷ [])))
       go (yes l) =
           let e : j ≡ length p + 1 = omega (arith, length-append p (x ∷ [])) in
           let f : take j (p ++ (x ∷ [])) ≡ p ++ (x ∷ []) = take-all j (p ++ (x ∷ [])) (omega (arith, length-append p (x ∷ []))) in
@@ -253,8 +253,8 @@ planned-by jobs actions plan p h t =
       count = h .count;
       all = h .all;
       planned = record {
-        rules = record { range = h .laid .range; spawns = h .rules; joins = t };
-        laid = h .laid;
-        spawned = h .spawned;
+        rules = record { range = h .parented .laid .range; spawns = h .parented .rules; joins = t };
+        laid = h .parented .laid;
+        spawned = h .parented .spawned;
       };
     }

@@ -13,7 +13,7 @@ use Rattle.plan.specs.Plan.{Action, Job, Plan, total}
 use Rattle.plan.specs.Rules.{jobInRange, inRange}
 use Rattle.fields.specs.Field.{Step, stop, step, then, fieldAt}
 use Rattle.plan.specs.Reader.{numberAt, actionAt, actionsAt, jobsAt, planAt}
-use Rattle.plan.specs.Progress.{Head, headerAt, jobAt}
+use Rattle.plan.specs.Progress.{Head, headerAt, oneJobAt}
 use Rattle.fields.proofs.Laws.Bits.{field-read, field-stop}
 
 module _ {A B : Type 0} where
@@ -79,7 +79,7 @@ module _ (s : List ℕ) where
           omega arith
 
   -- a number or an action that is no step is one where the bits ran out
-  pub number-stop : (at n : ℕ) → numberAt s at ≡ stop n → n ≡ 1
+  number-stop : (at n : ℕ) → numberAt s at ≡ stop n → n ≡ 1
   unfolding numberAt
   number-stop at n e =
       step-cases (fieldAt s 1 at) (λ k f. stop-again {A = ℕ} k n (rw f at e) (field-stop s 1 at k f .0)) (λ there m f. go there m (rw f at e))
@@ -132,8 +132,8 @@ module _ (s : List ℕ) where
   actions-out l n at k e = rw (e, action-stop at k e)
 
   -- the jobs are a job and then the others
-  pub jobs-step : (n k at : ℕ) → jobsAt s (suc n) k at ≡ then (jobAt s k at) (λ x at. then (jobsAt s n (k + length (x .actions)) at) (λ rest at. step (x ∷ rest) at))
-  unfolding jobsAt jobAt headerAt
+  pub jobs-step : (n k at : ℕ) → jobsAt s (suc n) k at ≡ then (oneJobAt s k at) (λ x at. then (jobsAt s n (k + length (x .actions)) at) (λ rest at. step (x ∷ rest) at))
+  unfolding jobsAt oneJobAt headerAt
   jobs-step n k at =
       step-cases (fieldAt s 16 at) (λ q e. rw e) (λ weight m e.
       rw e (bool-cases (eqb weight 0) (λ f. rw (f, then)) (λ f.
@@ -142,11 +142,11 @@ module _ (s : List ℕ) where
       rw (h, then) (step-cases (actionsAt s size q) (λ r i. rw i) (λ l r i. rw (i, actions-next size q l r i .0))))))))))
 
   -- one job more is read behind the jobs p
-  pub jobs-more : (p : Plan) (x : Job) (n k at at′ : ℕ) → jobAt s k at ≡ step x at′ → after p (jobsAt s (suc n) k at) ≡ after (p ++ (x ∷ [])) (jobsAt s n (k + length (x .actions)) at′)
+  pub jobs-more : (p : Plan) (x : Job) (n k at at′ : ℕ) → oneJobAt s k at ≡ step x at′ → after p (jobsAt s (suc n) k at) ≡ after (p ++ (x ∷ [])) (jobsAt s n (k + length (x .actions)) at′)
   jobs-more p x n k at at′ e =
       rw (jobs-step, e) (step-cases (jobsAt s n (k + length (x .actions)) at′) (λ q f. rw f) (λ rest m f. rw (f, append-assoc)))
 
-  pub jobs-stop : (p : Plan) (m n k at : ℕ) → jobAt s k at ≡ stop m → after p (jobsAt s (suc n) k at) ≡ stop m
+  pub jobs-stop : (p : Plan) (m n k at : ℕ) → oneJobAt s k at ≡ stop m → after p (jobsAt s (suc n) k at) ≡ stop m
   jobs-stop p m n k at e = rw (jobs-step, e)
 
   -- what is read is in range, and ends within the bytes
@@ -167,8 +167,8 @@ module _ (s : List ℕ) where
       let b : size ≢ 0 = eqb-false size 0 (r .0) in
       omega (arith, ltb-false 2048 (k + size) (r .1), field-read s 16 at weight m is, field-read s 8 m size q is₁)))
 
-  pub job-next : (k at : ℕ) (x : Job) (n : ℕ) → jobAt s k at ≡ step x n → T (jobInRange x) × (k + length (x .actions) ≤ 2048) × (n ≤ at + 24 + 18 * length (x .actions)) × (n ≤ 8 * length s)
-  unfolding jobAt
+  pub job-next : (k at : ℕ) (x : Job) (n : ℕ) → oneJobAt s k at ≡ step x n → T (jobInRange x) × (k + length (x .actions) ≤ 2048) × (n ≤ at + 24 + 18 * length (x .actions)) × (n ≤ 8 * length s)
+  unfolding oneJobAt
   job-next k at x n e =
       let (h, m, is, e₁) = then-step (headerAt s k at) _ x n e in
       let (l, q, is₁, e₂) = then-step (actionsAt s (h .size) m) _ x n e₁ in
@@ -192,7 +192,7 @@ module _ (s : List ℕ) where
       let j : at ≡ end = cc in
       (ap length (sym i), rw (← i) tt, rw (← i) (omega arith), omega arith, λ b. omega arith)
   jobs-next (suc n) k at p end h e =
-      let (x, m, is, e₁) = then-step (jobAt s k at) _ p end (rw jobs-step at e) in
+      let (x, m, is, e₁) = then-step (oneJobAt s k at) _ p end (rw jobs-step at e) in
       let (rest, q, is₁, e₂) = then-step (jobsAt s n (k + length (x .actions)) m) _ p end e₁ in
       let i : x ∷ rest ≡ p = cc in
       let j : q ≡ end = cc in

@@ -10,7 +10,7 @@ use lib.ListN.{length, getD, replicate}
 use Rattle.plan.specs.Plan.{Plan, Placed, noPlaced, size, action, placed, parent, spawnAt}
 use Rattle.plan_measure.specs.Measure.{longest}
 use Rattle.plan_measure.specs.Times.{at, PlanOf, ends, begins, JobOf, JobGiven, JobTimed, TimedFrom, SendGiven, Sent, PassGiven, Passed}
-use Rattle.plan.specs.Sheet.{childAt, targetAt, firstAt, Laid}
+use Rattle.plan.specs.Sheet.{childAt, targetAt, firstOf, Laid}
 use Rattle.plan.proofs.Laws.Placed.{start, start-suc, start-below, place-below, placed-at}
 use Rattle.plan.specs.Rules.{Accepted}
 use Rattle.plan.proofs.Laws.Valid.{older, spawned-there, spawned-once, join-target, size-range, jobs-range, total-range}
@@ -137,31 +137,31 @@ module _ (p : Plan) (ok : Accepted p) where
         once = spawned-once p ok j i c known within e
 
         -- an action of the child by its place
-        child-at : (k : ℕ) → firstAt plan c ≤ k → k < firstAt plan (suc c) → (k ≡ start p c + (k - start p c)) × (k - start p c < size p c)
+        child-at : (k : ℕ) → firstOf plan c ≤ k → k < firstOf plan (suc c) → (k ≡ start p c + (k - start p c)) × (k - start p c < size p c)
         child-at k l u =
             let o = once in
             omega (arith, laid .firsts c (omega arith), laid .firsts (suc c) (omega arith), start-suc p c (o .1))
 
-        sends : (k t : ℕ) → firstAt plan c ≤ k → k < firstAt plan (suc c) → targetAt plan k ≡ suc t
+        sends : (k t : ℕ) → firstOf plan c ≤ k → k < firstOf plan (suc c) → targetAt plan k ≡ suc t
             → action p c (k - start p c) .join ≡ suc t
         sends k t l u f =
             let o = once in
             let (s, b) = child-at k l u in
             sym (target-of plan p laid c (k - start p c) (o .1) b) ∙ ap (targetAt plan) (sym s) ∙ f
 
-        target : (k t : ℕ) → firstAt plan c ≤ k → k < firstAt plan (suc c) → targetAt plan k ≡ suc t → t < size p j
+        target : (k t : ℕ) → firstOf plan c ≤ k → k < firstOf plan (suc c) → targetAt plan k ≡ suc t → t < size p j
         target k t l u f =
             let o = once in
             let g = join-target p ok c (k - start p c) t (o .1) (child-at k l u .1) (sends k t l u f) in
             rw (o .2) at (g .1)
 
-        at-time : (k : ℕ) → firstAt plan c ≤ k → k < firstAt plan (suc c) → done′ + time′ k + begins p j ≡ ends p c (k - start p c)
+        at-time : (k : ℕ) → firstOf plan c ≤ k → k < firstOf plan (suc c) → done′ + time′ k + begins p j ≡ ends p c (k - start p c)
         at-time k l u =
             let o = once in
             let (s, b) = child-at k l u in
             omega (arith, child-time c (k - start p c) (o .0) (o .1) (o .2) (o .3) b, ap time′ s)
 
-        child-given : SendGiven (firstAt plan c) (firstAt plan (suc c)) (start p j) done′ (targetAt plan) time′
+        child-given : SendGiven (firstOf plan c) (firstOf plan (suc c)) (start p j) done′ (targetAt plan) time′
         child-given =
             let o = once in
             let f = laid .firsts c (omega arith) in
@@ -173,12 +173,12 @@ module _ (p : Plan) (ok : Accepted p) where
               sums = λ k l u. omega (arith, at-time k l u, ends-small p ok c (k - start p c) (o .1) (child-at k l u .1));
             }
 
-        next-child : Sent (firstAt plan c) (firstAt plan (suc c)) (start p j) done′ (targetAt plan) time′ late late′ → Midway p j (suc i) done′ time′ late′
+        next-child : Sent (firstOf plan c) (firstOf plan (suc c)) (start p j) done′ (targetAt plan) time′ late late′ → Midway p j (suc i) done′ time′ late′
         next-child s = next-midway (s .kept) (λ q t h b. low q t h b (s .source (start p q + t))) came
           where
             low : (q t : ℕ) → q < length p → t < size p q
                 → (late′ (start p q + t) ≡ late (start p q + t))
-                ⊎ ((k : ℕ) × (u : ℕ) × (firstAt plan c ≤ k) × (k < firstAt plan (suc c)) × (targetAt plan k ≡ suc u) × (start p q + t ≡ start p j + u) × (late′ (start p q + t) ≡ done′ + time′ k))
+                ⊎ ((k : ℕ) × (u : ℕ) × (firstOf plan c ≤ k) × (k < firstOf plan (suc c)) × (targetAt plan k ≡ suc u) × (start p q + t ≡ start p j + u) × (late′ (start p q + t) ≡ done′ + time′ k))
                 → late′ (start p q + t) + begins p q < ends p q t
             low q t h b (inl f) = omega (arith, m .lates q t h b)
             low q t h b (inr (k, u, l, r, g, w, f)) =
@@ -267,7 +267,7 @@ module _ (base end : ℕ) (plan time₀ late₀ : List ℕ) (of : JobOf) (g : Jo
 
 -- job j - 1 is given where the jobs from j on are timed
 module _ (jobs : ℕ) (plan : List ℕ) (p : Plan) (g : PlanOf jobs plan p) (j from end : ℕ) (some : 0 < j) (known : j ≤ jobs)
-    (start : from ≡ firstAt plan (j - 1)) (past : end ≡ firstAt plan (j - 1 + 1)) where
+    (start : from ≡ firstOf plan (j - 1)) (past : end ≡ firstOf plan (j - 1 + 1)) where
   pub job-given : (time late : List ℕ) → length time ≡ 2048 → length late ≡ 2048 → TimedFrom p j (at time) (at late)
       → JobGiven from end plan time late (record { plan = p; job = j - 1 })
   job-given time late l n t =
@@ -277,7 +277,7 @@ module _ (jobs : ℕ) (plan : List ℕ) (p : Plan) (g : PlanOf jobs plan p) (j f
         planned = g .planned;
         known = omega (arith, g .count);
         start = start ∙ g .planned .laid .firsts (j - 1) (omega (arith, g .count));
-        past = past ∙ ap (firstAt plan) f ∙ g .planned .laid .firsts (suc (j - 1)) (omega (arith, g .count));
+        past = past ∙ ap (firstOf plan) f ∙ g .planned .laid .firsts (suc (j - 1)) (omega (arith, g .count));
         long = (l, n);
         above = rw e t;
       }

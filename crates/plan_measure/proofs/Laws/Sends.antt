@@ -5,7 +5,7 @@ use mathlib.Core.Logic.{_⊎_, inl, inr}
 use mathlib.Core.List.{List}
 use native.Mathlib.Omega.{arith}
 use native.Mathlib.Decide.{decLt, decLe, ℕ-discrete}
-use Rattle.plan.specs.Sheet.{childAt, targetAt, firstAt}
+use Rattle.plan.specs.Sheet.{childAt, targetAt, firstOf}
 use Rattle.plan_measure.specs.Times.{SendGiven, Sent, PassGiven, Passed}
 
 abbrev Source : (from end base spawned m : ℕ) (target time late late′ : ℕ → ℕ) → Type 0
@@ -79,14 +79,14 @@ module _ (k base spawned : ℕ) (plan : List ℕ) (time : ℕ → ℕ) where
   pub passed-none : (late : ℕ → ℕ) → childAt plan k ≡ 0 → Passed k base spawned plan time late late
   passed-none late z = record { none = λ e m. refl; child = λ c e. absurd (omega arith) }
 
-  module _ (child from end : ℕ) (is : child ≡ childAt plan k) (some : child ≡ 0 → ⊥) (start : from ≡ firstAt plan (child - 1)) (past : end ≡ firstAt plan child) where
+  module _ (child from end : ℕ) (is : child ≡ childAt plan k) (some : child ≡ 0 → ⊥) (start : from ≡ firstOf plan (child - 1)) (past : end ≡ firstOf plan child) where
     number : child ≡ suc (child - 1)
     number = omega arith
 
     pub pass-send : PassGiven k base spawned plan time → (child < 257) × SendGiven from end base spawned (targetAt plan) time
     pass-send g =
         let (h, s) = g .child (child - 1) (sym is ∙ number) in
-        (omega arith, rw (start, past ∙ ap (firstAt plan) number) s)
+        (omega arith, rw (start, past ∙ ap (firstOf plan) number) s)
 
     pub passed-child : (late late′ : ℕ → ℕ) → Sent from end base spawned (targetAt plan) time late late′
         → Passed k base spawned plan time late late′
@@ -95,5 +95,5 @@ module _ (k base spawned : ℕ) (plan : List ℕ) (time : ℕ → ℕ) where
       child = λ c e.
           let n : child - 1 ≡ c = omega arith in
           let m : child ≡ suc c = omega arith in
-          rw (start ∙ ap (firstAt plan) n, past ∙ ap (firstAt plan) m) at s;
+          rw (start ∙ ap (firstOf plan) n, past ∙ ap (firstOf plan) m) at s;
     }

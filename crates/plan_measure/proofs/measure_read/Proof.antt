@@ -1,14 +1,14 @@
 -- `measure_read` meets its contract, by what its two parts tell.
 use native.Mathlib.Omega.{arith}
 use Rattle.plan_measure.proofs.Laws.Measuring.{measured-of, measured-by}
-use Rattle.plan.proofs.Laws.Found.{few-read}
+use Rattle.plan.proofs.Laws.Found.{counts-few}
 use Rattle.plan_measure.proofs.measure_read.Statement.{statement}
 use Rattle.plan_measure.proofs.measure_read.Tie as tie
 
 cast-t4 : tie.Need-cast-t4
 cast-t4 c =
     let (p, g) = c .pre in
-    omega (arith, few-read _ _ _ p g)
+    omega (arith, counts-few _ _ _ p g)
 
 longest-requires : tie.Need-longest-requires
 longest-requires c κs =

@@ -20,7 +20,7 @@ use Rattle.plan_table.specs.declared.rows.Jobs.{Jobs as Counted}
 use Rattle.plan_table.specs.declared.rows.Jobs.the-variants.{Refused, Count}
 use Rattle.plan.specs.Plan.{job, total, placed, noPlaced}
 use Rattle.plan.specs.Rules.{inRange}
-use Rattle.plan.specs.Sheet.{childAt, targetAt, frameAt, firstAt, jobAt, withAction, Blank, LaidIn}
+use Rattle.plan.specs.Sheet.{childAt, targetAt, frameOf, firstOf, jobAt, withAction, Blank, LaidIn}
 use Rattle.plan_table.specs.Table.{Row, rowsOf, planOf}
 use Rattle.plan_table.specs.GivenRows.{rowAt, TableKept, RowFits, begun, RowsTaken, RowTaken, Taken}
 use Rattle.plan.proofs.Laws.Placed.{start, start-suc, start-all, start-rises}
@@ -117,13 +117,13 @@ module _ (plan : List ℕ) (k : ℕ) (a : Row) where
   taken-length = rw (length-set, sending-length)
 
   module _ (long : length plan ≡ 9217) (few : k < 2048) (small : a .job < 256) where
-    frame-there : frameAt (taken plan k a) (a .job) ≡ a .frame
+    frame-there : frameOf (taken plan k a) (a .job) ≡ a .frame
     frame-there =
         behind (4096 + a .job) (λ e. omega arith) (λ e. omega arith) (λ e. omega arith)
         ∙ getD-set-other (framed plan a) (4352 + (a .job + 1)) (4096 + a .job) (k + 1) 0 (λ e. omega arith)
         ∙ getD-set-same plan (4096 + a .job) (a .frame) 0 (omega arith)
 
-    first-there : firstAt (taken plan k a) (suc (a .job)) ≡ suc k
+    first-there : firstOf (taken plan k a) (suc (a .job)) ≡ suc k
     first-there =
         rw (← add-one (a .job), ← add-one k)
         (behind (4352 + (a .job + 1)) (λ e. omega arith) (λ e. omega arith) (λ e. omega arith)
@@ -173,11 +173,11 @@ rows-none t plan g h e =
 
 module _ {t : List ℕ} {k : ℕ} {plan : List ℕ} (g : RowsTaken t k plan) (h : k < length t / 4) where
   pub row-begins : let j = rowAt t (4 * k) .job in
-      (firstAt plan j ≡ start (planOf (rowsOf t)) j) × (start (planOf (rowsOf t)) j ≤ k)
+      (firstOf plan j ≡ start (planOf (rowsOf t)) j) × (start (planOf (rowsOf t)) j ≤ k)
   row-begins = (go (ℕ-discrete (rowAt t (4 * k) .job) (begun t k)), omega (arith, table-sits (g .kept) k h .place))
     where
-      go : let j = rowAt t (4 * k) .job in Dec (j ≡ begun t k) → firstAt plan j ≡ start (planOf (rowsOf t)) j
-      go (yes e) = ap (firstAt plan) e ∙ g .end ∙ sym (row-next (g .kept) k h .1 e)
+      go : let j = rowAt t (4 * k) .job in Dec (j ≡ begun t k) → firstOf plan j ≡ start (planOf (rowsOf t)) j
+      go (yes e) = ap (firstOf plan) e ∙ g .end ∙ sym (row-next (g .kept) k h .1 e)
       go (no n) =
           let r = row-next (g .kept) k h in
           g .firsts (rowAt t (4 * k) .job) (omega (arith, r .0))
@@ -196,12 +196,12 @@ module _ {t : List ℕ} {k : ℕ} {plan : List ℕ} (g : RowsTaken t k plan) (h 
         few = g .few;
         long = taken-length plan k a ∙ m;
         fit = below-suc (λ i. RowFits p (rowAt t (4 * i)) i) k (g .fit) f;
-        frames = below-suc (λ j. frameAt (taken plan k a) j ≡ job p j .frame) (a .job)
+        frames = below-suc (λ j. frameOf (taken plan k a) j ≡ job p j .frame) (a .job)
             (λ j l. elsewhere plan k a (4096 + j) (λ e. omega arith) (λ e. omega arith) (λ e. omega arith) (λ e. omega arith) (λ e. omega arith) ∙ g .frames j (omega (arith, r .0)))
             (frame-there plan k a m b w ∙ s .frame);
         firsts = λ j l.
             elsewhere plan k a (4352 + j) (λ e. omega arith) (λ e. omega arith) (λ e. omega arith) (λ e. omega arith) (λ e. omega arith)
-            ∙ below-suc (λ j. firstAt plan j ≡ start p j) (a .job) (λ j l. g .firsts j (omega (arith, r .0))) (row-begins .0) j l;
+            ∙ below-suc (λ j. firstOf plan j ≡ start p j) (a .job) (λ j l. g .firsts j (omega (arith, r .0))) (row-begins .0) j l;
         end = first-there plan k a m b w;
         owners = below-suc (λ i. jobAt (taken plan k a) i ≡ rowAt t (4 * i) .job) k
             (λ i l. elsewhere plan k a (5121 + i) (λ e. omega arith) (λ e. omega arith) (λ e. omega arith) (λ e. omega arith) (λ e. omega arith) ∙ g .owners i l)
@@ -253,9 +253,9 @@ module _ {t plan : List ℕ} (g : RowsTaken t (length t / 4) plan) where
       row : (i : ℕ) → i < length t / 4 → rowAt t (4 * i) ≡ rowPlaced (planOf (rowsOf t)) (getD (placed (planOf (rowsOf t))) i noPlaced)
       row = table-placed (g .kept)
 
-      begins : (j : ℕ) → j ≤ length (planOf (rowsOf t)) → Dec (j ≡ length (planOf (rowsOf t))) → firstAt plan j ≡ start (planOf (rowsOf t)) j
+      begins : (j : ℕ) → j ≤ length (planOf (rowsOf t)) → Dec (j ≡ length (planOf (rowsOf t))) → firstOf plan j ≡ start (planOf (rowsOf t)) j
       begins j h (yes e) =
-          ap (firstAt plan) (e ∙ sym all) ∙ g .end ∙ sym n ∙ sym (start-all (planOf (rowsOf t))) ∙ ap (start (planOf (rowsOf t))) (sym e)
+          ap (firstOf plan) (e ∙ sym all) ∙ g .end ∙ sym n ∙ sym (start-all (planOf (rowsOf t))) ∙ ap (start (planOf (rowsOf t))) (sym e)
       begins j h (no d) = g .firsts j (omega (arith, all))
 
 -- what was taken, by the answer

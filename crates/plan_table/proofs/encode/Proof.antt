@@ -58,7 +58,7 @@ returns-2 : tie.Need-returns-2
 returns-2 c p g =
     let h = spawned (c .before .before .before .before) p g in
     let r = c .before .join-rules in
-    encoded-joins p _ (g .laid .range) (h .rules) (sym (r .ensures p h .0) ∙ not-true _ (c .if2 .taken))
+    encoded-joins p _ (g .laid .range) (h .parented .rules) (sym (r .ensures p h .0) ∙ not-true _ (c .if2 .taken))
 
 plan-bits-requires : tie.Need-plan-bits-requires
 plan-bits-requires c κs =

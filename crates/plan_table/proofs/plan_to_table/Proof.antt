@@ -3,7 +3,7 @@ use mathlib.Core.Path.{refl}
 use native.Mathlib.Omega.{arith}
 use denote.Ref.{now}
 use Rattle.plan.specs.Found.{ReadPlan}
-use Rattle.plan.proofs.Laws.Found.{found-plan, found-none, few-read}
+use Rattle.plan.proofs.Laws.Found.{found-plan, found-none, counts-few}
 use Rattle.plan_table.proofs.Laws.Answers.{rows-given, table-refused, table-short, table-whole}
 use borrow.Author.Needs.{needs}
 use Rattle.plan_table.proofs.plan_to_table.Statement.{statement}
@@ -28,7 +28,7 @@ mul-if1 : tie.Need-mul-if1
 mul-if1 c =
     let a = c .before in
     let r = plan-read a in
-    omega (arith, few-read _ _ _ (r .is) (r .held))
+    omega (arith, counts-few _ _ _ (r .is) (r .held))
 
 returns : tie.Need-returns
 returns c =

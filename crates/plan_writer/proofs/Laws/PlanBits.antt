@@ -17,7 +17,7 @@ use lib.ListN.{length, getD, length-append}
 use Rattle.plan.specs.Plan.{Action, Job, Plan, job, size, action, total, noAction, noPlaced, placed}
 use Rattle.fields.specs.Field.{bitsOf}
 use Rattle.plan_writer.specs.Writer.{numberBits, actionsBits, jobsBits, planBits}
-use Rattle.plan.specs.Sheet.{childAt, targetAt, frameAt, firstAt, jobAt, Laid, PlanIn}
+use Rattle.plan.specs.Sheet.{childAt, targetAt, frameOf, firstOf, jobAt, Laid, PlanIn}
 use Rattle.plan_writer.specs.ActionBits.{openingBits, actionBits, Writable}
 use Rattle.plan.proofs.Laws.Placed.{start, start-suc, placed-at, placed-of, place-below}
 use Rattle.plan.proofs.Laws.Spawning.{jobs-in-range, size-in-range, total-in-range}
@@ -98,25 +98,25 @@ module _ (f : ℕ → List ℕ) where
       let n = length-append (actionsBits (b .actions)) (jobsBits p) in
       rw (← e) (omega arith)
 
-opening-first : (plan : List ℕ) (j k : ℕ) → firstAt plan j ≡ k
-    → openingBits plan j k ≡ bitsOf 16 (frameAt plan j) ++ bitsOf 8 (firstAt plan (j + 1) - firstAt plan j)
+opening-first : (plan : List ℕ) (j k : ℕ) → firstOf plan j ≡ k
+    → openingBits plan j k ≡ bitsOf 16 (frameOf plan j) ++ bitsOf 8 (firstOf plan (j + 1) - firstOf plan j)
 unfolding openingBits
-opening-first plan j k e = rw (openingBits, eq-eqb (firstAt plan j) k e)
+opening-first plan j k e = rw (openingBits, eq-eqb (firstOf plan j) k e)
 
-opening-later : (plan : List ℕ) (j k : ℕ) → (firstAt plan j ≡ k → ⊥) → openingBits plan j k ≡ []
+opening-later : (plan : List ℕ) (j k : ℕ) → (firstOf plan j ≡ k → ⊥) → openingBits plan j k ≡ []
 unfolding openingBits
-opening-later plan j k n = rw (openingBits, ne-eqb (firstAt plan j) k n)
+opening-later plan j k n = rw (openingBits, ne-eqb (firstOf plan j) k n)
 
 -- the bits of the numbers alone, by place
 abbrev pub numbersAt : List ℕ → ℕ → List ℕ
 numbersAt plan k = numberBits (childAt plan k) ++ numberBits (targetAt plan k)
 
 -- what is added at place k, by the numbers that were read there: its job j, which begins at place s and ends at e, and the frame f
-module _ (plan : List ℕ) (k j s : ℕ) (owner : j ≡ jobAt plan k) (begins : s ≡ firstAt plan j) where
+module _ (plan : List ℕ) (k j s : ℕ) (owner : j ≡ jobAt plan k) (begins : s ≡ firstOf plan j) where
   pub action-later : (s ≡ k → ⊥) → actionBits plan k ≡ numbersAt plan k
   action-later n = rw (← owner, opening-later plan j k (λ e. n (begins ∙ e)))
 
-  module _ (e f : ℕ) (ends : e ≡ firstAt plan (j + 1)) (frame : f ≡ frameAt plan j) where
+  module _ (e f : ℕ) (ends : e ≡ firstOf plan (j + 1)) (frame : f ≡ frameOf plan j) where
     pub action-first : s ≡ k → actionBits plan k ≡ (bitsOf 16 f ++ bitsOf 8 (e - s)) ++ numbersAt plan k
     action-first h = rw (← owner, opening-first plan j k (sym begins ∙ h), ← begins, ← ends, ← frame)
 

@@ -19,7 +19,8 @@ use Rattle.plan.proofs.Laws.Placed.{start, placed-length, placed-at, placed-of,
 use Rattle.plan.proofs.Laws.Valid.{few-enter, join-target}
 use Rattle.courses.specs.Ready.{ready}
 use Rattle.scheduler.specs.Machine.{missingTo}
-use Rattle.courses.proofs.Laws.PlanShape.{enters-is, enters-by, ready-is, ready-by}
+use Rattle.plan.proofs.Laws.Enters.{enters-by, enters-is}
+use Rattle.courses.proofs.Laws.PlanShape.{ready-is, ready-by}
 
 -- two tests of the members of a list
 module _ {A : Type 0} (f g : A → Bool) (d : A) where

@@ -47,8 +47,8 @@ first-of-requires-2 c κs =
     let (t, g) = j .before .before .pre in
     parent-small _ _ t (g .tasked) _ (g .within) _ (j .job-at .ensures .0) (e .if2 .left) _ (c .parent-of .ensures .0)
 
-spawned-at-requires : tie.Need-spawned-at-requires
-spawned-at-requires c κs =
+spawn-of-requires : tie.Need-spawn-of-requires
+spawn-of-requires c κs =
     let j = c .before .before .before .before .before in
     let (t, g) = j .before .before .pre in
     job-small _ _ t (g .tasked) _ (g .within) _ (j .job-at .ensures .0)
@@ -60,7 +60,7 @@ sub-spawn c =
     let e = q .before in
     let j = e .before .before .before in
     let (t, g) = j .before .before .pre in
-    spawn-some _ _ t (g .tasked) _ (g .within) _ (j .job-at .ensures .0) (e .if2 .left) _ (q .parent-of .ensures .0) _ (f .first-of2 .ensures .0) _ (c .spawned-at .ensures .0)
+    spawn-some _ _ t (g .tasked) _ (g .within) _ (j .job-at .ensures .0) (e .if2 .left) _ (q .parent-of .ensures .0) _ (f .first-of2 .ensures .0) _ (c .spawn-of .ensures .0)
 
 add-spawn : tie.Need-add-spawn
 add-spawn c = search needs
@@ -73,7 +73,7 @@ row-at-requires-2 c κs =
     let j = e .before .before .before in
     let (t, g) = j .before .before .pre in
     row-within _ _ t (g .tasked) _
-    (spawn-within _ _ t (g .tasked) _ (g .within) _ (j .job-at .ensures .0) (e .if2 .left) _ (q .parent-of .ensures .0) _ (f .first-of2 .ensures .0) _ (c .spawned-at .ensures .0))
+    (spawn-within _ _ t (g .tasked) _ (g .within) _ (j .job-at .ensures .0) (e .if2 .left) _ (q .parent-of .ensures .0) _ (f .first-of2 .ensures .0) _ (c .spawn-of .ensures .0))
 
 returns-3 : tie.Need-returns-3
 returns-3 c = λ t g.
@@ -82,7 +82,7 @@ returns-3 c = λ t g.
     let q = f .before in
     let e = q .before in
     let h = e .before .before in
-    tells-born _ _ t (g .tasked) _ (g .within) _ (h .before .job-at .ensures .0) (e .if2 .left) _ (q .parent-of .ensures .0) _ (f .first-of2 .ensures .0) _ (s .spawned-at .ensures .0)
+    tells-born _ _ t (g .tasked) _ (g .within) _ (h .before .job-at .ensures .0) (e .if2 .left) _ (q .parent-of .ensures .0) _ (f .first-of2 .ensures .0) _ (s .spawn-of .ensures .0)
     _ (h .first-of .ensures .0) (e .before .if1 .left) _ (c .row-at2 .ensures .0)
 
 pub round-before-spec : {M : Type 1} → statement M
@@ -97,7 +97,7 @@ round-before-spec =
     returns-2
     parent-of-requires
     first-of-requires-2
-    spawned-at-requires
+    spawn-of-requires
     sub-spawn
     add-spawn
     row-at-requires-2

@@ -1,4 +1,4 @@
--- `reader::read_job` meets its contract: a header and its actions are a job, as `jobAt` reads it.
+-- `reader::read_job` meets its contract: a header and its actions are a job, as `oneJobAt` reads it.
 use Prim.Native.Nat.{ℕ, _+_, _≤_}
 use native.Mathlib.Omega.{arith}
 use mathlib.Core.Path.{_≡_, ap, sym, _∙_}
@@ -10,7 +10,7 @@ use Rattle.plan.specs.declared.reader.Header.{Header}
 use Rattle.plan.specs.Plan.{Action}
 use Rattle.fields.specs.Field.{stop, step}
 use Rattle.plan.specs.Reader.{actionsAt}
-use Rattle.plan.specs.Progress.{withActions, headerAt, jobAt, HeaderRead, JobRead}
+use Rattle.plan.specs.Progress.{withActions, headerAt, oneJobAt, HeaderRead, JobRead}
 use Rattle.plan.proofs.Laws.Steps.{header-next, actions-next}
 use Rattle.plan.proofs.reader.read_job.Statement.{statement}
 use Rattle.plan.proofs.reader.read_job.Tie as tie
@@ -19,20 +19,20 @@ module _ (s : List ℕ) (k at weight size m : ℕ) (h : headerAt s k at ≡ step
   room : (size ≤ 255) × (k + size ≤ 2048) × (m ≡ at + 24)
   room = let r = header-next s k at (record { weight = weight; size = size }) m h in (r .3, r .4, r .5)
 
-  no-actions : (n : ℕ) → actionsAt s size m ≡ stop n → jobAt s k at ≡ stop n
-  unfolding jobAt
+  no-actions : (n : ℕ) → actionsAt s size m ≡ stop n → oneJobAt s k at ≡ stop n
+  unfolding oneJobAt
   no-actions n e = rw (h, e)
 
   read : (j n : ℕ) (l : List Action) (plan plan′ plan″ last : List ℕ) → plan′ ≡ set plan (4096 + j) weight → actionsAt s size m ≡ step l n
-      → plan″ ≡ withActions plan′ k j l → last ≡ set plan″ (4352 + (j + 1)) (k + size) → JobRead s k at j plan last (Header.Is (k + size) n)
-  unfolding jobAt
+      → plan″ ≡ withActions plan′ k j l → last ≡ set plan″ (4352 + (j + 1)) (k + size) → JobRead s at j k plan last (Header.Is (k + size) n)
+  unfolding oneJobAt
   read j n l plan plan′ plan″ last d e w f =
       let z : length l ≡ size = actions-next s size m l n e .0 in
       (record { frame = weight; actions = l }, rw (h, e), ap (λ n. k + n) (sym z), f ∙ rw (w, d, z))
 
 header-read : (c : tie.After-size)
     → let a = c .before .before .before .before .before .args in
-    HeaderRead (now (a .s)) (a .earlier) (a .at) (a .j) (now (a .plan)) (c .before .before .read-header .last .1 .1 .1 .1 .0) (Header.Is (c .size .given .0 .0) (c .size .given .0 .1 .0))
+    HeaderRead (now (a .s)) (a .at) (a .j) (a .earlier) (now (a .plan)) (c .before .before .read-header .last .1 .1 .1 .1 .0) (Header.Is (c .size .given .0 .0) (c .size .given .0 .1 .0))
 header-read c = rw (c .size .given .1) at (c .before .before .read-header .ensures)
 
 read-header-requires : tie.Need-read-header-requires
@@ -76,7 +76,7 @@ add-t19 : tie.Need-add-t19
 add-t19 c = omega (arith, roomy (c .before .before .before .before .before .before .before .before))
 
 returns : tie.Need-returns
-unfolding jobAt
+unfolding oneJobAt
 returns c = rw (rw (c .before .cause .given .1) at (c .before .before .before .read-header .ensures))
 
 returns-2 : tie.Need-returns-2

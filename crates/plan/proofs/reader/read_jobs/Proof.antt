@@ -11,7 +11,7 @@ use Rattle.plan.specs.declared.reader.Header.{Header}
 use Rattle.plan.specs.Plan.{Job, Plan, total}
 use Rattle.fields.specs.Field.{Step, stop, step}
 use Rattle.plan.specs.Reader.{jobsAt}
-use Rattle.plan.specs.Progress.{JobRead, jobAt, withJob, withJobs}
+use Rattle.plan.specs.Progress.{JobRead, oneJobAt, withJob, withJobs}
 use Rattle.plan.proofs.Laws.Steps.{after, job-next, jobs-more, jobs-stop}
 use Rattle.plan.proofs.Laws.Placed.{total-append}
 use Rattle.plan.proofs.Laws.Sheets.{jobs-one-more}
@@ -49,10 +49,10 @@ module _ (s : List ℕ) (at jobs : ℕ) (plan₀ plan : List ℕ) (place actions
   here : jobs - j ≡ suc (jobs - (j + 1))
   here = omega arith
 
-  stopped : (m : ℕ) → jobAt s actions place ≡ stop m → jobsAt s jobs 0 at ≡ stop m
+  stopped : (m : ℕ) → oneJobAt s actions place ≡ stop m → jobsAt s jobs 0 at ≡ stop m
   stopped m e = h .rest ∙ rw here (jobs-stop s (h .p) m (jobs - (j + 1)) actions place e)
 
-  went-on : (plan′ : List ℕ) (end next : ℕ) → JobRead s actions place j plan plan′ (Header.Is end next) → Begun s at jobs plan₀ plan′ next end (j + 1)
+  went-on : (plan′ : List ℕ) (end next : ℕ) → JobRead s place j actions plan plan′ (Header.Is end next) → Begun s at jobs plan₀ plan′ next end (j + 1)
   went-on plan′ end next (x, e, f, w) =
       let r = job-next s actions place x next e in
       let a : 0 + total (h .p) ≡ actions = omega (arith, h .all) in

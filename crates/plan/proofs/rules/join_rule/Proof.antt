@@ -9,11 +9,11 @@ use Rattle.plan.proofs.rules.join_rule.Tie as tie
 
 -- the target is looked up
 target : (c : tie.After-first-of2)
-    → Target (now (c .before .before .before .before .before .before .before .before .args .plan)) (c .before .before .before .before .before .before .job-at .result) (c .before .before .before .before .before .before .before .target-at .result) (c .before .before .before .before .spawned-at .result) (c .before .before .parent-of .result) (c .before .first-of .result) (c .first-of2 .result)
+    → Target (now (c .before .before .before .before .before .before .before .before .args .plan)) (c .before .before .before .before .before .before .job-at .result) (c .before .before .before .before .before .before .before .target-at .result) (c .before .before .before .before .spawn-of .result) (c .before .before .parent-of .result) (c .before .first-of .result) (c .first-of2 .result)
 target c =
     record {
       child = c .before .before .before .before .before .if1 .left;
-      spawned = c .before .before .before .before .spawned-at .ensures .0;
+      spawned = c .before .before .before .before .spawn-of .ensures .0;
       late = c .before .before .before .if2 .left;
       owner = c .before .before .parent-of .ensures .0;
       begins = c .before .first-of .ensures .0;
@@ -37,16 +37,16 @@ job-at-requires c κs = target-at-requires (c .before) κs
 returns : tie.Need-returns
 returns c = λ p s. refused-root p _ _ _ s _ (c .before .before .target-at .ensures .0) _ (c .before .job-at .ensures .0) (c .if1 .taken)
 
-spawned-at-requires : tie.Need-spawned-at-requires
-spawned-at-requires c κs =
+spawn-of-requires : tie.Need-spawn-of-requires
+spawn-of-requires c κs =
     let x = c .before .before .before .pre in sender-small (x .0) _ _ _ (x .1) _ (c .before .before .target-at .ensures .0) _ (c .before .job-at .ensures .0)
 
 returns-2 : tie.Need-returns-2
 returns-2 c = λ p s.
-    refused-early p _ _ _ s _ (c .before .before .before .before .target-at .ensures .0) _ (c .before .before .before .job-at .ensures .0) (c .before .before .if1 .left) _ (c .before .spawned-at .ensures .0) (c .if2 .taken)
+    refused-early p _ _ _ s _ (c .before .before .before .before .target-at .ensures .0) _ (c .before .before .before .job-at .ensures .0) (c .before .before .if1 .left) _ (c .before .spawn-of .ensures .0) (c .if2 .taken)
 
 parent-of-requires : tie.Need-parent-of-requires
-parent-of-requires c κs = spawned-at-requires (c .before .before) κs
+parent-of-requires c κs = spawn-of-requires (c .before .before) κs
 
 -- the parent is a job
 parent : (c : tie.After-parent-of) → c .parent-of .result < 256
@@ -112,7 +112,7 @@ join-rule-spec =
     target-at-requires
     job-at-requires
     returns
-    spawned-at-requires
+    spawn-of-requires
     returns-2
     parent-of-requires
     first-of-requires

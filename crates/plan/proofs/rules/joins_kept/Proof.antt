@@ -7,10 +7,11 @@ use denote.Ref.{now}
 use Rattle.plan.specs.Plan.{Plan}
 use Rattle.plan.specs.Listed.{upto}
 use Rattle.plan.specs.Kept.{Counted, JoinAt, JoinsFrom}
+use Rattle.plan.proofs.Laws.Lists.{told-yes, told-no}
 use Rattle.plan.proofs.Laws.Counts.{passed, not-passed}
 use Rattle.plan.proofs.Laws.Spawning.{total-in-range}
 use Rattle.plan.proofs.Laws.Listing.{upto-more}
-use Rattle.plan.proofs.Laws.Joining.{told-kept, told-broken, join-next, joins-all}
+use Rattle.plan.proofs.Laws.Joining.{join-next, joins-all}
 use Rattle.plan.proofs.rules.joins_kept.Statement.{statement}
 use Rattle.plan.proofs.rules.joins_kept.Tie as tie
 
@@ -51,7 +52,7 @@ join-rule-requires c κs = let x = c .before .before .before .before .before .be
 
 returns : tie.Need-returns Inv-loop μ-loop
 returns c = λ p g.
-    told-broken _ _ p (c .before .join-rule .ensures p (next (c .before .before .before) p g) .broken (not-passed (c .before .join-rule .result) (c .if1 .taken)))
+    told-no (c .before .join-rule .ensures p (next (c .before .before .before) p g) .broken (not-passed (c .before .join-rule .result) (c .if1 .taken)))
 
 add-m : tie.Need-add-m Inv-loop μ-loop
 add-m c = omega (arith, c .before .before .before .before .before .before .note-joins .ensures .few)
@@ -70,7 +71,7 @@ loop-again c = (
 returns-2 : tie.Need-returns-2 Inv-loop μ-loop
 returns-2 c = λ p g.
     let e : c .before .loop .m ≡ c .before .before .note-joins .result = omega arith in
-    told-kept _ _ p (joins-all _ _ _ _ _ p g (c .before .before .note-joins .ensures) _ (rw e at (c .before .loop .inv .2 p g)))
+    told-yes (joins-all _ _ _ _ _ p g (c .before .before .note-joins .ensures) _ (rw e at (c .before .loop .inv .2 p g)))
 
 pub joins-kept-spec : {M : Type 1} → statement M
 joins-kept-spec =

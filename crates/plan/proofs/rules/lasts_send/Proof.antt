@@ -5,7 +5,7 @@ use mathlib.Core.Path.{_≡_, ap, sym, _∙_}
 use native.Mathlib.Omega.{arith}
 use denote.Ref.{now}
 use borrow.Author.Count.{below-more}
-use Rattle.plan.specs.Sheet.{targetAt, firstAt}
+use Rattle.plan.specs.Sheet.{targetAt, firstOf}
 use Rattle.plan.proofs.Laws.Spawning.{jobs-in-range}
 use Rattle.plan.proofs.Laws.Joining.{last-small}
 use Rattle.plan.proofs.rules.lasts_send.Statement.{statement}
@@ -13,7 +13,7 @@ use Rattle.plan.proofs.rules.lasts_send.Tie as tie
 
 abbrev Inv-loop : tie.InvT-loop
 Inv-loop jobs plan j₀ j =
-    (1 ≤ j) × ((n : ℕ) → n < j → 1 ≤ n → targetAt plan (firstAt plan (n + 1) - 1) ≡ 0 → ⊥)
+    (1 ≤ j) × ((n : ℕ) → n < j → 1 ≤ n → targetAt plan (firstOf plan (n + 1) - 1) ≡ 0 → ⊥)
 
 abbrev μ-loop : tie.MeasureT-loop
 μ-loop jobs plan j₀ j = jobs - j
@@ -38,7 +38,7 @@ target-at-requires c κs =
 -- what was looked up
 sent : (c : tie.After-target-at Inv-loop μ-loop)
     → let l = c .before .before .before in
-    c .target-at .result ≡ targetAt (now (l .before .args .plan)) (firstAt (now (l .before .args .plan)) (l .loop .j + 1) - 1)
+    c .target-at .result ≡ targetAt (now (l .before .args .plan)) (firstOf (now (l .before .args .plan)) (l .loop .j + 1) - 1)
 sent c =
     c .target-at .ensures .0 ∙ ap (λ n. targetAt (now (c .before .before .before .before .args .plan)) (n - 1)) (c .before .first-of .ensures .0)
 

@@ -24,13 +24,13 @@ job-at-requires c κs =
 returns-2 : tie.Need-returns-2
 returns-2 c = λ p s. refused-older p _ _ _ s _ (c .before .before .before .before .child-at .ensures .0) _ (c .before .job-at .ensures .0) (c .if2 .taken)
 
-spawned-at-requires : tie.Need-spawned-at-requires
-spawned-at-requires c κs =
+spawn-of-requires : tie.Need-spawn-of-requires
+spawn-of-requires c κs =
     let x = c .before .before .before .before .before .before .before .pre in omega (arith, jobs-in-range (x .0) (x .1 .recorded .laid .range), x .1 .count)
 
 returns-3 : tie.Need-returns-3
 returns-3 c = λ p s.
-    refused-twice p _ _ _ s _ (c .before .before .before .before .before .before .before .child-at .ensures .0) (c .before .before .before .before .before .before .if1 .left) _ (c .before .spawned-at .ensures .0) (c .if3 .taken)
+    refused-twice p _ _ _ s _ (c .before .before .before .before .before .before .before .child-at .ensures .0) (c .before .before .before .before .before .before .if1 .left) _ (c .before .spawn-of .ensures .0) (c .if3 .taken)
 
 first-of-requires : tie.Need-first-of-requires
 first-of-requires c κs =
@@ -55,12 +55,12 @@ add-set-spawner : tie.Need-add-set-spawner
 add-set-spawner c = omega (arith, position (c .before))
 
 set-spawner-requires : tie.Need-set-spawner-requires
-set-spawner-requires c κs = (spawned-at-requires (c .before .before .before .before .before) κs, position (c .before) .0, omega (arith, position (c .before)))
+set-spawner-requires c κs = (spawn-of-requires (c .before .before .before .before .before) κs, position (c .before) .0, omega (arith, position (c .before)))
 
 returns-4 : tie.Need-returns-4
 returns-4 c = λ p s.
     recorded-new p _ _ _ s _ (c .before .before .before .before .before .before .before .before .before .before .before .child-at .ensures .0) (c .before .before .before .before .before .before .before .before .before .before .if1 .left) _ _ _ (c .before .before .before .before .before .before .before .before .job-at .ensures .0)
-    (c .before .before .first-of .ensures .0) (c .before .before .before .before .before .before .before .if2 .left) (c .before .before .before .before .before .spawned-at .ensures .0) (c .before .before .before .before .if3 .left) _ (c .set-spawner .ensures)
+    (c .before .before .first-of .ensures .0) (c .before .before .before .before .before .before .before .if2 .left) (c .before .before .before .before .before .spawn-of .ensures .0) (c .before .before .before .before .if3 .left) _ (c .set-spawner .ensures)
 
 pub spawn-rule-spec : {M : Type 1} → statement M
 spawn-rule-spec =
@@ -71,7 +71,7 @@ spawn-rule-spec =
     returns
     job-at-requires
     returns-2
-    spawned-at-requires
+    spawn-of-requires
     returns-3
     first-of-requires
     sub-set-spawner

@@ -8,10 +8,11 @@ use Rattle.plan.specs.Plan.{Plan}
 use Rattle.plan.specs.Sheet.{LaidIn}
 use Rattle.plan.specs.Listed.{upto}
 use Rattle.plan.specs.Kept.{Recorded, SpawnAt}
+use Rattle.plan.proofs.Laws.Lists.{told-yes, told-no}
 use Rattle.plan.proofs.Laws.Counts.{passed, not-passed}
 use Rattle.plan.proofs.Laws.Spawning.{total-in-range}
 use Rattle.plan.proofs.Laws.Listing.{upto-more}
-use Rattle.plan.proofs.Laws.Recording.{told-kept, told-broken, recorded-start, spawn-next, spawns-all}
+use Rattle.plan.proofs.Laws.Recording.{recorded-start, spawn-next, spawns-all}
 use Rattle.plan.proofs.rules.spawns_kept.Statement.{statement}
 use Rattle.plan.proofs.rules.spawns_kept.Tie as tie
 
@@ -52,7 +53,7 @@ spawn-rule-requires c κs = let x = c .before .before .before .before .before .b
 
 returns : tie.Need-returns Inv-loop μ-loop
 returns c = λ p g.
-    told-broken _ _ p (c .before .spawn-rule .ensures p (next (c .before .before .before) p g) .broken (not-passed (c .before .spawn-rule .result) (c .if1 .taken)))
+    told-no (c .before .spawn-rule .ensures p (next (c .before .before .before) p g) .broken (not-passed (c .before .spawn-rule .result) (c .if1 .taken)))
 
 add-m : tie.Need-add-m Inv-loop μ-loop
 add-m c = omega (arith, c .before .before .before .before .before .before .note-spawns .ensures .few)
@@ -71,7 +72,7 @@ loop-again c = (
 returns-2 : tie.Need-returns-2 Inv-loop μ-loop
 returns-2 c = λ p g.
     let e : c .before .loop .m ≡ c .before .before .note-spawns .result = omega arith in
-    told-kept _ _ p (spawns-all _ _ _ _ _ p g (c .before .before .note-spawns .ensures) _ (rw e at (c .before .loop .inv .2 p g)))
+    told-yes (spawns-all _ _ _ _ _ p g (c .before .before .note-spawns .ensures) _ (rw e at (c .before .loop .inv .2 p g)))
 
 pub spawns-kept-spec : {M : Type 1} → statement M
 spawns-kept-spec =

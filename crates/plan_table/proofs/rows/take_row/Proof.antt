@@ -2,7 +2,7 @@
 use Prim.Native.Nat.{_+_, _*_, _≤_}
 use mathlib.Core.Path.{_≡_, ap}
 use native.Mathlib.Omega.{arith}
-use Rattle.plan.specs.Sheet.{firstAt}
+use Rattle.plan.specs.Sheet.{firstOf}
 use Rattle.plan_table.specs.Table.{rowsOf, planOf}
 use Rattle.plan_table.specs.GivenRows.{rowAt, RowFits}
 use Rattle.plan.proofs.Laws.Placed.{start}
@@ -52,7 +52,7 @@ begins : (c : tie.After-first-of) → let a = c .before .before .before .before 
 begins c =
     let s = c .before .before .before .before .before .before .before .before in
     let b = row-begins (s .pre .1) (s .pre .0) in
-    let e = ap (firstAt (s .args .plan .now)) (c .before .before .before .before .before .wide16 .ensures .0) in
+    let e = ap (firstOf (s .args .plan .now)) (c .before .before .before .before .before .wide16 .ensures .0) in
     (omega (arith, b .0, e, c .first-of .ensures .0), omega (arith, b, e, c .first-of .ensures .0))
 
 sub-if3 : tie.Need-sub-if3

@@ -3,7 +3,7 @@ use Prim.Native.Nat.{_-_, _%_, _≤_}
 use mathlib.Core.Path.{_≡_, ap}
 use native.Mathlib.Numerals.{add-one}
 use native.Mathlib.Omega.{arith}
-use Rattle.plan.specs.Sheet.{frameAt, firstAt, parentAt}
+use Rattle.plan.specs.Sheet.{frameOf, firstOf, parentOf}
 use Rattle.scheduler.specs.Handed.{Handed}
 use Rattle.scheduler.proofs.Laws.Handing.{handed-none, handed-more}
 use Rattle.scheduler.proofs.handed.hand_jobs.Statement.{statement}
@@ -11,8 +11,8 @@ use Rattle.scheduler.proofs.handed.hand_jobs.Tie as tie
 
 abbrev Inv-loop : tie.InvT-loop
 Inv-loop jobs plan frame₀ first₀ parent₀ j₀ frame first parent j =
-    (j ≤ jobs) × (jobs ≤ 256) × Handed j 256 (frameAt plan) frame × Handed j 257 (firstAt plan) first
-    × Handed j 256 (λ i. parentAt plan i % 256) parent
+    (j ≤ jobs) × (jobs ≤ 256) × Handed j 256 (frameOf plan) frame × Handed j 257 (firstOf plan) first
+    × Handed j 256 (λ i. parentOf plan i % 256) parent
 
 abbrev μ-loop : tie.MeasureT-loop
 μ-loop jobs plan frame₀ first₀ parent₀ j₀ frame first parent j = jobs - j
