@@ -11,9 +11,9 @@ use mathlib.Core.Bool.{Bool, true, false, not}
 use mathlib.Core.List.{List, [], _∷_}
 use native.Mathlib.Omega.{arith}
 use native.Mathlib.Nat.{not-suc-le-zero}
-use lib.Dec.{T, eqb, leb, ltb, leb→le, le→leb, ltb→lt, lt→ltb, eqb→eq, eqb-refl, T-not}
+use lib.Dec.{T, eqb, leb, ltb, le→leb, ltb→lt, lt→ltb, eqb→eq, eqb-refl, T-not}
 use lib.ListN.{length, getD}
-use Rattle.plan.specs.Test.{both, either, below}
+use Rattle.plan.specs.Test.{either, below}
 use Rattle.plan.specs.Plan.{Plan, Job, Placed, job, size, action, placed, noJob, noPlaced, parent, spawnAt, enters}
 use Rattle.plan_measure.specs.Measure.{pathOver, path, heaviest}
 use Rattle.plan_measure.proofs.Laws.Largest.{largest-above, member-below}

@@ -7,8 +7,7 @@ use mathlib.Core.List.{List}
 use native.Mathlib.Omega.{arith}
 use native.Mathlib.Decide.{decLt, ℕ-discrete}
 use native.Mathlib.Nat.{not-suc-le-zero}
-use native.Mathlib.Numerals.{add-one}
-use lib.Dec.{T, leb, ltb, eqb, eqb→eq, eqb-refl, le→leb, lt→ltb}
+use lib.Dec.{T, leb, ltb, eqb, eqb-refl, le→leb, lt→ltb}
 use lib.ListN.{length, getD, take, set, getD-replicate, length-set, length-replicate}
 use lib.Seq.{getD-set-same, getD-set-other, take-all}
 use Rattle.plan.specs.Test.{both, either, all, count}
@@ -18,12 +17,12 @@ use Rattle.plan.specs.Sheet.{childAt, targetAt, firstOf, jobAt, parentOf
 use Rattle.plan.specs.Entering.{Unentered, Entered}
 use Rattle.plan.specs.Listed.{upto, Listed}
 use Rattle.plan.specs.Kept.{Counted, JoinAt, JoinsFrom, JoinTold, LastsTold}
-use Rattle.plan.proofs.Laws.Lists.{both-intro, both-left, both-right, all-by, told-yes, told-no}
+use Rattle.plan.proofs.Laws.Lists.{both-intro, all-by, told-yes, told-no}
 use Rattle.plan.proofs.Laws.Counts.{decT, either-left, either-right, equal-tests, count-take, count-one-more, count-no-more, array-by}
 use Rattle.plan.proofs.Laws.Listing.{to-next, to-end}
 use Rattle.plan.proofs.Laws.Enters.{enters-by, enters-is}
 use Rattle.plan.proofs.Laws.Laid.{laid-end, laid-child, laid-target}
-use Rattle.plan.proofs.Laws.Placed.{place-once, start, placed-length, placed-at, place-below, start-suc, placed-of}
+use Rattle.plan.proofs.Laws.Placed.{place-once, start, placed-length, place-below, placed-of}
 use Rattle.plan.proofs.Laws.Spawning.{jobs-in-range, size-in-range, total-in-range, spawner-of}
 use Rattle.plan.proofs.Laws.Valid.{join-target, few-enter, last-sends}
 use Rattle.plan.proofs.Laws.Recording.{here}
