@@ -24,6 +24,7 @@ use Rattle.lines.proofs.Laws.Weight.{held, path-root, path-child}
 use Rattle.lines.proofs.Laws.Weight
 use Rattle.plan.proofs.Laws.Lists.{both-intro, both-left, both-right, true-of, false-of, all-at, all-by}
 use Rattle.plan.proofs.Laws.Counts.{decT}
+use Rattle.plan.proofs.Laws.Enters.{enters-by, enters-is}
 use Rattle.plan.proofs.Laws.Placed.{start, placed-length, placed-at, place-below, placed-of}
 use Rattle.plan.specs.Rules.{Accepted}
 use Rattle.plan.proofs.Laws.Valid.{jobs-range, size-range, older, spawned-there, spawned-once, join-target, last-sends}

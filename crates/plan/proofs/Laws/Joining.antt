@@ -5,6 +5,7 @@ use mathlib.Core.Logic.{_≢_}
 use mathlib.Core.Bool.{Bool, true, false}
 use mathlib.Core.List.{List}
 use native.Mathlib.Omega.{arith}
+use borrow.Author.Count.{below-more}
 use native.Mathlib.Decide.{decLt, ℕ-discrete}
 use native.Mathlib.Nat.{not-suc-le-zero}
 use lib.Dec.{T, leb, ltb, eqb, eqb-refl, le→leb, lt→ltb}
@@ -57,11 +58,7 @@ module _ (p : Plan) (plan : List ℕ) (g : Parented plan p) where
 -- one more action
 module _ (k : ℕ) (l : List ℕ) (p : Plan) (r : Counted k l p) (h : k < total p) where
   fits-more : T (joinFits p (here p k)) → (i : ℕ) → i < suc k → T (joinFits p (here p i))
-  fits-more t i b = go (decLt i k)
-    where
-      go : Dec (i < k) → T (joinFits p (here p i))
-      go (yes v) = r .fits i v
-      go (no n) = let q : i ≡ k = omega arith in rw q t
+  fits-more t i b = below-more (λ i. T (joinFits p (here p i))) k (r .fits) t i (omega arith)
 
   same-count : (q t : ℕ) → (T (enters p q t (here p k)) → ⊥) → count (enters p q t) (take (suc k) (placed p)) ≡ count (enters p q t) (take k (placed p))
   same-count q t n = count-no-more (enters p q t) (placed p) k noPlaced (omega (arith, placed-length p)) n

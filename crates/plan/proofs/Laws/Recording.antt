@@ -5,7 +5,8 @@ use mathlib.Core.Logic.{_≢_}
 use mathlib.Core.Bool.{Bool, true, false}
 use mathlib.Core.List.{List, [], _∷_}
 use native.Mathlib.Omega.{arith}
-use native.Mathlib.Decide.{decLt, ℕ-discrete}
+use borrow.Author.Count.{below-more}
+use native.Mathlib.Decide.{ℕ-discrete}
 use native.Mathlib.Nat.{le-of-suc-le-suc, not-suc-le-zero}
 use lib.Dec.{T, leb, ltb, eqb, eqb→eq, eqb-refl, le→leb, lt→ltb}
 use lib.ListN.{length, getD, take}
@@ -48,11 +49,7 @@ fits-none jobs a e = rw e tt
 -- one more action
 module _ (k : ℕ) (plan : List ℕ) (p : Plan) (r : Recorded k plan p) (h : k < total p) where
   fits-more : T (spawnFits (length p) (here p k)) → (i : ℕ) → i < suc k → T (spawnFits (length p) (here p i))
-  fits-more t i b = go (decLt i k)
-    where
-      go : Dec (i < k) → T (spawnFits (length p) (here p i))
-      go (yes l) = r .fits i l
-      go (no n) = let q : i ≡ k = omega arith in rw q t
+  fits-more t i b = below-more (λ i. T (spawnFits (length p) (here p i))) k (r .fits) t i (omega arith)
 
   same-count : (c : ℕ) → here p k .spawn ≢ suc c → count (spawning c) (take (suc k) (placed p)) ≡ count (spawning c) (take k (placed p))
   same-count c n =

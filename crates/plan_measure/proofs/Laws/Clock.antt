@@ -6,23 +6,16 @@ use mathlib.Core.List.{List}
 use native.Mathlib.Omega.{arith}
 use native.Mathlib.Nat.{not-suc-le-zero}
 use native.Mathlib.Decide.{decLt}
-use lib.ListN.{length, getD, replicate}
-use Rattle.plan.specs.Plan.{Plan, Placed, noPlaced, size, action, placed, parent, spawnAt}
+use lib.ListN.{length}
+use Rattle.plan.specs.Plan.{Plan, size, action, parent, spawnAt}
 use Rattle.plan_measure.specs.Measure.{longest}
 use Rattle.plan_measure.specs.Times.{at, PlanOf, ends, begins, JobOf, JobGiven, JobTimed, TimedFrom, SendGiven, Sent, PassGiven, Passed}
-use Rattle.plan.specs.Sheet.{childAt, targetAt, firstOf, Laid}
-use Rattle.plan.proofs.Laws.Placed.{start, start-suc, start-below, place-below, placed-at}
+use Rattle.plan.specs.Sheet.{targetAt, firstOf, Laid}
+use Rattle.plan.proofs.Laws.Laid.{laid-child, laid-target}
+use Rattle.plan.proofs.Laws.Placed.{start, start-suc, start-below, place-below, place-once}
 use Rattle.plan.specs.Rules.{Accepted}
 use Rattle.plan.proofs.Laws.Valid.{older, spawned-there, spawned-once, join-target, size-range, jobs-range, total-range}
-use Rattle.plan_measure.proofs.Laws.Follows.{act}
 use Rattle.plan_measure.proofs.Laws.Times.{longest-ends, ends-small, begins-spawn, ends-next, begins-first, begins-before, ends-sent, ends-within}
-
--- no two actions stand at one place
-pub place-one : (p : Plan) (j i q t : ℕ) → j < length p → i < size p j → q < length p → t < size p q → start p j + i ≡ start p q + t
-    → (j ≡ q) × (i ≡ t)
-place-one p j i q t h b l u e =
-    let s : act p j i ≡ act p q t = sym (placed-at p j i h b) ∙ ap (λ (k : ℕ). getD (placed p) k noPlaced) e ∙ placed-at p q t l u in
-    (ap (λ (a : Placed). a .job) s, ap (λ (a : Placed). a .position) s)
 
 -- what is known of a row of times before position i of job j: `done` is when the action before it was done, from the job's spawn
 pub record Midway (p : Plan) (j i done : ℕ) (time late : ℕ → ℕ) : Type 0 where
@@ -35,14 +28,6 @@ pub record Midway (p : Plan) (j i done : ℕ) (time late : ℕ → ℕ) : Type 0
   pub none : i ≡ 0 → done ≡ 0
   pub last : (a : ℕ) → i ≡ suc a → done + begins p j ≡ ends p j a
 
--- what the array tells of action i of job j
-module _ (plan : List ℕ) (p : Plan) (laid : Laid plan p) (j i : ℕ) (h : j < length p) (b : i < size p j) where
-  child-of : childAt plan (start p j + i) ≡ action p j i .spawn
-  child-of = laid .children (start p j + i) (place-below p j i h b) ∙ ap (λ (a : Placed). a .spawn) (placed-at p j i h b)
-
-  target-of : targetAt plan (start p j + i) ≡ action p j i .join
-  target-of = laid .targets (start p j + i) (place-below p j i h b) ∙ ap (λ (a : Placed). a .join) (placed-at p j i h b)
-
 module _ (p : Plan) (ok : Accepted p) where
   -- nothing is known of when joins came
   pub timed-none : (j : ℕ) (time late : ℕ → ℕ) → j ≡ length p → ((k : ℕ) → late k ≡ 0) → TimedFrom p j time late
@@ -51,7 +36,7 @@ module _ (p : Plan) (ok : Accepted p) where
     lates = λ q t h b. omega (arith, zeros (start p q + t), begins-before p ok q t h b);
   }
 
-  pub midway-first : (j : ℕ) (time late : ℕ → ℕ) → TimedFrom p (suc j) time late → Midway p j 0 0 time late
+  midway-first : (j : ℕ) (time late : ℕ → ℕ) → TimedFrom p (suc j) time late → Midway p j 0 0 time late
   midway-first j time late f = record {
     within = omega arith;
     later = λ c a h b l. f .times c a h b l;
@@ -62,7 +47,7 @@ module _ (p : Plan) (ok : Accepted p) where
     last = λ a e. absurd (omega arith);
   }
 
-  pub midway-last : (j i done : ℕ) (time late : ℕ → ℕ) → j < length p → i ≡ size p j → Midway p j i done time late
+  midway-last : (j i done : ℕ) (time late : ℕ → ℕ) → j < length p → i ≡ size p j → Midway p j i done time late
       → TimedFrom p j time late × (done + begins p j ≡ ends p j (size p j - 1))
   midway-last j i done time late h e m = (
     record { times = λ c a l b u. by c a l b u (decLt j c); lates = m .lates },
@@ -86,7 +71,7 @@ module _ (p : Plan) (ok : Accepted p) where
         (λ c a h b q l e. omega (arith, m .came c a i h b q (join-target p ok c a i b l e .2) l e)) in
         omega (arith, done-before i refl, m .lates j i known within)
 
-    pub tick-small : max done (late (start p j + i)) < 2048
+    tick-small : max done (late (start p j + i)) < 2048
     tick-small = omega (arith, tick, ends-small p ok j i known within)
 
     module _ (plan : List ℕ) (laid : Laid plan p) (time′ late′ : ℕ → ℕ) (done′ : ℕ)
@@ -97,7 +82,7 @@ module _ (p : Plan) (ok : Accepted p) where
           omega (
             arith,
             m .later c a h b l,
-            same (start p c + a) (λ e. omega (arith, place-one p c a j i b l known within e)),
+            same (start p c + a) (λ e. omega (arith, place-once p c a j i b l known within e)),
           )
 
       own′ : (a : ℕ) → Dec (a < i) → a < suc i → time′ (start p j + a) + begins p j ≡ ends p j a
@@ -147,7 +132,7 @@ module _ (p : Plan) (ok : Accepted p) where
         sends k t l u f =
             let o = once in
             let (s, b) = child-at k l u in
-            sym (target-of plan p laid c (k - start p c) (o .1) b) ∙ ap (targetAt plan) (sym s) ∙ f
+            sym (laid-target plan p laid c (o .1) (k - start p c) b) ∙ ap (targetAt plan) (sym s) ∙ f
 
         target : (k t : ℕ) → firstOf plan c ≤ k → k < firstOf plan (suc c) → targetAt plan k ≡ suc t → t < size p j
         target k t l u f =
@@ -183,7 +168,7 @@ module _ (p : Plan) (ok : Accepted p) where
             low q t h b (inl f) = omega (arith, m .lates q t h b)
             low q t h b (inr (k, u, l, r, g, w, f)) =
                 let o = once in
-                let (x, y) = place-one p q t j u h b known (target k u l r g) w in
+                let (x, y) = place-once p q t j u h b known (target k u l r g) w in
                 let z = ends-sent p ok c (k - start p c) u (o .1) (child-at k l r .1) (sends k u l r g) in
                 let v : ends p c (k - start p c) < ends p j u = rw (o .2) at z in
                 rw (x, y) (omega (arith, at-time k l r, ap late′ w))
@@ -195,24 +180,24 @@ module _ (p : Plan) (ok : Accepted p) where
                 let w : action p j i .spawn ≡ suc d = rw (q, r) at (spawned-there p ok d h b .1) in
                 let n : d ≡ c = omega arith in
                 let v = s .came (start p c + a) t (omega (arith, laid .firsts c (omega arith)))
-                (omega (arith, laid .firsts (suc c) (omega arith), start-suc p c (o .1), rw n at l)) (target-of plan p laid c a (o .1) (rw n at l) ∙ rw n at g) in
+                (omega (arith, laid .firsts (suc c) (omega arith), start-suc p c (o .1), rw n at l)) (laid-target plan p laid c (o .1) a (rw n at l) ∙ rw n at g) in
                 rw n (omega (arith, child-time c a (o .0) (o .1) (o .2) (o .3) (rw n at l)))
 
-      pub pass-given : PassGiven (start p j + i) (start p j) done′ plan time′
+      pass-given : PassGiven (start p j + i) (start p j) done′ plan time′
       pass-given = record {
         fits = omega (arith, place-below p j i known within, total-range p ok);
         child = λ c e.
-            let s : action p j i .spawn ≡ suc c = sym (child-of plan p laid j i known within) ∙ e in
+            let s : action p j i .spawn ≡ suc c = sym (laid-child plan p laid j known i within) ∙ e in
             (omega (arith, once c s, jobs-range p ok), child-given c s);
       }
 
-      pub pass-next : Passed (start p j + i) (start p j) done′ plan time′ late late′ → Midway p j (suc i) done′ time′ late′
+      pass-next : Passed (start p j + i) (start p j) done′ plan time′ late late′ → Midway p j (suc i) done′ time′ late′
       pass-next r = by (action p j i .spawn) refl
         where
           by : (v : ℕ) → action p j i .spawn ≡ v → Midway p j (suc i) done′ time′ late′
-          by (suc c) e = next-child c e (r .child c (child-of plan p laid j i known within ∙ e))
+          by (suc c) e = next-child c e (r .child c (laid-child plan p laid j known i within ∙ e))
           by zero e =
-              let s = r .none (child-of plan p laid j i known within ∙ e) in
+              let s = r .none (laid-child plan p laid j known i within ∙ e) in
               next-midway (λ k. omega (arith, s k)) (λ q t h b. omega (arith, s (start p q + t), m .lates q t h b))
               (λ d a t h b q w l g.
               let z : action p j i .spawn ≡ suc d = rw (q, w) at (spawned-there p ok d h b .1) in
@@ -281,11 +266,6 @@ module _ (jobs : ℕ) (plan : List ℕ) (p : Plan) (g : PlanOf jobs plan p) (j f
         long = (l, n);
         above = rw e t;
       }
-
-pub zeros-at : (n k : ℕ) → _≡_ {A = ℕ} (getD (replicate n 0) k 0) 0
-zeros-at zero k = refl
-zeros-at (suc n) zero = refl
-zeros-at (suc n) (suc k) = zeros-at n k
 
 -- the root's time is T∞
 pub root-longest : (p : Plan) → Accepted p → (most : ℕ) → most + begins p 0 ≡ ends p 0 (size p 0 - 1) → most ≡ longest p

@@ -6,7 +6,8 @@ use lib.ListN.{length}
 use Rattle.plan.specs.Plan.{Plan, size}
 use Rattle.plan_measure.specs.Times.{at, ends, begins, PlanOf, TimedFrom, JobTimed}
 use Rattle.plan.proofs.Laws.Valid.{jobs-range}
-use Rattle.plan_measure.proofs.Laws.Clock.{timed-none, job-given, zeros-at, root-longest}
+use Rattle.plan.proofs.Laws.Lists.{zeros-at}
+use Rattle.plan_measure.proofs.Laws.Clock.{timed-none, job-given, root-longest}
 use Rattle.plan_measure.proofs.longest.Statement.{statement}
 use Rattle.plan_measure.proofs.longest.Tie as tie
 

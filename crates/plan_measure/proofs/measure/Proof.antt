@@ -18,13 +18,13 @@ enum-known-jobs : tie.Need-enum-known-jobs
 enum-known-jobs c = search needs
 
 -- what was read
-read : (c : tie.After-jobs)
+plan-read : (c : tie.After-jobs)
     → let r = c .before .before .read-into in
     ReadPlan (now (c .before .before .before .before .before .before .args .bytes)) (c .jobs .given .0 .0) (c .jobs .given .0 .1 .0) (r .last .1 .0) (r .last .1 .1 .0)
-read c = found-plan _ _ _ _ (c .before .before .read-into .ensures) _ _ (c .jobs .given .1)
+plan-read c = found-plan _ _ _ _ (c .before .before .read-into .ensures) _ _ (c .jobs .given .1)
 
 measure-read-requires : tie.Need-measure-read-requires
-measure-read-requires c κs = let g = read (c .before .before) in (g .is, g .held)
+measure-read-requires c κs = let g = plan-read (c .before .before) in (g .is, g .held)
 
 returns : tie.Need-returns
 returns c =
@@ -33,7 +33,7 @@ returns c =
 
 returns-2 : tie.Need-returns-2
 returns-2 c =
-    let g = read (c .before .before .before) in
+    let g = plan-read (c .before .before .before) in
     measures-read _ (g .is) _ (g .read) (c .measure-read .ensures (g .is) (g .held))
 
 pub measure-spec : {M : Type 1} → statement M

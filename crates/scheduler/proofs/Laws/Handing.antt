@@ -1,6 +1,5 @@
 -- What the runner is handed, number by number, is the plan that was read.
 --   handed-none, handed-more == copying, one number after the other
---   handed-few               == a plan that was read has few jobs and actions
 --   handed-loaded            == the copies hold it
 use Prim.Native.Nat.{ℕ, suc, _+_, _≤_, _<_}
 use mathlib.Core.Path.{_≡_, refl, sym, _∙_}
@@ -42,12 +41,6 @@ starts-by o [] (x ∷ l) h g = let e : x ≡ o = omega (arith, g 0 (omega arith)
 starts-by o (b ∷ bs) (x ∷ l) h g =
     let e : x ≡ o = omega (arith, g 0 (omega arith)) in
     rw (e, starts-by (o + length (b .actions)) bs l (le-of-suc-le-suc h) (λ j u. omega (arith, g (suc j) (omega arith))))
-
-module _ (jobs actions : ℕ) (plan missing : List ℕ) (p : Plan) (g : RunIn jobs actions plan missing p) where
-  pub handed-few : (jobs ≤ 256) × (actions ≤ 2048)
-  handed-few =
-      let s = g .holds in
-      omega (arith, s .count, s .all, jobs-range p (s .planned .rules), total-range p (s .planned .rules))
 
 module _ (jobs actions : ℕ) (plan missing : List ℕ) (p : Plan) (g : RunIn jobs actions plan missing p) (frame first spawn join parent : List ℕ)
     (a : JobsHanded jobs plan frame first parent) (b : ActionsHanded actions plan spawn join) where

@@ -13,7 +13,7 @@ use lib.ListN.{length, getD, replicate}
 use Rattle.plan.specs.Test.{both, count}
 use Rattle.plan.specs.Plan.{Plan, Placed, size, action, placed, noPlaced, parent, spawnAt, enters, entering}
 use Rattle.plan.specs.Rules.{Accepted}
-use Rattle.plan.proofs.Laws.Lists.{both-intro, both-left, both-right, false-of}
+use Rattle.plan.proofs.Laws.Lists.{both-intro, both-left, both-right, false-of, zeros-at}
 use Rattle.plan.proofs.Laws.Counts.{decT, equal-tests, count-hit, count-miss, count-none}
 use Rattle.plan.proofs.Laws.Placed.{start, placed-length, placed-at, placed-of, place-below}
 use Rattle.plan.proofs.Laws.Valid.{few-enter, join-target}
@@ -81,15 +81,10 @@ module _ (p : Plan) where
   missing-start j i =
       agree (unsent p (replicate (length p) 0) j i) (enters p j i) noPlaced (placed p) (λ k h. each (getD (placed p) k noPlaced))
     where
-      none : (n k : ℕ) → getD {A = ℕ} (replicate n 0) k 0 ≡ 0
-      none zero k = refl
-      none (suc n) zero = refl
-      none (suc n) (suc k) = none n k
-
       each : (a : Placed) → unsent p (replicate (length p) 0) j i a ≡ enters p j i a
       each a =
           equal-tests _ _ (λ t. both-left (enters p j i a) _ t)
-          (λ n t. n (both-intro (enters p j i a) _ t (le→leb _ (a .position) (rw (none (length p) (a .job)) (omega arith)))))
+          (λ n t. n (both-intro (enters p j i a) _ t (le→leb _ (a .position) (rw (zeros-at (length p) (a .job)) (omega arith)))))
 
   module _ (ok : Accepted p) (done : List ℕ) (j i : ℕ) where
     -- where none is missing, each action that sends one is done

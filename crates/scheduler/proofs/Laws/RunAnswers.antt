@@ -36,7 +36,7 @@ pub read-runs : (bytes : List ℕ) (jobs actions : ℕ) (plan entering : List �
 read-runs bytes jobs actions plan entering g = record { holds = g .held; entered = g .entered; long = g .whole }
 
 -- what is answered to the bytes; where there was no run the claim says nothing
-abbrev pub Answers : List ℕ → ℕ → List ℕ → List ℕ → Ran → List ℕ → Type 0
+abbrev Answers : List ℕ → ℕ → List ℕ → List ℕ → Ran → List ℕ → Type 0
 Answers bytes n choices before r after =
     (_≡_ {A = Result} (record { answer = ranOf r; schedule = after }) (runInto bytes n choices before)) × Claimed bytes n choices r after
 

@@ -1,6 +1,7 @@
 -- `run::run_read` meets its contract: the copies hold the plan that the array holds.
 use mathlib.Core.Path.{refl}
-use Rattle.scheduler.proofs.Laws.Handing.{handed-few, handed-loaded}
+use Rattle.plan.proofs.Laws.Found.{counts-few}
+use Rattle.scheduler.proofs.Laws.Handing.{handed-loaded}
 use borrow.Author.Needs.{needs}
 use Rattle.scheduler.proofs.run.run_read.Statement.{statement}
 use Rattle.scheduler.proofs.run.run_read.Tie as tie
@@ -8,12 +9,12 @@ use Rattle.scheduler.proofs.run.run_read.Tie as tie
 hand-jobs-requires : tie.Need-hand-jobs-requires
 hand-jobs-requires c κs =
     let (p, g) = c .before .before .before .before .before .pre in
-    (handed-few _ _ _ _ p g .0, refl, refl, refl)
+    (counts-few _ _ _ p (g .holds) .0, refl, refl, refl)
 
 hand-actions-requires : tie.Need-hand-actions-requires
 hand-actions-requires c κs =
     let (p, g) = c .before .before .before .before .before .before .before .before .pre in
-    (handed-few _ _ _ _ p g .1, refl, refl)
+    (counts-few _ _ _ p (g .holds) .1, refl, refl)
 
 run-loaded-requires : tie.Need-run-loaded-requires
 run-loaded-requires c κs =
