@@ -129,7 +129,7 @@ rowsFrom-at o (b ∷ bs) (suc j) i n h l e =
     (rowsFrom-at (suc o) bs j i n (le-of-suc-le-suc h) l (omega arith))
 
 -- the row of action i of job j
-pub row-at : (p : Plan) (j i : ℕ) → j < length p → i < size p j
+row-at : (p : Plan) (j i : ℕ) → j < length p → i < size p j
     → getD (rowsFrom 0 p) (start p j + i) noRow ≡ rowOf j (job p j .frame) (action p j i)
 row-at p j i h b = rowsFrom-at 0 p j i j h b (zero-add j)
 

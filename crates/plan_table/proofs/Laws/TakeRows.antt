@@ -3,7 +3,7 @@
 --   row-begins     == the array has the place where the job of the next row begins
 --   rows-none, rows-more, rows-all == what the array has before the first row, with one row more, and after the last
 use Prim.Native.Nat.{ℕ, zero, suc, _+_, _-_, _*_, _/_, _≤_, _<_}
-use mathlib.Core.Path.{_≡_, refl, ap, sym, _∙_}
+use mathlib.Core.Path.{_≡_, ap, sym, _∙_}
 use mathlib.Core.Logic.{_≢_}
 use mathlib.Core.Bool.{Bool, true, false}
 use mathlib.Core.List.{List}
@@ -11,19 +11,22 @@ use native.Mathlib.Omega.{arith}
 use native.Mathlib.Nat.{not-suc-le-zero}
 use native.Mathlib.Numerals.{add-one}
 use native.Mathlib.Decide.{decLt, ℕ-discrete}
-use lib.ListN.{length, getD, set, replicate, length-set}
+use lib.ListN.{length, getD, length-set}
 use lib.Seq.{getD-set-same, getD-set-other}
 use lib.Dec.{T}
+use borrow.Author.Count.{below-more}
 use Rattle.plan.specs.declared.refusal.Refusal.{Refusal}
 use Rattle.plan.specs.declared.refusal.Refusal.the-variants.{Range}
 use Rattle.plan_table.specs.declared.rows.Jobs.{Jobs as Counted}
 use Rattle.plan_table.specs.declared.rows.Jobs.the-variants.{Refused, Count}
-use Rattle.plan.specs.Plan.{job, total, placed, noPlaced}
+use Rattle.plan.specs.Plan.{total, placed, noPlaced}
 use Rattle.plan.specs.Rules.{inRange}
-use Rattle.plan.specs.Sheet.{childAt, targetAt, frameOf, firstOf, jobAt, withAction, Blank, LaidIn}
+use Rattle.plan.specs.Sheet.{childAt, targetAt, frameOf, firstOf, jobAt, withAction, withFrame, withFirst, Blank, LaidIn}
 use Rattle.plan_table.specs.Table.{Row, rowsOf, planOf}
 use Rattle.plan_table.specs.GivenRows.{rowAt, TableKept, RowFits, begun, RowsTaken, RowTaken, Taken}
+use Rattle.plan.proofs.Laws.Lists.{zeros-at}
 use Rattle.plan.proofs.Laws.Placed.{start, start-suc, start-all, start-rises}
+use Rattle.plan.proofs.Laws.Sheets.{action-kept, action-there}
 use Rattle.plan.proofs.Laws.Spawning.{jobs-in-range}
 use Rattle.plan_table.proofs.Laws.Rows.{rowPlaced, filled-at}
 use Rattle.plan_table.proofs.Laws.RowsInRange.{
@@ -78,82 +81,43 @@ pub begun-last : (t : List ℕ) (k : ℕ) → 1 ≤ k → begun t k ≡ getD t (
 begun-last t zero h = absurd (not-suc-le-zero h)
 begun-last t (suc k) h = let e : 4 * suc k - 4 ≡ 4 * k = omega arith in rw (e, add-one)
 
--- the array that a row is taken over into, store by store
-
-abbrev framed : List ℕ → Row → List ℕ
-framed plan a = set plan (4096 + a .job) (a .frame)
-
-abbrev ended : List ℕ → ℕ → Row → List ℕ
-ended plan k a = set (framed plan a) (4352 + (a .job + 1)) (k + 1)
-
-abbrev spawning : List ℕ → ℕ → Row → List ℕ
-spawning plan k a = set (ended plan k a) k (a .spawn)
-
-abbrev sending : List ℕ → ℕ → Row → List ℕ
-sending plan k a = set (spawning plan k a) (2048 + k) (a .join)
-
-abbrev pub taken : List ℕ → ℕ → Row → List ℕ
-taken plan k a = withAction (ended plan k a) k (a .job) (a .spawn) (a .join)
+-- the array with one row more: its job's frame, the place behind it, and its action
 
 module _ (plan : List ℕ) (k : ℕ) (a : Row) where
-  -- what is stored before the action's own numbers
-  behind : (i : ℕ) → i ≢ k → i ≢ 2048 + k → i ≢ 5121 + k → getD (taken plan k a) i 0 ≡ getD (ended plan k a) i 0
-  behind i w x y =
-      getD-set-other (sending plan k a) (5121 + k) i (a .job) 0 y ∙ getD-set-other (spawning plan k a) (2048 + k) i (a .join) 0 x
-      ∙ getD-set-other (ended plan k a) k i (a .spawn) 0 w
+  abbrev framed : List ℕ
+  framed = withFrame plan (a .job) (a .frame)
 
-  elsewhere : (i : ℕ) → i ≢ 4096 + a .job → i ≢ 4352 + (a .job + 1) → i ≢ k → i ≢ 2048 + k → i ≢ 5121 + k
-      → getD (taken plan k a) i 0 ≡ getD plan i 0
-  elsewhere i u v w x y =
-      behind i w x y ∙ getD-set-other (framed plan a) (4352 + (a .job + 1)) i (k + 1) 0 v ∙ getD-set-other plan (4096 + a .job) i (a .frame) 0 u
+  abbrev ended : List ℕ
+  ended = withFirst framed (a .job + 1) (k + 1)
 
-  ended-length : length (ended plan k a) ≡ length plan
-  ended-length = rw (length-set, length-set)
+  abbrev taken : List ℕ
+  taken = withAction ended k (a .job) (a .spawn) (a .join)
 
-  sending-length : length (sending plan k a) ≡ length plan
-  sending-length = rw (length-set, length-set, ended-length)
-
-  taken-length : length (taken plan k a) ≡ length plan
-  taken-length = rw (length-set, sending-length)
+  -- a place that none of them is written to
+  elsewhere : (i : ℕ) → (i ≢ k) × (i ≢ 2048 + k) × (i ≢ 4096 + a .job) × (i ≢ 4352 + (a .job + 1)) × (i ≢ 5121 + k)
+      → getD taken i 0 ≡ getD plan i 0
+  elsewhere i n =
+      action-kept ended k (a .job) (a .spawn) (a .join) i (n .0) (n .1) (n .4)
+      ∙ getD-set-other framed (4352 + (a .job + 1)) i (k + 1) 0 (n .3) ∙ getD-set-other plan (4096 + a .job) i (a .frame) 0 (n .2)
 
   module _ (long : length plan ≡ 9217) (few : k < 2048) (small : a .job < 256) where
-    frame-there : frameOf (taken plan k a) (a .job) ≡ a .frame
+    frame-there : frameOf taken (a .job) ≡ a .frame
     frame-there =
-        behind (4096 + a .job) (λ e. omega arith) (λ e. omega arith) (λ e. omega arith)
-        ∙ getD-set-other (framed plan a) (4352 + (a .job + 1)) (4096 + a .job) (k + 1) 0 (λ e. omega arith)
+        action-kept ended k (a .job) (a .spawn) (a .join) (4096 + a .job) (omega arith) (omega arith) (omega arith)
+        ∙ getD-set-other framed (4352 + (a .job + 1)) (4096 + a .job) (k + 1) 0 (omega arith)
         ∙ getD-set-same plan (4096 + a .job) (a .frame) 0 (omega arith)
 
-    first-there : firstOf (taken plan k a) (suc (a .job)) ≡ suc k
+    first-there : firstOf taken (suc (a .job)) ≡ suc k
     first-there =
         rw (← add-one (a .job), ← add-one k)
-        (behind (4352 + (a .job + 1)) (λ e. omega arith) (λ e. omega arith) (λ e. omega arith)
-        ∙ getD-set-same (framed plan a) (4352 + (a .job + 1)) (k + 1) 0 (rw length-set (omega arith)))
+        (action-kept ended k (a .job) (a .spawn) (a .join) (4352 + (a .job + 1)) (omega arith) (omega arith) (omega arith)
+        ∙ getD-set-same framed (4352 + (a .job + 1)) (k + 1) 0 (rw length-set (omega arith)))
 
-    child-there : childAt (taken plan k a) k ≡ a .spawn
-    child-there =
-        getD-set-other (sending plan k a) (5121 + k) k (a .job) 0 (λ e. omega arith)
-        ∙ getD-set-other (spawning plan k a) (2048 + k) k (a .join) 0 (λ e. omega arith)
-        ∙ getD-set-same (ended plan k a) k (a .spawn) 0 (omega (arith, ended-length))
-
-    target-there : targetAt (taken plan k a) k ≡ a .join
-    target-there =
-        getD-set-other (sending plan k a) (5121 + k) (2048 + k) (a .job) 0 (λ e. omega arith)
-        ∙ getD-set-same (spawning plan k a) (2048 + k) (a .join) 0 (rw (length-set, ended-length) (omega arith))
-
-    owner-there : jobAt (taken plan k a) k ≡ a .job
-    owner-there = getD-set-same (sending plan k a) (5121 + k) (a .job) 0 (omega (arith, sending-length))
+    row-there : (childAt taken k ≡ a .spawn) × (targetAt taken k ≡ a .join) × (jobAt taken k ≡ a .job)
+    row-there = action-there ended k (a .job) (a .spawn) (a .join) (rw (length-set, length-set) long) few
 
 below-suc : (P : ℕ → Type 0) (k : ℕ) → ((i : ℕ) → i < k → P i) → P k → (i : ℕ) → i < suc k → P i
-below-suc P k f x i h = go (ℕ-discrete i k)
-  where
-    go : Dec (i ≡ k) → P i
-    go (yes e) = rw e x
-    go (no n) = f i (omega arith)
-
-zeros : (n k : ℕ) → _≡_ {A = ℕ} (getD (replicate n 0) k 0) 0
-zeros zero k = refl
-zeros (suc n) zero = refl
-zeros (suc n) (suc k) = zeros n k
+below-suc P k f x i h = below-more P k f x i (omega arith)
 
 pub rows-none : (t plan : List ℕ) → TableKept t → length t / 4 ≤ 2048 → Blank plan → RowsTaken t 0 plan
 rows-none t plan g h e =
@@ -164,11 +128,11 @@ rows-none t plan g h e =
       fit = λ i h. absurd (not-suc-le-zero h);
       frames = λ j h. absurd (not-suc-le-zero h);
       firsts = λ j h. absurd (not-suc-le-zero h);
-      end = rw e (zeros 9217 4352);
+      end = rw e (zeros-at 9217 4352);
       owners = λ i h. absurd (not-suc-le-zero h);
       children = λ i h. absurd (not-suc-le-zero h);
       targets = λ i h. absurd (not-suc-le-zero h);
-      unspawned = λ c h. rw e (zeros 9217 (4865 + c));
+      unspawned = λ c h. rw e (zeros-at 9217 (4865 + c));
     }
 
 module _ {t : List ℕ} {k : ℕ} {plan : List ℕ} (g : RowsTaken t k plan) (h : k < length t / 4) where
@@ -184,36 +148,26 @@ module _ {t : List ℕ} {k : ℕ} {plan : List ℕ} (g : RowsTaken t k plan) (h 
 
   pub rows-more : RowFits (planOf (rowsOf t)) (rowAt t (4 * k)) k → RowsTaken t (suc k) (taken plan k (rowAt t (4 * k)))
   rows-more f =
-      let p = planOf (rowsOf t) in
       let a = rowAt t (4 * k) in
       let b : k < 2048 = omega (arith, g .few) in
       let s = table-sits (g .kept) k h in
       let r = row-next (g .kept) k h in
-      let m = g .long in
-      let w = f .few in
+      let same = elsewhere plan k a in
+      let z = row-there plan k a (g .long) b (f .few) in
       record {
         kept = g .kept;
         few = g .few;
-        long = taken-length plan k a ∙ m;
-        fit = below-suc (λ i. RowFits p (rowAt t (4 * i)) i) k (g .fit) f;
-        frames = below-suc (λ j. frameOf (taken plan k a) j ≡ job p j .frame) (a .job)
-            (λ j l. elsewhere plan k a (4096 + j) (λ e. omega arith) (λ e. omega arith) (λ e. omega arith) (λ e. omega arith) (λ e. omega arith) ∙ g .frames j (omega (arith, r .0)))
-            (frame-there plan k a m b w ∙ s .frame);
+        long = rw (length-set, length-set, length-set, length-set, length-set) (g .long);
+        fit = below-suc _ k (g .fit) f;
+        frames = below-suc _ (a .job) (λ j l. same (4096 + j) (omega arith) ∙ g .frames j (omega (arith, r .0)))
+            (frame-there plan k a (g .long) b (f .few) ∙ s .frame);
         firsts = λ j l.
-            elsewhere plan k a (4352 + j) (λ e. omega arith) (λ e. omega arith) (λ e. omega arith) (λ e. omega arith) (λ e. omega arith)
-            ∙ below-suc (λ j. firstOf plan j ≡ start p j) (a .job) (λ j l. g .firsts j (omega (arith, r .0))) (row-begins .0) j l;
-        end = first-there plan k a m b w;
-        owners = below-suc (λ i. jobAt (taken plan k a) i ≡ rowAt t (4 * i) .job) k
-            (λ i l. elsewhere plan k a (5121 + i) (λ e. omega arith) (λ e. omega arith) (λ e. omega arith) (λ e. omega arith) (λ e. omega arith) ∙ g .owners i l)
-            (owner-there plan k a m b w);
-        children = below-suc (λ i. childAt (taken plan k a) i ≡ rowAt t (4 * i) .spawn) k
-            (λ i l. elsewhere plan k a i (λ e. omega arith) (λ e. omega arith) (λ e. omega arith) (λ e. omega arith) (λ e. omega arith) ∙ g .children i l)
-            (child-there plan k a m b w);
-        targets = below-suc (λ i. targetAt (taken plan k a) i ≡ rowAt t (4 * i) .join) k
-            (λ i l. elsewhere plan k a (2048 + i) (λ e. omega arith) (λ e. omega arith) (λ e. omega arith) (λ e. omega arith) (λ e. omega arith) ∙ g .targets i l)
-            (target-there plan k a m b w);
-        unspawned = λ c l.
-            elsewhere plan k a (4865 + c) (λ e. omega arith) (λ e. omega arith) (λ e. omega arith) (λ e. omega arith) (λ e. omega arith) ∙ g .unspawned c l;
+            same (4352 + j) (omega arith) ∙ below-suc _ (a .job) (λ j l. g .firsts j (omega (arith, r .0))) (row-begins .0) j l;
+        end = first-there plan k a (g .long) b (f .few);
+        owners = below-suc _ k (λ i l. same (5121 + i) (omega arith) ∙ g .owners i l) (z .2);
+        children = below-suc _ k (λ i l. same i (omega arith) ∙ g .children i l) (z .0);
+        targets = below-suc _ k (λ i l. same (2048 + i) (omega arith) ∙ g .targets i l) (z .1);
+        unspawned = λ c l. same (4865 + c) (omega arith) ∙ g .unspawned c l;
       }
 
 -- by the answer

@@ -19,9 +19,10 @@ use Rattle.fields.specs.Field.{bitsOf}
 use Rattle.plan_writer.specs.Writer.{numberBits, actionsBits, jobsBits, planBits}
 use Rattle.plan.specs.Sheet.{childAt, targetAt, frameOf, firstOf, jobAt, Laid, PlanIn}
 use Rattle.plan_writer.specs.ActionBits.{openingBits, actionBits, Writable}
-use Rattle.plan.proofs.Laws.Placed.{start, start-suc, placed-at, placed-of, place-below}
-use Rattle.plan.proofs.Laws.Spawning.{jobs-in-range, size-in-range, total-in-range}
-use Rattle.plan.proofs.Laws.Valid.{small-numbers}
+use Rattle.plan.proofs.Laws.Found.{counts-few}
+use Rattle.plan.proofs.Laws.Laid.{laid-end, laid-child, laid-target}
+use Rattle.plan.proofs.Laws.Placed.{start, placed-at, placed-of, place-below}
+use Rattle.plan.proofs.Laws.Valid.{size-range, small-numbers}
 use Rattle.plan_writer.proofs.Laws.Numbers.{number-few}
 
 abbrev pub upTo : (ℕ → List ℕ) → ℕ → List ℕ
@@ -140,21 +141,15 @@ module _ {p : Plan} {jobs actions : ℕ} {plan : List ℕ} (g : PlanIn jobs acti
   laid : Laid plan p
   laid = g .planned .laid
 
-  pub plan-bounds : (jobs ≤ 256) × (actions ≤ 2048)
-  plan-bounds = (rw (g .count) (jobs-in-range p (laid .range) .1), rw (g .all) (total-in-range p (laid .range) .1))
-
   -- what the array holds at the place of action i of job j
   numbers-at : (j i : ℕ) → j < length p → i < size p j → numbersAt plan (start p j + i) ≡ numbers (action p j i)
-  numbers-at j i h b =
-      let l = place-below p j i h b in
-      rw (laid .children (start p j + i) l, laid .targets (start p j + i) l, placed-at p j i h b)
+  numbers-at j i h b = rw (laid-child plan p laid j h i b, laid-target plan p laid j h i b)
 
   opening-at : (j i : ℕ) → j < length p → openingBits plan j (start p j + i) ≡ opening (job p j) i
   opening-at j zero h =
       let a = laid .firsts j (omega arith) in
-      let b = laid .firsts (suc j) h in
-      let d : start p (suc j) - start p j ≡ size p j = omega (arith, start-suc p j h) in
-      rw (opening-first plan j (start p j + 0) (omega arith), add-one, b, a, d, laid .frames j h)
+      let d : start p j + size p j - start p j ≡ size p j = omega arith in
+      rw (opening-first plan j (start p j + 0) (omega arith), laid-end plan p laid j h, a, d, laid .frames j h)
   opening-at j (suc i) h = opening-later plan j (start p j + suc i) (omega (arith, laid .firsts j (omega arith)))
 
   action-at : (j i : ℕ) → j < length p → i < size p j → actionBits plan (start p j + i) ≡ added p j i
@@ -172,7 +167,7 @@ module _ {p : Plan} {jobs actions : ℕ} {plan : List ℕ} (g : PlanIn jobs acti
   pub plan-upTo : planBits p ≡ bitsOf 8 1 ++ (bitsOf 9 jobs ++ upTo (actionBits plan) actions)
   unfolding planBits
   plan-upTo =
-      let u = jobs-upTo (actionBits plan) 0 p (λ j h. size-in-range p (laid .range) j h .0) (λ j i h b. rw zero-add (action-at j i h b)) in
+      let u = jobs-upTo (actionBits plan) 0 p (λ j h. size-range p (g .planned .rules) j h .0) (λ j i h b. rw zero-add (action-at j i h b)) in
       rw (g .all, g .count, rw zero-add at u)
 
   pub plan-room : (n : ℕ) → (length (planBits p) + 7) / 8 ≤ n → 17 + length (upTo (actionBits plan) actions) ≤ 8 * n
@@ -185,15 +180,15 @@ module _ {p : Plan} {jobs actions : ℕ} {plan : List ℕ} (g : PlanIn jobs acti
       let o = laid .owners k l in
       let j = getD (placed p) k noPlaced .job in
       let a = laid .firsts j (omega (arith, s .known)) in
-      let b = laid .firsts (suc j) (s .known) in
-      let c = start-suc p j (s .known) in
-      let z = size-in-range p (laid .range) j (s .known) in
+      let b = laid-end plan p laid j (s .known) in
+      let z = size-range p (g .planned .rules) j (s .known) in
+      let c = counts-few jobs actions plan p g in
       let n = small-numbers p (g .planned .rules) j (getD (placed p) k noPlaced .position) (s .known) (s .within) in
       record {
-        place = omega (arith, plan-bounds);
-        owner = omega (arith, o, s .known, jobs-in-range p (laid .range));
-        rises = rw (o, add-one, a, b) (omega arith);
-        few = rw (o, add-one, a, b) (omega arith);
+        place = omega arith;
+        owner = omega (arith, o, s .known, g .count);
+        rises = rw (o, a, b) (omega arith);
+        few = rw (o, a, b) (omega arith);
         child = omega (arith, laid .children k l, s .spawn, n);
         target = omega (arith, laid .targets k l, s .join, n);
       }

@@ -5,7 +5,8 @@ use native.Mathlib.Omega.{arith}
 use borrow.Author.Needs.{needs}
 use lib.ListN.{length}
 use Rattle.plan_writer.specs.Writer.{numberBits}
-use Rattle.plan_writer.proofs.Laws.PlanBits.{upTo, numbersAt, numbers-few, numbers-more, plan-bounds, plan-count}
+use Rattle.plan.proofs.Laws.Found.{counts-few}
+use Rattle.plan_writer.proofs.Laws.PlanBits.{upTo, numbersAt, numbers-few, numbers-more, plan-count}
 use Rattle.plan_writer.proofs.plan_bits.Statement.{statement}
 use Rattle.plan_writer.proofs.plan_bits.Tie as tie
 
@@ -16,13 +17,13 @@ abbrev μ-loop : tie.MeasureT-loop
 μ-loop jobs actions plan bits₀ k₀ bits k = actions - k
 
 mul-bits : tie.Need-mul-bits Inv-loop μ-loop
-mul-bits c = omega (arith, plan-bounds (c .pre .1))
+mul-bits c = omega (arith, counts-few _ _ _ _ (c .pre .1))
 
 add-bits : tie.Need-add-bits Inv-loop μ-loop
-add-bits c = omega (arith, plan-bounds (c .pre .1))
+add-bits c = omega (arith, counts-few _ _ _ _ (c .pre .1))
 
 loop-holds : tie.Need-loop-holds Inv-loop μ-loop
-loop-holds c = omega (arith, plan-bounds (c .pre .1))
+loop-holds c = omega (arith, counts-few _ _ _ _ (c .pre .1))
 
 child-at-requires : tie.Need-child-at-requires Inv-loop μ-loop
 child-at-requires c κs = omega arith
