@@ -5,7 +5,7 @@ use mathlib.Core.List.{List}
 use native.Mathlib.Numerals.{add-one}
 use lib.ListN.{length}
 use Rattle.plan.specs.Plan.{Plan, size, action}
-use Rattle.plan.specs.Sheet.{childAt, targetAt, firstOf, Laid}
+use Rattle.plan.specs.Sheet.{childAt, targetAt, jobAt, firstOf, Laid}
 use Rattle.plan.proofs.Laws.Placed.{start, placed-at, place-below, start-suc}
 
 module _ (plan : List ℕ) (p : Plan) (g : Laid plan p) (j : ℕ) (h : j < length p) where
@@ -13,6 +13,9 @@ module _ (plan : List ℕ) (p : Plan) (g : Laid plan p) (j : ℕ) (h : j < lengt
   laid-end = ap (firstOf plan) (add-one j) ∙ g .firsts (suc j) h ∙ start-suc p j h
 
   module _ (i : ℕ) (b : i < size p j) where
+    pub laid-owner : jobAt plan (start p j + i) ≡ j
+    laid-owner = g .owners (start p j + i) (place-below p j i h b) ∙ ap (λ a. a .job) (placed-at p j i h b)
+
     pub laid-child : childAt plan (start p j + i) ≡ action p j i .spawn
     laid-child = g .children (start p j + i) (place-below p j i h b) ∙ ap (λ a. a .spawn) (placed-at p j i h b)
 

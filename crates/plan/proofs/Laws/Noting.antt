@@ -20,7 +20,7 @@ module _ (plan : List ℕ) (p : Plan) (g : Laid plan p) (c q x : ℕ) (h : c < l
 
   pub noted-parent : parentOf (withSpawner plan c q x) c ≡ q
   noted-parent =
-      getD-set-other (set plan (4609 + c) q) (4865 + c) (4609 + c) x 0 (λ e. omega arith)
+      getD-set-other (set plan (4609 + c) q) (4865 + c) (4609 + c) x 0 (omega arith)
       ∙ getD-set-same plan (4609 + c) q 0 (omega (arith, g .long, few))
 
   pub noted-spawn : spawnOf (withSpawner plan c q x) c ≡ x
@@ -30,8 +30,8 @@ module _ (plan : List ℕ) (p : Plan) (g : Laid plan p) (c q x : ℕ) (h : c < l
   -- the parents and spawns of other jobs
   pub noted-other : (d : ℕ) → d < length p → d ≢ c → (parentOf (withSpawner plan c q x) d ≡ parentOf plan d) × (spawnOf (withSpawner plan c q x) d ≡ spawnOf plan d)
   noted-other d b n = (
-    elsewhere (4609 + d) (λ e. n (omega arith)) (λ e. omega (arith, few)),
-    elsewhere (4865 + d) (λ e. omega (arith, few)) (λ e. n (omega arith)),
+    elsewhere (4609 + d) (λ e. n (omega arith)) (omega (arith, few)),
+    elsewhere (4865 + d) (omega (arith, few)) (λ e. n (omega arith)),
   )
 
   -- it has the same jobs and actions
@@ -40,9 +40,9 @@ module _ (plan : List ℕ) (p : Plan) (g : Laid plan p) (c q x : ℕ) (h : c < l
       record {
         long = length-set (set plan (4609 + c) q) (4865 + c) x ∙ length-set plan (4609 + c) q ∙ g .long;
         range = g .range;
-        frames = λ j b. elsewhere (4096 + j) (λ e. omega (arith, few)) (λ e. omega (arith, few)) ∙ g .frames j b;
-        firsts = λ j b. elsewhere (4352 + j) (λ e. omega (arith, few)) (λ e. omega (arith, few)) ∙ g .firsts j b;
-        owners = λ k b. elsewhere (5121 + k) (λ e. omega (arith, few)) (λ e. omega (arith, few)) ∙ g .owners k b;
-        children = λ k b. elsewhere k (λ e. omega (arith, total-in-range p (g .range))) (λ e. omega (arith, total-in-range p (g .range))) ∙ g .children k b;
-        targets = λ k b. elsewhere (2048 + k) (λ e. omega (arith, total-in-range p (g .range))) (λ e. omega (arith, total-in-range p (g .range))) ∙ g .targets k b;
+        frames = λ j b. elsewhere (4096 + j) (omega (arith, few)) (omega (arith, few)) ∙ g .frames j b;
+        firsts = λ j b. elsewhere (4352 + j) (omega (arith, few)) (omega (arith, few)) ∙ g .firsts j b;
+        owners = λ k b. elsewhere (5121 + k) (omega (arith, few)) (omega (arith, few)) ∙ g .owners k b;
+        children = λ k b. elsewhere k (omega (arith, total-in-range p (g .range))) (omega (arith, total-in-range p (g .range))) ∙ g .children k b;
+        targets = λ k b. elsewhere (2048 + k) (omega (arith, total-in-range p (g .range))) (omega (arith, total-in-range p (g .range))) ∙ g .targets k b;
       }

@@ -56,17 +56,17 @@ actions-kept plan k j [] m h = refl
 actions-kept plan k j (x ∷ l) m h =
     let z = h 0 (omega arith) in
     actions-kept (withAction plan k j (x .spawn) (x .join)) (suc k) j l m
-    (λ i b. (λ e. h (suc i) (omega arith) .0 (omega arith), λ e. h (suc i) (omega arith) .1 (omega arith), λ e. h (suc i) (omega arith) .2 (omega arith)))
-    ∙ action-kept plan k j (x .spawn) (x .join) m (λ e. z .0 (omega arith)) (λ e. z .1 (omega arith)) (λ e. z .2 (omega arith))
+    (λ i b. omega (arith, h (suc i) (omega arith)))
+    ∙ action-kept plan k j (x .spawn) (x .join) m (omega (arith, z)) (omega (arith, z)) (omega (arith, z))
 
 -- what was written at place k
 pub action-there : (plan : List ℕ) (k j child target : ℕ) → length plan ≡ 9217 → k < 2048
     → (childAt (withAction plan k j child target) k ≡ child) × (targetAt (withAction plan k j child target) k ≡ target)
     × (jobAt (withAction plan k j child target) k ≡ j)
 action-there plan k j child target long h = (
-  getD-set-other (set (set plan k child) (2048 + k) target) (5121 + k) k j 0 (λ e. omega arith)
-      ∙ getD-set-other (set plan k child) (2048 + k) k target 0 (λ e. omega arith) ∙ getD-set-same plan k child 0 (omega arith),
-  getD-set-other (set (set plan k child) (2048 + k) target) (5121 + k) (2048 + k) j 0 (λ e. omega arith)
+  getD-set-other (set (set plan k child) (2048 + k) target) (5121 + k) k j 0 (omega arith)
+      ∙ getD-set-other (set plan k child) (2048 + k) k target 0 (omega arith) ∙ getD-set-same plan k child 0 (omega arith),
+  getD-set-other (set (set plan k child) (2048 + k) target) (5121 + k) (2048 + k) j 0 (omega arith)
       ∙ getD-set-same (set plan k child) (2048 + k) target 0 (rw length-set (omega arith)),
   getD-set-same (set (set plan k child) (2048 + k) target) (5121 + k) j 0 (rw (length-set, length-set) (omega arith)),
 )
@@ -79,9 +79,9 @@ actions-there plan k j (x ∷ l) zero long h b =
     let next = withAction plan k j (x .spawn) (x .join) in
     let z = action-there plan k j (x .spawn) (x .join) long (omega arith) in
     rw add-zero (
-      actions-kept next (suc k) j l k (λ i d. (λ e. omega arith, λ e. omega arith, λ e. omega arith)) ∙ z .0,
-      actions-kept next (suc k) j l (2048 + k) (λ i d. (λ e. omega arith, λ e. omega arith, λ e. omega arith)) ∙ z .1,
-      actions-kept next (suc k) j l (5121 + k) (λ i d. (λ e. omega arith, λ e. omega arith, λ e. omega arith)) ∙ z .2,
+      actions-kept next (suc k) j l k (λ i d. omega arith) ∙ z .0,
+      actions-kept next (suc k) j l (2048 + k) (λ i d. omega arith) ∙ z .1,
+      actions-kept next (suc k) j l (5121 + k) (λ i d. omega arith) ∙ z .2,
     )
 actions-there plan k j (x ∷ l) (suc i) long h b =
     let e : k + suc i ≡ suc k + i = omega arith in
@@ -136,7 +136,7 @@ module _ (plan : List ℕ) (p : Plan) (x : Job) (h : Begun plan p) (few : length
 
   -- a place among the jobs' numbers is none that an action is written to
   high : (m : ℕ) → 4096 ≤ m → m < 5121 → Apart (total p) (length (x .actions)) m
-  high m a b i d = (λ e. omega arith, λ e. omega arith, λ e. omega arith)
+  high m a b i d = omega arith
 
   frames′ : (j : ℕ) → j < length (p ++ (x ∷ [])) → frameOf new j ≡ job (p ++ (x ∷ [])) j .frame
   unfolding new rows framed
@@ -144,14 +144,14 @@ module _ (plan : List ℕ) (p : Plan) (x : Job) (h : Begun plan p) (few : length
     where
       go : Dec (j < length p) → frameOf new j ≡ job (p ++ (x ∷ [])) j .frame
       go (yes l) =
-          kept (4096 + j) (λ e. omega arith) (λ e. omega arith) (high (4096 + j) (omega arith) (omega arith))
+          kept (4096 + j) (omega arith) (omega arith) (high (4096 + j) (omega arith) (omega arith))
           ∙ h .frames j l ∙ ap (λ b. b .frame) (sym (List·getD-append p (x ∷ []) noJob j l))
       go (no n) =
           let e : j ≡ length p + 0 = omega (arith, length-append p (x ∷ [])) in
           let f : job (p ++ (x ∷ [])) j ≡ x = ap (λ i. job (p ++ (x ∷ [])) i) e ∙ getD-append-add p (x ∷ []) 0 noJob in
           let d : j ≡ length p = omega arith in
           rw (f, d)
-          (getD-set-other rows (4352 + (length p + 1)) (4096 + length p) (total p + length (x .actions)) 0 (λ e. omega arith)
+          (getD-set-other rows (4352 + (length p + 1)) (4096 + length p) (total p + length (x .actions)) 0 (omega arith)
           ∙ actions-kept framed (total p) (length p) (x .actions) (4096 + length p) (high (4096 + length p) (omega arith) (omega arith))
           ∙ getD-set-same plan (4096 + length p) (x .frame) 0 (omega (arith, h .long)))
 
@@ -165,7 +165,7 @@ module _ (plan : List ℕ) (p : Plan) (x : Job) (h : Begun plan p) (few : length
           let f : take j (p ++ (x ∷ [])) ≡ p ++ (x ∷ []) = take-all j (p ++ (x ∷ [])) (omega (arith, length-append p (x ∷ []))) in
           rw (f, e) (getD-set-same rows (4352 + (length p + 1)) (total p + length (x .actions)) 0 (omega (arith, long-rows)) ∙ omega (arith, total-append p (x ∷ [])))
       go (no n) =
-          kept (4352 + j) (λ e. omega arith) (λ e. omega arith) (high (4352 + j) (omega arith) (omega arith))
+          kept (4352 + j) (omega arith) (omega arith) (high (4352 + j) (omega arith) (omega arith))
           ∙ h .firsts j (omega arith) ∙ ap total (sym (take-append-le j p (x ∷ []) (omega arith)))
 
   -- the action at place k
@@ -187,9 +187,9 @@ module _ (plan : List ℕ) (p : Plan) (x : Job) (h : Begun plan p) (few : length
           let f = placedIn-at (length p) 0 (x .actions) i i small (omega arith) in
           let z = actions-there framed (total p) (length p) (x .actions) i (rw length-set (h .long)) room small in
           rw (e, f, here) (
-            getD-set-other rows (4352 + (length p + 1)) (5121 + (total p + i)) (total p + length (x .actions)) 0 (λ e. omega arith) ∙ z .2,
-            getD-set-other rows (4352 + (length p + 1)) (total p + i) (total p + length (x .actions)) 0 (λ e. omega arith) ∙ z .0,
-            getD-set-other rows (4352 + (length p + 1)) (2048 + (total p + i)) (total p + length (x .actions)) 0 (λ e. omega arith) ∙ z .1,
+            getD-set-other rows (4352 + (length p + 1)) (5121 + (total p + i)) (total p + length (x .actions)) 0 (omega arith) ∙ z .2,
+            getD-set-other rows (4352 + (length p + 1)) (total p + i) (total p + length (x .actions)) 0 (omega arith) ∙ z .0,
+            getD-set-other rows (4352 + (length p + 1)) (2048 + (total p + i)) (total p + length (x .actions)) 0 (omega arith) ∙ z .1,
           )
 
       go : Dec (k < total p) → Row k (getD (placed (p ++ (x ∷ []))) k noPlaced)
@@ -197,9 +197,9 @@ module _ (plan : List ℕ) (p : Plan) (x : Job) (h : Begun plan p) (few : length
           let e : getD (placed (p ++ (x ∷ []))) k noPlaced ≡ getD (placed p) k noPlaced
           = ap (λ q. getD q k noPlaced) all ∙ List·getD-append (placed p) (placedIn (length p) 0 (x .actions)) noPlaced k (omega (arith, placed-length p)) in
           rw e (
-            kept (5121 + k) (λ e. omega arith) (λ e. omega arith) (λ i d. (λ e. omega arith, λ e. omega arith, λ e. omega arith)) ∙ h .owners k l,
-            kept k (λ e. omega arith) (λ e. omega arith) (λ i d. (λ e. omega arith, λ e. omega arith, λ e. omega arith)) ∙ h .children k l,
-            kept (2048 + k) (λ e. omega arith) (λ e. omega arith) (λ i d. (λ e. omega arith, λ e. omega arith, λ e. omega arith)) ∙ h .targets k l,
+            kept (5121 + k) (omega arith) (omega arith) (λ i d. omega arith) ∙ h .owners k l,
+            kept k (omega arith) (omega arith) (λ i d. omega arith) ∙ h .children k l,
+            kept (2048 + k) (omega arith) (omega arith) (λ i d. omega arith) ∙ h .targets k l,
           )
       go (no n) = added (k - total p) (omega (arith, total-append p (x ∷ []))) (omega arith)
 
@@ -212,7 +212,7 @@ module _ (plan : List ℕ) (p : Plan) (x : Job) (h : Begun plan p) (few : length
     owners = λ k b. row k b .0;
     children = λ k b. row k b .1;
     targets = λ k b. row k b .2;
-    unspawned = λ c b. kept (4865 + c) (λ e. omega arith) (λ e. omega arith) (high (4865 + c) (omega arith) (omega arith)) ∙ h .unspawned c b;
+    unspawned = λ c b. kept (4865 + c) (omega arith) (omega arith) (high (4865 + c) (omega arith) (omega arith)) ∙ h .unspawned c b;
   }
 
 -- all jobs

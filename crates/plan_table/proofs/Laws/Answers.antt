@@ -19,12 +19,12 @@ use Rattle.plan_table.specs.GivenRows.{RowsGiven}
 use Rattle.plan.proofs.Laws.Lists.{true-of}
 use Rattle.plan_table.proofs.Laws.Rows.{table-length}
 
-pub written-short : (output : List ℕ) (n : ℕ) (buffer : List ℕ) → length buffer < length output
+written-short : (output : List ℕ) (n : ℕ) (buffer : List ℕ) → length buffer < length output
     → written output n buffer ≡ record { answer = refused 9; buffer = buffer }
 unfolding written
 written-short output n buffer h = rw (written, lt-leb _ _ h)
 
-pub written-whole : (output : List ℕ) (n : ℕ) (buffer : List ℕ) → length output ≤ length buffer
+written-whole : (output : List ℕ) (n : ℕ) (buffer : List ℕ) → length output ≤ length buffer
     → written output n buffer ≡ record { answer = accepted n; buffer = output ++ drop (length output) buffer }
 unfolding written
 written-whole output n buffer h = rw (written, le-leb _ _ h)

@@ -20,8 +20,8 @@ use Rattle.plan_writer.specs.Writer.{numberBits, actionsBits, jobsBits, 
 use Rattle.plan.specs.Sheet.{childAt, targetAt, frameOf, firstOf, jobAt, Laid, PlanIn}
 use Rattle.plan_writer.specs.ActionBits.{openingBits, actionBits, Writable}
 use Rattle.plan.proofs.Laws.Found.{counts-few}
-use Rattle.plan.proofs.Laws.Laid.{laid-end, laid-child, laid-target}
-use Rattle.plan.proofs.Laws.Placed.{start, placed-at, placed-of, place-below}
+use Rattle.plan.proofs.Laws.Laid.{laid-owner, laid-end, laid-child, laid-target}
+use Rattle.plan.proofs.Laws.Placed.{start, placed-of}
 use Rattle.plan.proofs.Laws.Valid.{size-range, small-numbers}
 use Rattle.plan_writer.proofs.Laws.Numbers.{number-few}
 
@@ -154,8 +154,7 @@ module _ {p : Plan} {jobs actions : ℕ} {plan : List ℕ} (g : PlanIn jobs acti
 
   action-at : (j i : ℕ) → j < length p → i < size p j → actionBits plan (start p j + i) ≡ added p j i
   action-at j i h b =
-      let e : jobAt plan (start p j + i) ≡ j = rw (placed-at p j i h b) at (laid .owners (start p j + i) (place-below p j i h b)) in
-      rw e (ap₂ (λ (x y : List ℕ). x ++ y) (opening-at j i h) (numbers-at j i h b))
+      rw (laid-owner plan p laid j h i b) (ap₂ (λ (x y : List ℕ). x ++ y) (opening-at j i h) (numbers-at j i h b))
 
   pub plan-count : length (planBits p) ≡ 17 + 24 * jobs + length (upTo (numbersAt plan) actions)
   unfolding planBits
