@@ -3,7 +3,7 @@
 --   Chains n key last earlier == the first n places lie in chains: `last` has of each key the latest place that has it, and
 --                                `earlier` of each place the one before it that has its key, each as a place plus 1 or 0
 --   Walk n key b Ok at        == on the way back along the chain of key b, among the first n places, those from `at` on are
---                                passed, each Ok; there the chain goes on
+--                                passed, each Ok; the chain goes on at the place before: `at` is a place plus 1, or 0 at its end
 use Prim.Native.Nat.{ℕ, suc, _≤_, _<_}
 use mathlib.Core.Path.{_≡_}
 use mathlib.Core.List.{List}

@@ -1,5 +1,4 @@
 -- What the test of a schedule's rules keeps from row to row. Private functions alone cite it.
---   word s k             == the 16 bits of row k in the schedule's bytes: its round, then its worker
 --   bucketOf stride w    == the bucket of a row by its 16 bits; two rows of one round and one worker lie in one bucket
 --   Later row k x        == row x is of a later round than row k
 --   InOrder p row k      == row k is of a later round than each action that the one at place k must follow
@@ -9,14 +8,10 @@
 --   Seen p m n row       == the first n rows are of workers below m and in order, and no two of one round and one worker
 use Prim.Native.Nat.{ℕ, _+_, _*_, _/_, _%_, _≤_, _<_}
 use mathlib.Core.Path.{_≡_}
-use mathlib.Core.List.{List}
 use lib.Dec.{T}
 use lib.ListN.{getD}
 use Rattle.plan.specs.Plan.{Plan, total, placed, noPlaced, enters}
 use Rattle.plan_measure.specs.Measure.{mustFollow}
-
-abbrev pub word : List ℕ → ℕ → ℕ
-word s k = getD s (4 + 2 * k) 0 * 256 + getD s (5 + 2 * k) 0
 
 abbrev pub bucketOf : ℕ → ℕ → ℕ
 bucketOf stride w = (w / 16 + w % 16 * stride) % 4096

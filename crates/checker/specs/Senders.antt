@@ -1,7 +1,8 @@
 -- The lines of senders of joins. Private functions alone cite it.
 --   lineFrom first sent == the place that a join enters in a job whose first action is at place `first`, where `sent` is the
 --                          position plus 1; or, where it is 0, the line behind all places
---   lineOf plan k       == that of the action at place k
+--   lineOf plan k       == that of the action at place k. What stands as job 0's parent may be any number of 16 bits: the remainder
+--                          keeps it an index, and what is looked up there is not used, since job 0 sends no join
 --   Sending k plan p    == the array holds the plan p, of which k is a place
 --   Unlined ..          == the array holds a plan p of so many actions, and no sender is lined up
 use Prim.Native.Nat.{ℕ, zero, suc, _+_, _%_, _<_}

@@ -5,9 +5,9 @@ ghost use Prim.Native.Nat.{_+_, _*_, _≤_};
 ghost use lib.ListN.{length};
 ghost use Rattle.plan.specs.Contract.{before};
 ghost use Rattle.checker.specs.Formed.{Formed, Headed, RoundsTold};
+use crate::rows::row_at;
 use fields::field::Field;
 use fields::field::cut;
-use numbers::wide8;
 
 // The worker count of a header for so many actions, or 0 where the header is not well formed: a worker count of 0 is not.
 fn header(schedule: &[u8], actions: usize) -> usize
@@ -53,15 +53,14 @@ fn header(schedule: &[u8], actions: usize) -> usize
     workers as usize
 }
 
-// No row has a round of 0. A row is two bytes, and its round is all but the last four bits of them.
+// No row has a round of 0: the round is all but the last four of a row's 16 bits.
 fn rounds_given(schedule: &[u8], actions: usize) -> bool
     requires { ⌜ (actions ≤ 2048) × (length (now schedule) ≡ 4 + 2 * actions) ⌝ }
     ensures { λ r. ⌜ RoundsTold (before schedule) actions r ⌝ }
 {
     let mut k = 0;
     while k < actions {
-        let at = 4 + 2 * k;
-        if wide8(schedule[at]) * 256 + wide8(schedule[at + 1]) < 16 {
+        if row_at(schedule, k) < 16 {
             return false;
         }
         k += 1;

@@ -1,27 +1,18 @@
 // The rules of a schedule, over its bytes and the plan's array (document 01, "Schedule").
-ghost use Prim.Native.Nat.{_+_, _*_, _<_};
 ghost use mathlib.Core.Path.{_≡_};
-ghost use lib.ListN.{length};
 ghost use Rattle.plan.specs.Contract.{Some, _⇒_, before};
 ghost use Rattle.courses.specs.Schedule.{keeps};
 ghost use Rattle.checker.specs.Given.{ActionGiven, RulesGiven};
-ghost use Rattle.checker.specs.Judging.{word, RoundBefore};
+ghost use Rattle.checker.specs.Judging.{RoundBefore};
+ghost use Rattle.checker.specs.Rows.{word};
+use crate::rows::row_at;
 use crate::senders::line_up;
-use numbers::wide8;
 use numbers::wide16;
 use plan::sheet::Sheet;
 use plan::sheet::first_of;
 use plan::sheet::job_at;
 use plan::sheet::parent_of;
 use plan::sheet::spawn_of;
-
-// The 16 bits of row k: its round, then its worker.
-fn row_at(schedule: &[u8], k: usize) -> usize
-    requires { ⌜ 5 + 2 * k < length (now schedule) ⌝ }
-    ensures { λ r. ⌜ (r ≡ word (before schedule) k) × (r < 65536) ⌝ }
-{
-    wide8(schedule[4 + 2 * k]) * 256 + wide8(schedule[5 + 2 * k])
-}
 
 // The round that the one of action k must be later than: that of the action before it in its job, or of its job's spawn, or 0.
 fn round_before(schedule: &[u8], k: usize, plan: &Sheet) -> usize
@@ -43,7 +34,8 @@ fn round_before(schedule: &[u8], k: usize, plan: &Sheet) -> usize
 // innermost on the first breach. The rows seen so far lie in buckets, each in a chain from the latest back: `last` has of each
 // bucket its latest row, and `earlier` of each row the one before it in its bucket, each as its place plus 1 or 0. Two rows
 // clash where their 16 bits are equal, so a row is compared with those of its own bucket alone. A bucket takes one row of each
-// worker, so that no chain is longer than there are workers; where no round is past the stride, no two rows share a bucket.
+// worker, so that no chain is longer than there are workers; where no round is past the stride, no two different rows share a
+// bucket.
 pub fn rules_kept(schedule: &[u8], workers: usize, actions: usize, plan: &Sheet) -> bool
     requires { ⌜ Some (RulesGiven workers actions (now schedule) (now plan)) ⌝ }
     ensures { λ r. ⌜ RulesGiven workers actions (before schedule) (before plan) ⇒ (λ t. r ≡ keeps (t .plan) workers (t .rows)) ⌝ }

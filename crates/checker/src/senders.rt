@@ -10,8 +10,9 @@ use plan::sheet::job_at;
 use plan::sheet::parent_of;
 use plan::sheet::target_at;
 
-// The line that action k stands in: that of the action that its join enters, or one behind all those where it sends none. Job 0
-// has no parent and sends no join, so that what stands as its parent may be any job.
+// The line that action k stands in: that of the action that its join enters, or one behind all those where it sends none.
+// Nothing is known of what stands as job 0's parent, so that any number of 16 bits may stand there: the remainder keeps it an
+// index, and what is looked up there is not used, since job 0 sends no join.
 fn line_of(k: usize, plan: &Sheet) -> usize
     requires { ⌜ Some (Sending k (now plan)) ⌝ }
     ensures { λ r. ⌜ (r ≡ lineOf (before plan) k) × (r ≤ 2048) ⌝ }

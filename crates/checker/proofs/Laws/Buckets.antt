@@ -1,4 +1,4 @@
--- Rows in buckets by their 16 bits: a bucket is computed with no wrap, and a row that equals none of its bucket equals none at all.
+-- Rows in buckets by their 16 bits: a bucket is computed without overflow, and a row that equals none of its bucket equals none at all.
 use Prim.Native.Nat.{ℕ, _*_, _/_, _%_, _≤_, _<_}
 use mathlib.Core.Path.{_≡_, ap, sym, _∙_}
 use native.Mathlib.Omega.{arith}

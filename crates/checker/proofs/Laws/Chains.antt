@@ -13,16 +13,12 @@ use native.Mathlib.Omega.{arith}
 use native.Mathlib.Decide.{ℕ-discrete, decLt}
 use lib.ListN.{length, set, replicate}
 use lib.Seq.{getD-set-same, getD-set-other}
+use Rattle.plan.proofs.Laws.Lists.{zeros-at}
 use Rattle.checker.specs.Chains.{entry, Chains, Walk}
-
-zero-at : (n b : ℕ) → entry (replicate n 0) b ≡ 0
-zero-at zero b = refl
-zero-at (suc n) zero = refl
-zero-at (suc n) (suc b) = zero-at n b
 
 pub chains-none : (n : ℕ) (key earlier : ℕ → ℕ) → Chains 0 key (entry (replicate n 0)) earlier
 chains-none n key earlier = record {
-  head = λ b i e. let z : ⊥ = omega (arith, zero-at n b) in absurd z;
+  head = λ b i e. let z : ⊥ = omega (arith, zeros-at n b) in absurd z;
   all = λ i h. omega arith;
   link = λ k i h. omega arith;
   chain = λ i k h l. omega arith;

@@ -18,8 +18,9 @@ use Rattle.plan.proofs.Laws.Placed.{start, placed-at, placed-of, Stands, place-
 use Rattle.plan.proofs.Laws.Valid.{older, spawned-there, spawned-once}
 use Rattle.plan_measure.proofs.Laws.Follows.{Follows, next, born, joined, act, follows-of, of-follows}
 use Rattle.plan.proofs.Laws.Enters.{enters-by, enters-is}
+use Rattle.checker.specs.Rows.{word}
 use Rattle.checker.specs.Given.{Task, Tasked}
-use Rattle.checker.specs.Judging.{word, Later, InOrder, Joined, RoundBefore}
+use Rattle.checker.specs.Judging.{Later, InOrder, Joined, RoundBefore}
 use Rattle.checker.specs.Senders.{lineOf}
 use Rattle.checker.proofs.Laws.Senders.{action-room, enters-line, line-enters}
 

@@ -11,7 +11,8 @@ use borrow.Author.Tests.{eq-eqb, ne-eqb}
 use Rattle.plan.specs.Refusal.{refused}
 use Rattle.fields.specs.Field.{stop, Bytes}
 use Rattle.courses.specs.Schedule.{writtenAt, readSchedule}
-use Rattle.checker.specs.Formed.{Formed, Headed, word}
+use Rattle.checker.specs.Rows.{word}
+use Rattle.checker.specs.Formed.{Formed, Headed}
 use Rattle.checker.proofs.Laws.RowBytes.{rowsFrom, rows-read, rows-stop, rows-length, rows-held}
 
 not-formed : (s : List ℕ) (n : ℕ) → readSchedule s n ≡ refused 11 → Formed s n 0
@@ -34,20 +35,20 @@ module _ (s : List ℕ) (n : ℕ) where
     wrong-header h = let (k, e) = h .broken refl in stopped k e
 
     module _ (workers : ℕ) (some : 1 ≤ workers) (head : Headed s n workers) where
-      pub wrong-round : (k : ℕ) → k < n → word s (4 + 2 * k) < 16 → Formed s n 0
-      wrong-round k b none = stopped 11 (rw (head .kept some, rows-stop s n 4 k (omega arith) b none))
+      pub wrong-round : (k : ℕ) → k < n → word s k < 16 → Formed s n 0
+      wrong-round k b none = stopped 11 (rw (head .kept some, rows-stop s n 0 k (omega arith) (omega arith) (omega arith) none))
 
-      pub well-formed : Bytes s → ((k : ℕ) → k < n → 16 ≤ word s (4 + 2 * k)) → Formed s n workers
+      pub well-formed : Bytes s → ((k : ℕ) → k < n → 16 ≤ word s k) → Formed s n workers
       unfolding readSchedule
       well-formed byte rounds =
-          let e = rows-read s n 4 (omega arith) byte rounds in
+          let e = rows-read s n 0 (omega arith) byte (λ k b. rounds k (omega arith)) in
           record {
             broken = λ h. absurd (omega arith);
             kept = λ _.
                 record {
-                  rows = rowsFrom s 4 n;
+                  rows = rowsFrom s 0 n;
                   read = rw (right-length, head .kept some, e, readSchedule);
                   bytes = rows-held s n long rounds;
-                  all = rows-length s n 4;
+                  all = rows-length s n 0;
                 };
           }

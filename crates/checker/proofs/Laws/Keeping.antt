@@ -18,8 +18,8 @@ use Rattle.courses.specs.Schedule.{rowOf, clash, alone, inOrder, keeps}
 use Rattle.plan.proofs.Laws.Lists.{both-intro, both-left, both-right, true-of, false-of, all-at, all-by}
 use Rattle.plan.proofs.Laws.Placed.{placed-of, placed-length}
 use Rattle.courses.proofs.Laws.Order.{alone-by, unless}
-use Rattle.checker.specs.Rows.{RowsAt}
-use Rattle.checker.specs.Judging.{word, InOrder, Seen}
+use Rattle.checker.specs.Rows.{word, RowsAt}
+use Rattle.checker.specs.Judging.{InOrder, Seen}
 use Rattle.checker.specs.Given.{Task, Tasked}
 
 not-both : (a : Bool) → T (not a) → T a → ⊥

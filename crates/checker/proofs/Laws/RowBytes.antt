@@ -1,10 +1,12 @@
 -- The rows of a schedule, read off its bytes: two bytes to a row.
---   rowsFrom s i n == the n rows from byte i on
+--   rowsFrom s k n == the n rows from row k on
 use Prim.Native.Nat.{ℕ, zero, suc, _+_, _*_, _/_, _%_, _^_, _≤_, _<_}
 use mathlib.Core.Path.{_≡_, refl, sym, ap, _∙_}
+use mathlib.Core.Logic.{by-cases}
 use mathlib.Core.Bool.{true, false}
 use mathlib.Core.List.{List, [], _∷_, _++_, append-assoc}
 use native.Mathlib.Omega.{arith}
+use native.Mathlib.Decide.{ℕ-discrete}
 use lib.ListN.{length, getD, take, drop, take-append-drop, length-append}
 use lib.Seq.{drop-cons, length-take-le}
 use lib.Dec.{eqb}
@@ -12,8 +14,7 @@ use borrow.Author.Tests.{eq-eqb, ne-eqb}
 use Rattle.fields.specs.Field.{bitsOf, bits, number, Bytes, stop, step, then, fieldAt}
 use Rattle.courses.specs.Row.{Row, noRow}
 use Rattle.courses.specs.Schedule.{rowsAt}
-use Rattle.checker.specs.Rows.{RowsAt}
-use Rattle.checker.specs.Formed.{word}
+use Rattle.checker.specs.Rows.{word, RowsAt}
 use Rattle.plan.proofs.Laws.Steps.{bool-cases}
 use Rattle.fields.proofs.Laws.Bits.{append-binary, bitsOf-binary, bitsOf-length, bits-length, bits-append, number-append, number-injective, number-bitsOf, field-seam, field-within}
 
@@ -21,8 +22,8 @@ abbrev pub rowOfWord : ℕ → Row
 rowOfWord v = record { round = v / 16; worker = v % 16 }
 
 abbrev pub rowsFrom : List ℕ → ℕ → ℕ → List Row
-rowsFrom s i zero = []
-rowsFrom s i (suc n) = rowOfWord (word s i) ∷ rowsFrom s (suc (suc i)) n
+rowsFrom s k zero = []
+rowsFrom s k (suc n) = rowOfWord (word s k) ∷ rowsFrom s (suc k) n
 
 -- two numbers of 8 bits hold one of 12 and one of 4
 two-bytes : (a b : ℕ) → a < 256 → b < 256
@@ -38,101 +39,101 @@ two-bytes a b h k =
     refl (number-append (bitsOf 8 a) (bitsOf 8 b) ∙ (same ∙ sym (number-append (bitsOf 12 r) (bitsOf 4 w))))
 
 module _ (s : List ℕ) where
-  module _ (i : ℕ) (h : suc i < length s) where
+  module _ (k : ℕ) (h : 5 + 2 * k < length s) where
     -- the bits before a row, of the row, and behind it
-    around : bits s ≡ bits (take i s) ++ (bitsOf 8 (getD s i 0) ++ (bitsOf 8 (getD s (suc i) 0) ++ bits (drop (suc (suc i)) s)))
+    around :
+        bits s ≡ bits (take (4 + 2 * k) s) ++ (bitsOf 8 (getD s (4 + 2 * k) 0) ++ (bitsOf 8 (getD s (5 + 2 * k) 0) ++ bits (drop (6 + 2 * k) s)))
     unfolding bits
     around =
-        let e : drop i s ≡ getD s i 0 ∷ (getD s (suc i) 0 ∷ drop (suc (suc i)) s) =
-        drop-cons s i 0 (omega arith) ∙ ap (λ l. getD s i 0 ∷ l) (drop-cons s (suc i) 0 (omega arith)) in
-        sym (ap bits (take-append-drop i s)) ∙ (bits-append (take i s) (drop i s) ∙ ap (λ l. bits (take i s) ++ bits l) e)
+        let second : suc (4 + 2 * k) ≡ 5 + 2 * k = omega arith in
+        let behind : suc (5 + 2 * k) ≡ 6 + 2 * k = omega arith in
+        let e : drop (4 + 2 * k) s ≡ getD s (4 + 2 * k) 0 ∷ (getD s (5 + 2 * k) 0 ∷ drop (6 + 2 * k) s) =
+        rw second at (drop-cons s (4 + 2 * k) 0 (omega arith)) ∙ ap (λ l. getD s (4 + 2 * k) 0 ∷ l) (rw behind at (drop-cons s (5 + 2 * k) 0 h)) in
+        sym (ap bits (take-append-drop (4 + 2 * k) s))
+        ∙ (bits-append (take (4 + 2 * k) s) (drop (4 + 2 * k) s) ∙ ap (λ l. bits (take (4 + 2 * k) s) ++ bits l) e)
 
-    module _ (low : getD s i 0 < 256) (high : getD s (suc i) 0 < 256) where
+    module _ (high : getD s (4 + 2 * k) 0 < 256) (low : getD s (5 + 2 * k) 0 < 256) where
       -- the row's two fields lie at the place of its first bit
-      parts : bits s ≡ bits (take i s) ++ (bitsOf 12 (word s i / 16) ++ (bitsOf 4 (word s i % 16) ++ bits (drop (suc (suc i)) s)))
+      parts :
+          bits s ≡ bits (take (4 + 2 * k) s) ++ (bitsOf 12 (word s k / 16) ++ (bitsOf 4 (word s k % 16) ++ bits (drop (6 + 2 * k) s)))
       parts =
-          let rest = bits (drop (suc (suc i)) s) in
-          let e : bitsOf 8 (getD s i 0) ++ (bitsOf 8 (getD s (suc i) 0) ++ rest) ≡ bitsOf 12 (word s i / 16) ++ (bitsOf 4 (word s i % 16) ++ rest) =
-          simp append-assoc at (ap (λ l. l ++ rest) (two-bytes (getD s i 0) (getD s (suc i) 0) low high)) in
-          around ∙ ap (λ l. bits (take i s) ++ l) e
+          let rest = bits (drop (6 + 2 * k) s) in
+          let both = two-bytes (getD s (4 + 2 * k) 0) (getD s (5 + 2 * k) 0) high low in
+          around ∙ ap (λ l. bits (take (4 + 2 * k) s) ++ l) (simp append-assoc at (ap (λ l. l ++ rest) both))
 
-      front : length (bits (take i s)) ≡ 8 * i
-      front = bits-length (take i s) ∙ ap (λ k. 8 * k) (length-take-le i s (omega arith))
+      front : length (bits (take (4 + 2 * k) s)) ≡ 32 + 16 * k
+      front = omega (arith, bits-length (take (4 + 2 * k) s), length-take-le (4 + 2 * k) s (omega arith))
 
-      round-read : fieldAt s 12 (8 * i) ≡ step (word s i / 16) (8 * i + 12)
+      round-read : fieldAt s 12 (32 + 16 * k) ≡ step (word s k / 16) (32 + 16 * k + 12)
       round-read =
-          rw front at (field-seam s (bits (take i s)) 12 (word s i / 16) (bitsOf 4 (word s i % 16) ++ bits (drop (suc (suc i)) s)) (omega arith) parts)
+          rw front at (field-seam s (bits (take (4 + 2 * k) s)) 12 (word s k / 16) (bitsOf 4 (word s k % 16) ++ bits (drop (6 + 2 * k) s)) (omega arith) parts)
 
-      worker-read : fieldAt s 4 (8 * i + 12) ≡ step (word s i % 16) (8 * i + 12 + 4)
+      worker-read : fieldAt s 4 (32 + 16 * k + 12) ≡ step (word s k % 16) (32 + 16 * k + 12 + 4)
       worker-read =
-          let a = bits (take i s) ++ bitsOf 12 (word s i / 16) in
-          let e : length a ≡ 8 * i + 12 = simp (length-append, bitsOf-length) (omega (arith, front)) in
-          rw e at (field-seam s a 4 (word s i % 16) (bits (drop (suc (suc i)) s)) (omega arith) (simp append-assoc parts))
+          let a = bits (take (4 + 2 * k) s) ++ bitsOf 12 (word s k / 16) in
+          let e : length a ≡ 32 + 16 * k + 12 = simp (length-append, bitsOf-length) (omega (arith, front)) in
+          rw e at (field-seam s a 4 (word s k % 16) (bits (drop (6 + 2 * k) s)) (omega arith) (simp append-assoc parts))
 
   -- a row that is read, and one whose round is 0
-  row-on : (n i : ℕ) → suc i < length s → getD s i 0 < 256 → getD s (suc i) 0 < 256 → 16 ≤ word s i
-      → rowsAt s (suc n) (8 * i) ≡ then (rowsAt s n (8 * suc (suc i))) (λ rows at. step (rowOfWord (word s i) ∷ rows) at)
+  row-on : (n k : ℕ) → 5 + 2 * k < length s → Bytes s → 16 ≤ word s k
+      → rowsAt s (suc n) (32 + 16 * k) ≡ then (rowsAt s n (32 + 16 * suc k)) (λ rows at. step (rowOfWord (word s k) ∷ rows) at)
   unfolding rowsAt
-  row-on n i h low high some =
-      let place : 8 * i + 12 + 4 ≡ 8 * suc (suc i) = omega arith in
-      let x : eqb (word s i / 16) 0 ≡ false = ne-eqb (word s i / 16) 0 (λ e. omega arith) in
-      rw (round-read i h low high, x, worker-read i h low high, place, then)
+  row-on n k h byte some =
+      let high = byte (4 + 2 * k) in
+      let low = byte (5 + 2 * k) in
+      let place : 32 + 16 * k + 12 + 4 ≡ 32 + 16 * suc k = omega arith in
+      let x : eqb (word s k / 16) 0 ≡ false = ne-eqb (word s k / 16) 0 (λ e. omega arith) in
+      rw (round-read k h high low, x, worker-read k h high low, place, then)
 
-  row-none : (n i : ℕ) → suc i < length s → word s i < 16 → rowsAt s (suc n) (8 * i) ≡ stop 11
+  row-none : (n k : ℕ) → 5 + 2 * k < length s → word s k < 16 → rowsAt s (suc n) (32 + 16 * k) ≡ stop 11
   unfolding rowsAt
-  row-none n i h none =
-      let x : eqb (word s i / 16) 0 ≡ true = eq-eqb (word s i / 16) 0 (omega arith) in
-      rw (round-read i h (omega arith) (omega arith), x, then)
+  row-none n k h none =
+      let x : eqb (word s k / 16) 0 ≡ true = eq-eqb (word s k / 16) 0 (omega arith) in
+      rw (round-read k h (omega arith) (omega arith), x, then)
 
   -- behind any row that can be read, reading stops at one whose round is 0
-  row-past : (n i : ℕ) → suc i < length s → rowsAt s n (8 * suc (suc i)) ≡ stop 11 → rowsAt s (suc n) (8 * i) ≡ stop 11
+  row-past : (n k : ℕ) → 5 + 2 * k < length s → rowsAt s n (32 + 16 * suc k) ≡ stop 11 → rowsAt s (suc n) (32 + 16 * k) ≡ stop 11
   unfolding rowsAt
-  row-past n i h e =
-      let place : 8 * i + 12 + 4 ≡ 8 * suc (suc i) = omega arith in
-      let v = number (take 12 (drop (8 * i) (bits s))) in
-      let r = field-within s 12 (8 * i) (omega arith) in
-      let w = field-within s 4 (8 * i + 12) (omega arith) in
+  row-past n k h e =
+      let place : 32 + 16 * k + 12 + 4 ≡ 32 + 16 * suc k = omega arith in
+      let v = number (take 12 (drop (32 + 16 * k) (bits s))) in
+      let r = field-within s 12 (32 + 16 * k) (omega arith) in
+      let w = field-within s 4 (32 + 16 * k + 12) (omega arith) in
       bool-cases (eqb v 0) (λ x. rw (r, x, then)) (λ x. rw (r, x, w, place, e, then))
 
-  pub rows-read : (n i : ℕ) → i + 2 * n ≤ length s → Bytes s → ((k : ℕ) → k < n → 16 ≤ word s (i + 2 * k))
-      → rowsAt s n (8 * i) ≡ step (rowsFrom s i n) (8 * i + 16 * n)
+  pub rows-read : (n k : ℕ) → 4 + 2 * (k + n) ≤ length s → Bytes s → ((x : ℕ) → x < k + n → 16 ≤ word s x)
+      → rowsAt s n (32 + 16 * k) ≡ step (rowsFrom s k n) (32 + 16 * (k + n))
   unfolding rowsAt
-  rows-read zero i h byte some = ap (step []) (omega arith)
-  rows-read (suc n) i h byte some =
-      let here : i + 2 * 0 ≡ i = omega arith in
-      let later : (k : ℕ) → i + 2 * suc k ≡ suc (suc i) + 2 * k = λ k. omega arith in
-      let end : 8 * suc (suc i) + 16 * n ≡ 8 * i + 16 * suc n = omega arith in
-      row-on n i (omega arith) (byte i) (byte (suc i)) (rw here at (some 0 (omega arith)))
-      ∙ rw (rows-read n (suc (suc i)) (omega arith) byte (λ k b. rw (later k) at (some (suc k) (omega arith))), end)
+  rows-read zero k h byte some = ap (step []) (omega arith)
+  rows-read (suc n) k h byte some =
+      let end : 32 + 16 * (suc k + n) ≡ 32 + 16 * (k + suc n) = omega arith in
+      row-on n k (omega arith) byte (some k (omega arith))
+      ∙ rw (rows-read n (suc k) (omega arith) byte (λ x b. some x (omega arith)), end)
 
-  pub rows-stop : (n i k : ℕ) → i + 2 * n ≤ length s → k < n → word s (i + 2 * k) < 16 → rowsAt s n (8 * i) ≡ stop 11
-  rows-stop zero i k h b none = absurd (omega arith)
-  rows-stop (suc n) i zero h b none =
-      let here : i + 2 * 0 ≡ i = omega arith in
-      row-none n i (omega arith) (rw here at none)
-  rows-stop (suc n) i (suc k) h b none =
-      let later : i + 2 * suc k ≡ suc (suc i) + 2 * k = omega arith in
-      row-past n i (omega arith) (rows-stop n (suc (suc i)) k (omega arith) (omega arith) (rw later at none))
+  pub rows-stop : (n k x : ℕ) → 4 + 2 * (k + n) ≤ length s → k ≤ x → x < k + n → word s x < 16 → rowsAt s n (32 + 16 * k) ≡ stop 11
+  rows-stop zero k x h l b none = absurd (omega arith)
+  rows-stop (suc n) k x h l b none =
+      by-cases (ℕ-discrete x k) (λ e. row-none n k (omega arith) (rw e at none))
+      (λ d. row-past n k (omega arith) (rows-stop n (suc k) x (omega arith) (omega arith) (omega arith) none))
 
-  pub rows-length : (n i : ℕ) → length (rowsFrom s i n) ≡ n
-  rows-length zero i = refl
-  rows-length (suc n) i = ap suc (rows-length n (suc (suc i)))
+  pub rows-length : (n k : ℕ) → length (rowsFrom s k n) ≡ n
+  rows-length zero k = refl
+  rows-length (suc n) k = ap suc (rows-length n (suc k))
 
-  row-at : (n i k : ℕ) → k < n → getD (rowsFrom s i n) k noRow ≡ rowOfWord (word s (i + 2 * k))
-  row-at zero i k b = absurd (omega arith)
-  row-at (suc n) i zero b = let here : i + 2 * 0 ≡ i = omega arith in rw here
-  row-at (suc n) i (suc k) b =
-      let later : i + 2 * suc k ≡ suc (suc i) + 2 * k = omega arith in
-      rw later (row-at n (suc (suc i)) k (omega arith))
+  row-at : (n k x : ℕ) → x < n → getD (rowsFrom s k n) x noRow ≡ rowOfWord (word s (k + x))
+  row-at zero k x b = absurd (omega arith)
+  row-at (suc n) k zero b = let here : k + 0 ≡ k = omega arith in rw here
+  row-at (suc n) k (suc x) b = let later : k + suc x ≡ suc k + x = omega arith in rw later (row-at n (suc k) x (omega arith))
 
   -- the rows behind the header are what the bytes hold
-  pub rows-held : (n : ℕ) → length s ≡ 4 + 2 * n → ((k : ℕ) → k < n → 16 ≤ word s (4 + 2 * k)) → RowsAt (rowsFrom s 4 n) s
+  pub rows-held : (n : ℕ) → length s ≡ 4 + 2 * n → ((k : ℕ) → k < n → 16 ≤ word s k) → RowsAt (rowsFrom s 0 n) s
   rows-held n e some =
-      let l = rows-length n 4 in
-      let next : (k : ℕ) → suc (4 + 2 * k) ≡ 5 + 2 * k = λ k. omega arith in
+      let l = rows-length n 0 in
+      let at : (k : ℕ) → k < n → getD (rowsFrom s 0 n) k noRow ≡ rowOfWord (word s k) =
+      λ k b. row-at n 0 k b ∙ ap (λ x. rowOfWord (word s x)) (omega arith) in
       record {
         long = rw l e;
-        row = λ k b. rw (row-at n 4 k (omega arith)) (omega (arith, ap (λ i. getD s i 0) (next k)));
-        round = λ k b. rw (row-at n 4 k (omega arith)) (omega (arith, some k (omega arith)));
-        worker = λ k b. rw (row-at n 4 k (omega arith)) (omega arith);
+        row = λ k b. rw (at k (omega arith)) (omega arith);
+        round = λ k b. rw (at k (omega arith)) (omega (arith, some k (omega arith)));
+        worker = λ k b. rw (at k (omega arith)) (omega arith);
       }

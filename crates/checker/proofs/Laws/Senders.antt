@@ -1,7 +1,7 @@
 -- The lines of senders: an action stands in the line of the one that its join enters, and only so.
 --   line-none, line-some == the line of an action by what the array tells of it
 --   action-room  == the place of an action, and its job, are in range
---   line-small   == the line of an action that sends a join is the place of another
+--   line-small   == the line of an action that sends a join is at most 2,048
 --   enters-line  == whose join enters an action stands in its line
 --   line-enters  == the join of one that stands in an action's line enters it
 use Prim.Native.Nat.{ℕ, zero, suc, _+_, _-_, _%_, _≤_, _<_}
@@ -31,7 +31,7 @@ module _ (plan : List ℕ) (k n : ℕ) (sent : n ≡ targetAt plan k) where
 
 module _ (plan : List ℕ) (p : Plan) (g : Planned plan p) where
   -- the place of a parent's first action
-  pub parent-first : (c : ℕ) → 1 ≤ c → c < length p → firstOf plan (parentOf plan c % 256) ≡ start p (parent p c)
+  parent-first : (c : ℕ) → 1 ≤ c → c < length p → firstOf plan (parentOf plan c % 256) ≡ start p (parent p c)
   parent-first c o h =
       let l = older p (g .rules) c o h in
       let e : parentOf plan c % 256 ≡ parent p c = omega (arith, g .spawned .parents c o h, jobs-range p (g .rules)) in

@@ -8,10 +8,11 @@ use native.Mathlib.Omega.{arith}
 use borrow.Author.Needs.{needs}
 use lib.ListN.{length, length-set}
 use Rattle.plan.proofs.Laws.Valid.{total-range}
+use Rattle.checker.specs.Rows.{word}
 use Rattle.checker.specs.Given.{Task, RulesGiven}
 use Rattle.checker.specs.Chains.{entry, Chains, Walk}
 use Rattle.checker.specs.Senders.{lineOf}
-use Rattle.checker.specs.Judging.{word, bucketOf, Later, Seen}
+use Rattle.checker.specs.Judging.{bucketOf, Later, Seen}
 use Rattle.checker.proofs.Laws.Keeping.{seen-none, seen-more, all-keep, not-manned, not-ordered, not-apart}
 use Rattle.checker.proofs.Laws.Following.{joined-all, not-joined}
 use Rattle.checker.proofs.Laws.Chains.{chains-none, head-below, enter, walk-first, walk-falls, walk-next}
