@@ -27,7 +27,6 @@ use Rattle.plan.proofs.Laws.Counts.{decT}
 use Rattle.plan.proofs.Laws.Enters.{enters-by, enters-is}
 use Rattle.plan.proofs.Laws.Placed.{start, placed-length, placed-at, place-below, placed-of}
 use Rattle.plan.specs.Rules.{Accepted}
-use Rattle.plan.proofs.Laws.Enters.{enters-by, enters-is}
 use Rattle.plan.proofs.Laws.Valid.{jobs-range, size-range, older, spawned-there, spawned-once, join-target, last-sends}
 
 abbrev pub shape : Plan → Shape
