@@ -7,4 +7,5 @@ pub mod Chains
 pub mod Buckets
 pub mod Senders
 pub mod Following
+pub mod Standing
 pub mod Judging

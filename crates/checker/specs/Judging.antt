@@ -5,13 +5,17 @@
 --   Joined p row k       == of a later round than each that sends it a join
 --   RoundBefore p row k r == the round r tells the rest of that: row k is in order where it is later than r and than those that
 --                           send it a join, and is not where it is not later than r
+--   spawnRound p row j   == the round of the action that spawns job j
+--   Stood p row k s      == the walk over the actions stands at place k as s says: in that job, whose actions end there, or at their
+--                           end; where k is a place of the job, the round in s tells
 --   Seen p m n row       == the first n rows are of workers below m and in order, and no two of one round and one worker
 use Prim.Native.Nat.{ℕ, _+_, _*_, _/_, _%_, _≤_, _<_}
 use mathlib.Core.Path.{_≡_}
 use lib.Dec.{T}
-use lib.ListN.{getD}
-use Rattle.plan.specs.Plan.{Plan, total, placed, noPlaced, enters}
+use lib.ListN.{length, getD, take}
+use Rattle.plan.specs.Plan.{Plan, size, total, placed, noPlaced, parent, spawnAt, enters}
 use Rattle.plan_measure.specs.Measure.{mustFollow}
+use Rattle.checker.specs.declared.rules.Standing.{Standing}
 
 abbrev pub bucketOf : ℕ → ℕ → ℕ
 bucketOf stride w = (w / 16 + w % 16 * stride) % 4096
@@ -31,6 +35,16 @@ Joined p row k =
 pub record RoundBefore (p : Plan) (row : ℕ → ℕ) (k r : ℕ) : Type 0 where
   pub kept : r < row k / 16 → Joined p row k → InOrder p row k
   pub broken : row k / 16 ≤ r → InOrder p row k → ⊥
+
+abbrev pub spawnRound : Plan → (ℕ → ℕ) → ℕ → ℕ
+spawnRound p row j = row (total (take (parent p j) p) + spawnAt p j) / 16
+
+pub record Stood (p : Plan) (row : ℕ → ℕ) (k : ℕ) (s : Standing) : Type 0 where
+  pub known : s .job < length p
+  pub begun : total (take (s .job) p) ≤ k
+  pub ends : s .end ≡ total (take (s .job) p) + size p (s .job)
+  pub near : k ≤ s .end
+  pub told : k < s .end → RoundBefore p row k (s .round)
 
 pub record Seen (p : Plan) (m n : ℕ) (row : ℕ → ℕ) : Type 0 where
   pub manned : (i : ℕ) → i < n → row i % 16 < m

@@ -1,28 +1,24 @@
 -- What an action must follow: the one before it in its job, or its job's spawn, and the senders of joins into it; and what the round of
 -- the first two tells.
 --   before-next, before-root, before-born == what the round of the action before it, none, or that of the spawn tells
---   tells-next, tells-root, tells-born    == the same, over the arrays
---   row-within, job-small, parent-small, spawn-some, spawn-within == what is read there is in range
 --   joined-all    == a row that is later than all that stand in its line is later than those that send it a join
 --   not-joined    == one that is not later than one of them is not in order
-use Prim.Native.Nat.{ℕ, suc, _+_, _-_, _*_, _/_, _≤_, _<_}
+use Prim.Native.Nat.{ℕ, suc, _+_, _-_, _/_, _≤_, _<_}
 use mathlib.Core.Path.{_≡_, refl, ap, sym, _∙_}
-use mathlib.Core.Logic.{_≢_}
 use mathlib.Core.List.{List}
 use native.Mathlib.Omega.{arith}
 use lib.ListN.{length, getD}
 use Rattle.plan.specs.Plan.{Plan, Placed, size, total, placed, noPlaced, parent, spawnAt}
 use Rattle.plan.specs.Rules.{Accepted}
-use Rattle.plan.specs.Sheet.{jobAt, firstOf, parentOf, spawnOf}
 use Rattle.plan.proofs.Laws.Placed.{start, placed-at, placed-of, Stands, place-below}
 use Rattle.plan.proofs.Laws.Valid.{older, spawned-there, spawned-once}
 use Rattle.plan_measure.proofs.Laws.Follows.{Follows, next, born, joined, act, follows-of, of-follows}
 use Rattle.plan.proofs.Laws.Enters.{enters-by, enters-is}
 use Rattle.checker.specs.Rows.{word}
 use Rattle.checker.specs.Given.{Task, Tasked}
-use Rattle.checker.specs.Judging.{Later, InOrder, Joined, RoundBefore}
+use Rattle.checker.specs.Judging.{Later, InOrder, Joined, RoundBefore, spawnRound}
 use Rattle.checker.specs.Senders.{lineOf}
-use Rattle.checker.proofs.Laws.Senders.{action-room, enters-line, line-enters}
+use Rattle.checker.proofs.Laws.Senders.{enters-line, line-enters}
 
 module _ (p : Plan) (ok : Accepted p) (row : ℕ → ℕ) (k : ℕ) (h : k < total p) where
   abbrev at : ℕ → Placed
@@ -49,7 +45,7 @@ module _ (p : Plan) (ok : Accepted p) (row : ℕ → ℕ) (k : ℕ) (h : k < tot
   earlier : (j i : ℕ) → j < length p → i < size p j → Follows p a (act p j i) → InOrder p row k → Later row (start p j + i) k
   earlier j i l b f o = o (start p j + i) (place-below p j i l b) (rw (placed-at p j i l b) (of-follows p a (act p j i) f))
 
-  before-next : (r : ℕ) → start p (a .job) < k → r ≡ row (k - 1) / 16 → RoundBefore p row k r
+  pub before-next : (r : ℕ) → start p (a .job) < k → r ≡ row (k - 1) / 16 → RoundBefore p row k r
   before-next r l e =
       round-tells r
       (λ x b d q. let z : x ≡ k - 1 = omega (arith, placed-of p x b .place, st .place, ap (start p) d) in omega (arith, ap row z))
@@ -64,11 +60,11 @@ module _ (p : Plan) (ok : Accepted p) (row : ℕ → ℕ) (k : ℕ) (h : k < tot
     first : a .position ≡ 0
     first = omega (arith, st .place)
 
-    before-root : a .job ≡ 0 → 1 ≤ row k / 16 → RoundBefore p row k 0
+    pub before-root : a .job ≡ 0 → 1 ≤ row k / 16 → RoundBefore p row k 0
     before-root e s =
         round-tells 0 (λ x b d q. absurd (omega (arith, first))) (λ x b o z s. absurd (omega arith)) (λ m o. let z : ⊥ = omega arith in z)
 
-    before-born : (r : ℕ) → 1 ≤ a .job → r ≡ row (start p (parent p (a .job)) + spawnAt p (a .job)) / 16 → RoundBefore p row k r
+    pub before-born : (r : ℕ) → 1 ≤ a .job → r ≡ spawnRound p row (a .job) → RoundBefore p row k r
     before-born r o e =
         let (b, s) = spawned-there p ok (a .job) o (st .known) in
         round-tells r (λ x b d q. absurd (omega (arith, first)))
@@ -81,72 +77,9 @@ module _ (p : Plan) (ok : Accepted p) (row : ℕ → ℕ) (k : ℕ) (h : k < tot
         let l = earlier (parent p (a .job)) (spawnAt p (a .job)) (omega (arith, older p ok (a .job) o (st .known), st .known)) b (born o first s) f in
         let z : ⊥ = omega arith in z)
 
--- the same over the arrays
 module _ (s plan : List ℕ) (t : Task) (g : Tasked s plan t) where
   abbrev p : Plan
   p = t .plan
-
-  -- a row's bytes are there
-  pub row-within : (x : ℕ) → x < total p → 5 + 2 * x < length s
-  row-within x h = omega (arith, g .bytes .long, g .all)
-
-  round-some : (x : ℕ) → x < total p → 1 ≤ word s x / 16
-  round-some x h = omega (arith, g .bytes .row x (omega (arith, g .all)), g .bytes .round x (omega (arith, g .all)), g .bytes .worker x (omega (arith, g .all)))
-
-  module _ (k : ℕ) (h : k < total p) (j : ℕ) (e : j ≡ jobAt plan k) where
-    job-is : j ≡ getD (placed p) k noPlaced .job
-    job-is = e ∙ g .planned .laid .owners k h
-
-    job-known : j < length p
-    job-known = omega (arith, job-is, placed-of p k h .known)
-
-    pub job-small : j < 256
-    job-small = omega (arith, action-room plan p (g .planned) k h)
-
-    first-is : (f : ℕ) → f ≡ firstOf plan j → f ≡ start p (getD (placed p) k noPlaced .job)
-    first-is f m = m ∙ g .planned .laid .firsts j (omega (arith, job-known)) ∙ ap (start p) job-is
-
-    module _ (f : ℕ) (m : f ≡ firstOf plan j) where
-      pub tells-next : f < k → (w : ℕ) → w ≡ word s (k - 1) → RoundBefore p (word s) k (w / 16)
-      tells-next l w q =
-          before-next p (g .planned .rules) (word s) k h (w / 16) (omega (arith, first-is f m)) (ap (λ n. n / 16) q)
-
-      pub tells-root : k ≤ f → j ≡ 0 → RoundBefore p (word s) k 0
-      tells-root l z = before-root p (g .planned .rules) (word s) k h (omega (arith, first-is f m)) (sym job-is ∙ z) (round-some k h)
-
-    -- the spawn of the job
-    module _ (some : j ≢ 0) (q : ℕ) (m : q ≡ parentOf plan j) where
-      parent-is : q ≡ parent p j
-      parent-is = m ∙ g .planned .spawned .parents j (omega arith) job-known
-
-      pub parent-small : q < 257
-      parent-small = omega (arith, parent-is, older p (g .planned .rules) j (omega arith) job-known, job-small)
-
-      module _ (u : ℕ) (n : u ≡ firstOf plan q) (i : ℕ) (d : i ≡ spawnOf plan j) where
-        spawn-is : i ≡ suc (spawnAt p j)
-        spawn-is = d ∙ g .planned .spawned .spawns j (omega arith) job-known
-
-        pub spawn-some : 1 ≤ i
-        spawn-some = omega (arith, spawn-is)
-
-        place-is : u + (i - 1) ≡ start p (parent p j) + spawnAt p j
-        place-is =
-            let b = older p (g .planned .rules) j (omega arith) job-known in
-            omega (arith, spawn-is, n ∙ ap (firstOf plan) parent-is ∙ g .planned .laid .firsts (parent p j) (omega (arith, job-known)))
-
-        pub spawn-within : u + (i - 1) < total p
-        spawn-within =
-            let b = older p (g .planned .rules) j (omega arith) job-known in
-            omega (
-              arith,
-              place-is,
-              place-below p (parent p j) (spawnAt p j) (omega (arith, job-known)) (spawned-there p (g .planned .rules) j (omega arith) job-known .0),
-            )
-
-        pub tells-born : (f : ℕ) → f ≡ firstOf plan j → k ≤ f → (w : ℕ) → w ≡ word s (u + (i - 1)) → RoundBefore p (word s) k (w / 16)
-        tells-born f m l w e =
-            before-born p (g .planned .rules) (word s) k h (omega (arith, first-is f m)) (w / 16) (omega (arith, job-is))
-            (ap (λ n. n / 16) e ∙ ap (λ n. word s n / 16) place-is ∙ ap (λ n. word s (start p (parent p n) + spawnAt p n) / 16) job-is)
 
   -- row k by those that stand in its line
   module _ (k : ℕ) (h : k < total p) where

@@ -1,50 +1,54 @@
--- `checker::rules::rules_kept` meets its contract: before each row those before it keep the rules and lie in the buckets; the way along an
--- action's line meets all that send it a join, and the way along a bucket's chain each earlier row that the row equals (`Laws.Chains`).
-use Prim.Native.Nat.{_+_, _-_, _*_, _≤_}
+-- `checker::rules::rules_kept` meets its contract: before each row those before it keep the rules and lie in the buckets, and the walk
+-- stands in a job (`Laws.Standing`); the way along an action's line meets all that send it a join, and the way along a bucket's chain each
+-- earlier row that the row equals (`Laws.Chains`).
+use Prim.Native.Nat.{_+_, _-_, _*_, _/_, _≤_}
 use mathlib.Core.Path.{_≡_, refl, ap, sym, _∙_}
 use mathlib.Core.Logic.{_≢_}
 use mathlib.Core.Bool.{true}
 use native.Mathlib.Omega.{arith}
 use borrow.Author.Needs.{needs}
 use lib.ListN.{length, length-set}
-use Rattle.plan.proofs.Laws.Valid.{total-range}
+use Rattle.plan.proofs.Laws.Laid.{laid-end}
+use Rattle.plan.proofs.Laws.Valid.{jobs-range, total-range}
 use Rattle.checker.specs.Rows.{word}
 use Rattle.checker.specs.Given.{Task, RulesGiven}
 use Rattle.checker.specs.Chains.{entry, Chains, Walk}
 use Rattle.checker.specs.Senders.{lineOf}
-use Rattle.checker.specs.Judging.{bucketOf, Later, Seen}
+use Rattle.checker.specs.Judging.{bucketOf, Later, Seen, Stood}
 use Rattle.checker.proofs.Laws.Keeping.{seen-none, seen-more, all-keep, not-manned, not-ordered, not-apart}
 use Rattle.checker.proofs.Laws.Following.{joined-all, not-joined}
+use Rattle.checker.proofs.Laws.Standing.{stood-first, stood-on, round-some, stand-given}
 use Rattle.checker.proofs.Laws.Chains.{chains-none, head-below, enter, walk-first, walk-falls, walk-next}
 use Rattle.checker.proofs.Laws.Buckets.{stride-room, apart-all}
 use Rattle.checker.proofs.rules.rules_kept.Statement.{statement}
 use Rattle.checker.proofs.rules.rules_kept.Tie as tie
 
 abbrev Inv-joins : tie.InvT-joins
-Inv-joins schedule workers actions plan latest prior last earlier stride kept₀ k row sender₀ kept sender =
+Inv-joins schedule workers actions plan latest prior last earlier stride kept₀ k row here sender₀ kept sender =
     (kept ≡ true) × (sender ≤ actions) × Walk actions (lineOf plan) k (λ x. Later (word schedule) x k) sender
 
 abbrev μ-joins : tie.MeasureT-joins
-μ-joins schedule workers actions plan latest prior last earlier stride kept₀ k row sender₀ kept sender =
+μ-joins schedule workers actions plan latest prior last earlier stride kept₀ k row here sender₀ kept sender =
     sender
 
 abbrev Inv-clashes : tie.InvT-clashes
-Inv-clashes schedule workers actions plan latest prior last earlier stride kept₀ k row sender bucket at₀ kept at =
+Inv-clashes schedule workers actions plan latest prior last earlier stride kept₀ k row here sender bucket at₀ kept at =
     (kept ≡ true) × (at ≤ k) × Chains (k + 1) (λ i. bucketOf stride (word schedule i)) (entry last) (entry earlier)
     × Walk k (λ i. bucketOf stride (word schedule i)) bucket (λ i. word schedule i ≡ word schedule k → ⊥) at
 
 abbrev μ-clashes : tie.MeasureT-clashes
-μ-clashes schedule workers actions plan latest prior last earlier stride kept₀ k row sender bucket at₀ kept at =
+μ-clashes schedule workers actions plan latest prior last earlier stride kept₀ k row here sender bucket at₀ kept at =
     at
 
 abbrev Inv-actions : tie.InvT-actions
-Inv-actions schedule workers actions plan latest prior last₀ earlier₀ stride kept₀ k₀ last earlier kept k =
+Inv-actions schedule workers actions plan latest prior last₀ earlier₀ stride standing₀ kept₀ k₀ last earlier standing kept k =
     (kept ≡ true) × (length last ≡ 4096) × (length earlier ≡ 2048) × (k ≤ actions) × (actions ≤ 2048) × (4 + 2 * actions ≤ length schedule)
     × Chains k (λ i. bucketOf stride (word schedule i)) (entry last) (entry earlier)
     × ((t : Task) → RulesGiven workers actions schedule plan t → Seen (t .plan) workers k (word schedule))
+    × ((t : Task) → RulesGiven workers actions schedule plan t → Stood (t .plan) (word schedule) k standing)
 
 abbrev μ-actions : tie.MeasureT-actions
-μ-actions schedule workers actions plan latest prior last₀ earlier₀ stride kept₀ k₀ last earlier kept k =
+μ-actions schedule workers actions plan latest prior last₀ earlier₀ stride standing₀ kept₀ k₀ last earlier standing kept k =
     actions - k
 
 line-up-requires : tie.Need-line-up-requires Inv-joins μ-joins Inv-clashes μ-clashes Inv-actions μ-actions
@@ -57,9 +61,12 @@ div-stride c =
     let (t, g) = c .before .before .before .before .pre in
     g .some
 
+first-of-requires : tie.Need-first-of-requires Inv-joins μ-joins Inv-clashes μ-clashes Inv-actions μ-actions
+first-of-requires c κs = omega arith
+
 actions-holds : tie.Need-actions-holds Inv-joins μ-joins Inv-clashes μ-clashes Inv-actions μ-actions
 actions-holds c =
-    let (t, g) = c .before .before .before .before .pre in
+    let (t, g) = c .before .before .before .before .before .pre in
     let few = total-range (t .plan) (g .tasked .planned .rules) in (
       refl,
       refl,
@@ -69,15 +76,17 @@ actions-holds c =
       omega (arith, g .count, g .tasked .bytes .long, g .tasked .all),
       chains-none 4096 _ _,
       λ t g. seen-none _ _ _,
+      λ t g. stood-first _ (g .tasked .planned .rules) _ _ (c .first-of .ensures .0 ∙ laid-end _ _ (g .tasked .planned .laid) 0 (jobs-range (t .plan) (g .tasked .planned .rules) .0))
+          (round-some _ _ t (g .tasked) 0 (total-range (t .plan) (g .tasked .planned .rules) .0)),
     )
 
 row-at-requires : tie.Need-row-at-requires Inv-joins μ-joins Inv-clashes μ-clashes Inv-actions μ-actions
 row-at-requires c κs = omega arith
 
-round-before-requires : tie.Need-round-before-requires Inv-joins μ-joins Inv-clashes μ-clashes Inv-actions μ-actions
-round-before-requires c κs =
-    let (t, g) = c .before .before .before .before .before .before .before .before .pre in
-    (t, record { within = omega (arith, g .count); tasked = g .tasked })
+stand-requires : tie.Need-stand-requires Inv-joins μ-joins Inv-clashes μ-clashes Inv-actions μ-actions
+stand-requires c κs =
+    let (t, g) = c .before .before .before .before .before .before .before .before .before .pre in
+    (t, stand-given _ _ t _ g (omega arith) (c .before .before .before .actions .inv .8 t g))
 
 mul-wide16 : tie.Need-mul-wide16 Inv-joins μ-joins Inv-clashes μ-clashes Inv-actions μ-actions
 mul-wide16 c = omega arith
@@ -90,8 +99,8 @@ wide16-requires c κs = search needs
 
 joins-holds : tie.Need-joins-holds Inv-joins μ-joins Inv-clashes μ-clashes Inv-actions μ-actions
 joins-holds c =
-    let l = c .before .before .before .before .before .before .before .line-up .ensures in (
-      c .before .before .before .before .before .before .actions .inv .0,
+    let l = c .before .before .before .before .before .before .before .before .before .line-up .ensures in (
+      c .before .before .before .before .before .before .before .actions .inv .0,
       head-below l _ _ (c .wide16 .ensures .0),
       walk-first _ _ _ _ _ _ _ l (c .wide16 .ensures .0),
     )
@@ -117,28 +126,28 @@ wide16-requires-2 c κs = search needs
 joins-less : tie.Need-joins-less Inv-joins μ-joins Inv-clashes μ-clashes Inv-actions μ-actions
 joins-less c =
     let j = c .before .before .before .before in
-    omega (arith, walk-falls _ _ _ _ _ _ _ _ (j .before .before .before .before .before .before .before .before .line-up .ensures) (j .joins .inv .2) (omega arith) (omega arith), c .wide162 .ensures .0)
+    omega (arith, walk-falls _ _ _ _ _ _ _ _ (j .before .before .before .before .before .before .before .before .before .before .line-up .ensures) (j .joins .inv .2) (omega arith) (omega arith), c .wide162 .ensures .0)
 
 joins-again : tie.Need-joins-again Inv-joins μ-joins Inv-clashes μ-clashes Inv-actions μ-actions
 joins-again c =
     let r = c .before .before in
     let j = r .before .before in
-    let l = j .before .before .before .before .before .before .before .before .line-up .ensures in
+    let l = j .before .before .before .before .before .before .before .before .before .before .line-up .ensures in
     let some : j .joins .sender ≢ 0 = omega arith in
     let f = walk-falls _ _ _ _ _ _ _ _ l (j .joins .inv .2) (omega arith) some in (
       j .joins .inv .0,
       omega (arith, c .wide162 .ensures .0),
       rw (c .wide162 .ensures .0) (walk-next _ _ _ _ _ _ _ _ l (j .joins .inv .2) (omega arith) some
-          (omega (arith, c .before .if3 .left, r .row-at2 .ensures .0, j .before .before .before .before .before .row-at .ensures .0))),
+          (omega (arith, c .before .if3 .left, r .row-at2 .ensures .0, j .before .before .before .before .before .before .row-at .ensures .0))),
     )
 
 mul-bucket : tie.Need-mul-bucket Inv-joins μ-joins Inv-clashes μ-clashes Inv-actions μ-actions
 mul-bucket c =
-    omega (arith, stride-room (c .before .before .before .before .before .before .row-at .result) (c .before .before .before .before .before .before .before .before .before .before .before .before .before .args .workers))
+    omega (arith, stride-room (c .before .before .before .before .before .before .before .row-at .result) (c .before .before .before .before .before .before .before .before .before .before .before .before .before .before .before .args .workers))
 
 add-bucket : tie.Need-add-bucket Inv-joins μ-joins Inv-clashes μ-clashes Inv-actions μ-actions
 add-bucket c =
-    omega (arith, stride-room (c .before .before .before .before .before .before .row-at .result) (c .before .before .before .before .before .before .before .before .before .before .before .before .before .args .workers))
+    omega (arith, stride-room (c .before .before .before .before .before .before .before .row-at .result) (c .before .before .before .before .before .before .before .before .before .before .before .before .before .before .before .args .workers))
 
 mul-wide16-3 : tie.Need-mul-wide16-3 Inv-joins μ-joins Inv-clashes μ-clashes Inv-actions μ-actions
 mul-wide16-3 c = omega arith
@@ -175,10 +184,10 @@ array-write-last c = omega arith
 
 clashes-holds : tie.Need-clashes-holds Inv-joins μ-joins Inv-clashes μ-clashes Inv-actions μ-actions
 clashes-holds c =
-    let v = c .before .before .before .before .before .before .before .before .before .actions in (
+    let v = c .before .before .before .before .before .before .before .before .before .before .actions in (
       c .before .before .joins .inv .0,
       head-below (v .inv .6) _ _ (c .wide163 .ensures .0),
-      enter _ _ _ (v .last) (v .earlier) (omega (arith, v .inv .1)) (omega (arith, v .inv .2)) (ap (bucketOf _) (c .before .before .before .before .before .before .before .row-at .ensures .0)) (v .inv .6),
+      enter _ _ _ (v .last) (v .earlier) (omega (arith, v .inv .1)) (omega (arith, v .inv .2)) (ap (bucketOf _) (c .before .before .before .before .before .before .before .before .row-at .ensures .0)) (v .inv .6),
       walk-first _ _ _ _ _ _ _ (v .inv .6) (c .wide163 .ensures .0),
     )
 
@@ -215,7 +224,7 @@ clashes-again c =
       omega (arith, c .wide164 .ensures .0, v .inv .1),
       v .inv .2,
       rw (c .wide164 .ensures .0) (walk-next _ _ _ _ _ _ _ _ (v .inv .2) (v .inv .3) (omega arith) some
-          (λ e. c .before .if4 .left (r .row-at3 .ensures .0 ∙ e ∙ sym (r .before .before .before .before .before .before .before .before .before .before .row-at .ensures .0)))),
+          (λ e. c .before .if4 .left (r .row-at3 .ensures .0 ∙ e ∙ sym (r .before .before .before .before .before .before .before .before .before .before .before .row-at .ensures .0)))),
     )
 
 add-k : tie.Need-add-k Inv-joins μ-joins Inv-clashes μ-clashes Inv-actions μ-actions
@@ -229,7 +238,7 @@ actions-again c =
     let v = c .before .clashes .inv in
     let j = c .before .before .before .before in
     let e = c .before .before .before .before .before .before in
-    let b = e .before in
+    let b = e .before .before in
     let r = b .before .before in
     let i = r .before .before .actions .inv in (
       v .0,
@@ -240,10 +249,14 @@ actions-again c =
       i .5,
       v .2,
       λ t g.
+          let (l, here) = b .stand .ensures t (stand-given _ _ t _ g (omega arith) (i .8 t g)) in
           seen-more _ _ _ _ (i .7 t g) (omega (arith, b .before .if1 .left, r .row-at .ensures .0))
-          (b .round-before .ensures t (record { within = omega (arith, g .count); tasked = g .tasked }) .kept (omega (arith, e .if2 .left, r .row-at .ensures .0))
+          (here .told l .kept (omega (arith, e .if2 .left, r .row-at .ensures .0))
           (joined-all _ _ t (g .tasked) _ (omega (arith, g .count)) (λ x l s. j .joins .inv .2 .passed x (omega arith) (omega (arith, g .count)) s)))
           (apart-all _ _ _ _ _ (r .row-at .ensures .0) (omega arith) (v .3)),
+      λ t g.
+          let (l, here) = b .stand .ensures t (stand-given _ _ t _ g (omega arith) (i .8 t g)) in
+          stood-on _ (g .tasked .planned .rules) _ _ _ here l _ (ap (λ n. n / 16) (r .row-at .ensures .0)),
     )
 
 returns : tie.Need-returns Inv-joins μ-joins Inv-clashes μ-clashes Inv-actions μ-actions
@@ -258,9 +271,11 @@ returns-2 c = λ t g.
 
 returns-3 : tie.Need-returns-3 Inv-joins μ-joins Inv-clashes μ-clashes Inv-actions μ-actions
 returns-3 c = λ t g.
-    let b = c .before in
+    let b = c .before .before in
+    let r = b .before .before in
+    let (l, here) = b .stand .ensures t (stand-given _ _ t _ g (omega arith) (r .before .before .actions .inv .8 t g)) in
     not-ordered _ _ _ t (g .tasked) _ (omega (arith, g .count))
-    (b .round-before .ensures t (record { within = omega (arith, g .count); tasked = g .tasked }) .broken (omega (arith, c .if2 .taken, b .before .before .row-at .ensures .0)))
+    (here .told l .broken (omega (arith, c .if2 .taken, r .row-at .ensures .0)))
 
 returns-4 : tie.Need-returns-4 Inv-joins μ-joins Inv-clashes μ-clashes Inv-actions μ-actions
 returns-4 c = λ t g.
@@ -268,13 +283,13 @@ returns-4 c = λ t g.
     let (l, e) = j .joins .inv .2 .stands (j .joins .sender - 1) (omega arith) in
     not-ordered _ _ _ t (g .tasked) _ (omega (arith, g .count))
     (not-joined _ _ t (g .tasked) _ (omega (arith, g .count)) _ (omega (arith, g .count)) e
-    (omega (arith, c .if3 .taken, c .before .row-at2 .ensures .0, j .before .before .before .before .before .row-at .ensures .0)))
+    (omega (arith, c .if3 .taken, c .before .row-at2 .ensures .0, j .before .before .before .before .before .before .row-at .ensures .0)))
 
 returns-5 : tie.Need-returns-5 Inv-joins μ-joins Inv-clashes μ-clashes Inv-actions μ-actions
 returns-5 c = λ t g.
     let r = c .before in
     not-apart _ _ _ t (g .tasked) _ _ (omega (arith, r .before .before .clashes .inv .1)) (omega (arith, g .count))
-    (sym (r .row-at3 .ensures .0) ∙ c .if4 .taken ∙ r .before .before .before .before .before .before .before .before .before .before .row-at .ensures .0)
+    (sym (r .row-at3 .ensures .0) ∙ c .if4 .taken ∙ r .before .before .before .before .before .before .before .before .before .before .before .row-at .ensures .0)
 
 pub rules-kept-spec : {M : Type 1} → statement M
 rules-kept-spec =
@@ -288,9 +303,10 @@ rules-kept-spec =
     μ-actions
     line-up-requires
     div-stride
+    first-of-requires
     actions-holds
     row-at-requires
-    round-before-requires
+    stand-requires
     mul-wide16
     array-read-wide16
     wide16-requires
