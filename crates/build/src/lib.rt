@@ -1,10 +1,8 @@
 // What `buildrun` does with its input (document 01, "Cases"): P, the choice count, the choices, and the plan behind them.
 ghost use mathlib.Core.Path.{_≡_};
 ghost use Rattle.plan.specs.Contract.{Some, _⇒_, before};
-ghost use Rattle.plan.specs.Refusal.{accepted};
-ghost use Rattle.runs.specs.Run.{admitted};
-ghost use Rattle.scheduler.specs.Loaded.{RunIn};
-ghost use Rattle.build.specs.Build.{countsOf, ranWith, buildOf, builtOf, Claimed};
+ghost use Rattle.build.specs.Build.{ranWith, buildOf, builtOf, Claimed};
+ghost use Rattle.build.specs.Parts.{BuildIn, BuiltFrom};
 use numbers::units8;
 use numbers::wide8;
 use plan::reader::Found;
@@ -34,29 +32,20 @@ pub enum Built {
     Counted(Counts),
 }
 
-// Runs the plan that the array holds and measures it. `missing` has how many joins enter each action.
+// Runs the plan that the array holds and measures it. `entering` has how many joins enter each action.
 fn build_read(
     jobs: usize,
     actions: usize,
     workers: u32,
     choices: &[u8],
     plan: &Sheet,
-    missing: &mut [u8; 2048],
+    entering: &[u8; 2048],
 ) -> Built
-    requires { ⌜ Some (RunIn jobs actions (now plan) (now missing)) ⌝ }
-    ensures { λ r. ⌜ RunIn jobs actions (before plan) (before missing)
-        ⇒ (λ p. builtOf r ≡ countsOf (accepted p) (admitted (accepted p) workers (before choices))) ⌝ }
+    requires { ⌜ Some (BuildIn jobs actions (now plan) (now entering)) ⌝ }
+    ensures { λ r. ⌜ BuildIn jobs actions (before plan) (before entering) ⇒ BuiltFrom workers (before choices) r ⌝ }
 {
     let mut schedule = [0u8; 4100];
-    match run_read(
-        jobs,
-        actions,
-        workers,
-        choices,
-        &mut schedule,
-        plan,
-        missing,
-    ) {
+    match run_read(actions, workers, choices, plan, entering, &mut schedule) {
         Ran::Refused(cause) => Built::Refused(cause),
         Ran::Done(t) => {
             let m = measure_read(jobs, actions, plan);
@@ -89,7 +78,7 @@ fn build_plan(workers: u32, choices: &[u8], plan: &[u8]) -> Built
             workers,
             choices,
             &sheet,
-            &mut entering,
+            &entering,
         ),
     }
 }

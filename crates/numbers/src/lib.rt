@@ -69,3 +69,10 @@ pub fn later(a: u16, b: u16) -> u16
 {
     if a < b { b } else { a }
 }
+
+// The larger of two bytes.
+pub fn larger8(a: u8, b: u8) -> u8
+    ensures { λ r. ⌜ r ≡ max a b ⌝ }
+{
+    if a < b { b } else { a }
+}

@@ -1,23 +1,6 @@
--- What holds of the runner's arrays and of the states that they stand for, in named modules.
-pub mod FlatPlan
-pub mod Missing
-pub mod FlatDeques
-pub mod Weights
-pub mod Sending
-pub mod Settling
-pub mod Turning
-pub mod Running
-pub mod TallyCell
-pub mod Codes
-pub mod Queues
-pub mod Picks
-pub mod Manning
-pub mod Noting
-pub mod Halves
+-- What holds of the bytes that are written and of what is answered, in named modules.
 pub mod ScheduleBytes
-pub mod Starting
-pub mod Standing
-pub mod Underway
+pub mod RowBytes
 pub mod RunBytes
-pub mod Handing
+pub mod Choices
 pub mod RunAnswers

@@ -1,29 +1,20 @@
-// A whole run (document 01, "Worker and round").
+// A whole run (document 01, "Worker and round" and "Turned down").
 ghost use mathlib.Core.Path.{_≡_};
-ghost use Prim.Native.Nat.{_*_, _≤_, _<_};
-ghost use mathlib.Core.List.{_++_};
-ghost use lib.ListN.{length, drop};
 ghost use Rattle.plan.specs.Contract.{Some, _⇒_, before, after};
-ghost use Rattle.plan.specs.Plan.{Plan, total};
-ghost use Rattle.runs.specs.Setting.{setting};
-ghost use Rattle.runs.specs.Run.{run as runOfPlan, choicesFit};
+ghost use Rattle.runs.specs.Run.{choicesFit};
 ghost use Rattle.scheduler.specs.Entry.{runInto, ranOf, Claimed};
-ghost use Rattle.scheduler.specs.Machine.{RunGiven, Printed, Kept};
-ghost use Rattle.scheduler.specs.Loaded.{Loaded, RunIn, Answered};
-ghost use Rattle.scheduler.specs.Header.{headerBytes};
-use crate::account::Account;
-use crate::count::no_counts;
-use crate::handed::hand_actions;
-use crate::handed::hand_jobs;
-use crate::round::round;
-use numbers::units16;
+ghost use Rattle.scheduler.specs.Loaded.{RunIn, Answered};
+ghost use Rattle.scheduler.specs.Written.{largestOf};
+use crate::write::write_header;
+use crate::write::write_rows;
+use numbers::larger8;
 use numbers::wide8;
-use numbers::wide16;
 use plan::reader::Found;
 use plan::reader::read_into;
 use plan::refusal::Refusal;
 use plan::sheet::PLACES;
 use plan::sheet::Sheet;
+use rounds::run::run_rounds;
 use runs::tally::Tally;
 
 // The counts of a run, or why there was none.
@@ -32,84 +23,22 @@ pub enum Ran {
     Done(Tally),
 }
 
-fn rounds<'a>(
-    n: usize,
-    choices: &[u8],
-    rows: &mut [u8],
-    frame: &'a [u16; 256],
-    first: &'a [u16; 257],
-    spawn: &'a [u16; 2048],
-    join: &'a [u16; 2048],
-    parent: &'a [u8; 256],
-    missing: &mut [u8; 2048],
-) -> Tally
-    requires { ⌜ ((p : Plan) × RunGiven p n (now choices) (now frame) (now first) (now spawn) (now join) (now parent) (now missing)
-        × (2 * total p ≤ length (now rows))) ⌝ }
-    ensures { λ t. ⌜ ((p : Plan) → RunGiven p n (now (choices .entry)) (now (frame .entry)) (now (first .entry)) (now (spawn .entry))
-        (now (join .entry)) (now (parent .entry)) (now (missing .entry)) → 2 * total p ≤ length (now (rows .entry))
-        → (t ≡ runOfPlan (setting p n (now (choices .entry))) .tally)
-        × Printed p (runOfPlan (setting p n (now (choices .entry)))) (now (rows .exit))
-        × Kept p (now (rows .entry)) (now (rows .exit))) ⌝ }
+// The largest choice, or 0 where there is none. A loop without a branch, which runs in wide steps.
+fn largest(choices: &[u8]) -> u8
+    ensures { λ r. ⌜ r ≡ largestOf (before choices) ⌝ }
 {
-    let mut next = [0u8; 256];
-    let mut slots = [0u8; 4096];
-    let mut top = [0u16; 16];
-    let mut len = [0u16; 16];
-    let mut seats = [256u16; 16];
-    seats[0] = 0;
-    let mut cursor = 0usize;
-    let mut after = [0u8; 32];
-    let mut last = [
-        16u8,
-        17,
-        18,
-        19,
-        20,
-        21,
-        22,
-        23,
-        24,
-        25,
-        26,
-        27,
-        28,
-        29,
-        30,
-        31,
-    ];
-    let weight = units16(frame[0]);
-    let mut a = Account {
-        weight,
-        tally: no_counts(weight),
-    };
-    while wide8(next[0]) < wide16(first[1]) {
-        a = round(
-            a,
-            n,
-            choices,
-            &mut cursor,
-            &mut seats,
-            &mut after,
-            &mut last,
-            rows,
-            frame,
-            first,
-            spawn,
-            join,
-            parent,
-            &mut next,
-            missing,
-            &mut slots,
-            &mut top,
-            &mut len,
-        );
+    let mut most = 0u8;
+    let mut i = 0;
+    while i < choices.len() {
+        most = larger8(most, choices[i]);
+        i += 1;
     }
-    a.tally
+    most
 }
 
 // Every choice is below n, there are at most 4,096, and some where there is more than one worker.
 fn choices_fit(choices: &[u8], n: usize) -> bool
-    ensures { λ r. ⌜ r ≡ choicesFit n (now (choices .entry)) ⌝ }
+    ensures { λ r. ⌜ r ≡ choicesFit n (before choices) ⌝ }
 {
     if 4096 < choices.len() {
         return false;
@@ -117,44 +46,21 @@ fn choices_fit(choices: &[u8], n: usize) -> bool
     if choices.len() == 0 {
         return n <= 1;
     }
-    let mut i = 0;
-    while i < choices.len() {
-        if n <= wide8(choices[i]) {
-            return false;
-        }
-        i += 1;
-    }
-    true
+    wide8(largest(choices)) < n
 }
 
-// The schedule's first four bytes.
-fn write_header(schedule: &mut [u8], n: usize, actions: usize)
-    requires { ⌜ (n ≤ 16) × (actions ≤ 2048) × (4 ≤ length (now schedule)) ⌝ }
-    ensures { λ r. ⌜ now (schedule .exit) ≡ headerBytes n actions ++ drop 4 (now (schedule .entry)) ⌝ }
-{
-    schedule[0] = 1;
-    schedule[1] = (n * 8 + actions / 512) as u8;
-    schedule[2] = (actions / 2 % 256) as u8;
-    schedule[3] = (actions % 2 * 128) as u8;
-}
-
-// Runs the plan that the arrays hold and writes its schedule. `missing` has how many joins enter each action.
-fn run_loaded<'a>(
+// Runs the plan that the array holds and writes its schedule. `entering` has how many joins enter each action.
+pub fn run_read(
     actions: usize,
     workers: u32,
     choices: &[u8],
+    plan: &Sheet,
+    entering: &[u8; 2048],
     schedule: &mut [u8],
-    frame: &'a [u16; 256],
-    first: &'a [u16; 257],
-    spawn: &'a [u16; 2048],
-    join: &'a [u16; 2048],
-    parent: &'a [u8; 256],
-    missing: &mut [u8; 2048],
 ) -> Ran
-    requires { ⌜ ((p : Plan) × Loaded p actions (now frame) (now first) (now spawn) (now join) (now parent) (now missing)) ⌝ }
-    ensures { λ r. ⌜ ((p : Plan) → Loaded p actions (now (frame .entry)) (now (first .entry)) (now (spawn .entry)) (now (join .entry))
-        (now (parent .entry)) (now (missing .entry)) → Answered p workers (now (choices .entry)) (now (schedule .entry)) r
-        (now (schedule .exit))) ⌝ }
+    requires { ⌜ Some (RunIn actions (now plan) (now entering)) ⌝ }
+    ensures { λ r. ⌜ RunIn actions (before plan) (before entering)
+        ⇒ Answered workers (before choices) (before schedule) r (after schedule) ⌝ }
 {
     if workers == 0 {
         return Ran::Refused(Refusal::Workers);
@@ -169,54 +75,11 @@ fn run_loaded<'a>(
     if schedule.len() < 4 + 2 * actions {
         return Ran::Refused(Refusal::Short);
     }
+    let mut rows = [0u32; 2048];
+    let t = run_rounds(n, actions, choices, plan, entering, &mut rows);
     write_header(schedule, n, actions);
-    let t = rounds(
-        n,
-        choices,
-        &mut schedule[4..],
-        frame,
-        first,
-        spawn,
-        join,
-        parent,
-        missing,
-    );
+    write_rows(&mut schedule[4..], actions, &rows);
     Ran::Done(t)
-}
-
-// Runs the plan that the one array holds and writes its schedule. `missing` has how many joins enter each action.
-pub fn run_read(
-    jobs: usize,
-    actions: usize,
-    workers: u32,
-    choices: &[u8],
-    schedule: &mut [u8],
-    plan: &Sheet,
-    missing: &mut [u8; 2048],
-) -> Ran
-    requires { ⌜ Some (RunIn jobs actions (now plan) (now missing)) ⌝ }
-    ensures { λ r. ⌜ RunIn jobs actions (before plan) (before missing)
-        ⇒ (λ p. Answered p workers (before choices) (before schedule) r (after schedule)) ⌝ }
-{
-    let mut frame = [0u16; 256];
-    let mut first = [0u16; 257];
-    let mut parent = [0u8; 256];
-    hand_jobs(jobs, plan, &mut frame, &mut first, &mut parent);
-    let mut spawn = [0u16; 2048];
-    let mut join = [0u16; 2048];
-    hand_actions(actions, plan, &mut spawn, &mut join);
-    run_loaded(
-        actions,
-        workers,
-        choices,
-        schedule,
-        &frame,
-        &first,
-        &spawn,
-        &join,
-        &parent,
-        missing,
-    )
 }
 
 // Runs the plan that the bytes hold and writes its schedule.
@@ -229,14 +92,13 @@ pub fn run(plan: &[u8], workers: u32, choices: &[u8], schedule: &mut [u8]) -> Ra
     let mut entering = [0u8; 2048];
     match read_into(plan, &mut sheet, &mut entering) {
         Found::Refused(cause) => Ran::Refused(cause),
-        Found::Plan { jobs, actions } => run_read(
-            jobs,
+        Found::Plan { jobs: _, actions } => run_read(
             actions,
             workers,
             choices,
-            schedule,
             &sheet,
-            &mut entering,
+            &entering,
+            schedule,
         ),
     }
 }

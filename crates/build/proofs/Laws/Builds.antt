@@ -12,6 +12,7 @@ use Rattle.plan.specs.Refusal.{Outcome, refused, accepted}
 use Rattle.plan.specs.Plan.{Plan}
 use Rattle.plan.specs.Rules.{Accepted}
 use Rattle.plan.specs.Reader.{readPlan}
+use Rattle.plan.specs.Found.{ReadPlan}
 use Rattle.plan.proofs.Laws.Valid.{total-range}
 use Rattle.plan_measure.specs.declared.Measures.{Measures}
 use Rattle.plan_measure.specs.Measure.{work, longest, heaviest, measured}
@@ -23,7 +24,9 @@ use Rattle.runs.proofs.Laws.Admitted.{Stopped, Went, outcome}
 use Rattle.scheduler.specs.Entry.{Result, resulted}
 use Rattle.build.specs.declared.Counts.{Counts}
 use Rattle.build.specs.Build.{countsOf, ranWith, choiceCount, buildOf}
+use Rattle.build.specs.Parts.{BuildIn}
 use Rattle.scheduler.proofs.Laws.RunBytes.{run-fits}
+use Rattle.scheduler.proofs.Laws.RunAnswers.{read-runs}
 
 -- the counts that are printed, of a tally and of measures
 abbrev pub counted : Tally → Measures → Counts
@@ -39,6 +42,11 @@ counted t m =
       steals = t .steals;
       misses = t .misses;
     }
+
+-- a plan that was read can be built
+pub read-builds : {bytes : List ℕ} {jobs actions : ℕ} {plan entering : List ℕ} (g : ReadPlan bytes jobs actions plan entering)
+    → BuildIn jobs actions plan entering (g .is)
+read-builds g = record { held = g .held; runs = read-runs _ _ _ _ _ g }
 
 module _ (p : Plan) (ok : Accepted p) (n : ℕ) (choices schedule : List ℕ) (long : 4100 ≤ length schedule) where
   abbrev answer : Outcome Tally

@@ -3,8 +3,7 @@ use mathlib.Core.Path.{refl}
 use denote.Ref.{now}
 use Rattle.plan.specs.Found.{ReadPlan}
 use Rattle.plan.proofs.Laws.Found.{found-plan, found-none}
-use Rattle.scheduler.proofs.Laws.RunAnswers.{read-runs}
-use Rattle.build.proofs.Laws.Builds.{ran-refused, ran-read}
+use Rattle.build.proofs.Laws.Builds.{read-builds, ran-refused, ran-read}
 use borrow.Author.Needs.{needs}
 use Rattle.build.proofs.build_plan.Statement.{statement}
 use Rattle.build.proofs.build_plan.Tie as tie
@@ -21,13 +20,14 @@ enum-known-jobs c = search needs
 -- what was read
 plan-read : (c : tie.After-jobs)
     → let r = c .before .before in
-    ReadPlan (now (r .before .before .before .before .before .args .plan)) (c .jobs .given .0 .0) (c .jobs .given .0 .1 .0) (r .read-into .last .1 .0) (r .read-into .last .1 .1 .0)
+    let a = r .before .before .before .before .before .args in
+    ReadPlan (now (a .plan)) (c .jobs .given .0 .0) (c .jobs .given .0 .1 .0) (r .read-into .last .1 .0) (r .read-into .last .1 .1 .0)
 plan-read c = found-plan _ _ _ _ (c .before .before .read-into .ensures) _ _ (c .jobs .given .1)
 
 build-read-requires : tie.Need-build-read-requires
 build-read-requires c κs =
     let g = plan-read (c .before .before .before) in
-    (g .is, read-runs _ _ _ _ _ g)
+    (g .is, read-builds g)
 
 returns : tie.Need-returns
 returns c =
@@ -37,7 +37,7 @@ returns c =
 returns-2 : tie.Need-returns-2
 returns-2 c =
     let g = plan-read (c .before .before .before .before) in
-    ran-read _ _ _ (g .is) _ (g .read) (c .build-read .ensures (g .is) (read-runs _ _ _ _ _ g))
+    ran-read _ _ _ (g .is) _ (g .read) (c .build-read .ensures (g .is) (read-builds g))
 
 pub build-plan-spec : {M : Type 1} → statement M
 build-plan-spec =

@@ -11,7 +11,7 @@ slice-aggregate-run-read : tie.Need-slice-aggregate-run-read
 slice-aggregate-run-read c = search needs
 
 run-read-requires : tie.Need-run-read-requires
-run-read-requires c κs = c .before .before .before .pre
+run-read-requires c κs = let (p, g) = c .before .before .pre in (p, g .runs)
 
 enum-known-cause : tie.Need-enum-known-cause
 enum-known-cause c = search needs
@@ -21,21 +21,21 @@ enum-known-t c = search needs
 
 measure-read-requires : tie.Need-measure-read-requires
 measure-read-requires c κs =
-    let (p, g) = c .before .before .before .before .before .before .before .before .pre in
-    (p, g .holds)
+    let (p, g) = c .before .before .before .before .before .before .before .pre in
+    (p, g .held)
 
 returns : tie.Need-returns
 returns c = λ p g.
     let r = c .before .before .before .before in
-    build-refused p (g .holds .planned .rules) _ _ _ (omega arith) _
-    (sym (ap ranOf (c .before .cause .given .1)) ∙ ap (λ (r : Result). r .answer) (r .run-read .ensures p g .0))
+    build-refused p (g .held .planned .rules) _ _ _ (omega arith) _
+    (sym (ap ranOf (c .before .cause .given .1)) ∙ ap (λ (r : Result). r .answer) (r .run-read .ensures p (g .runs) .0))
 
 returns-2 : tie.Need-returns-2
 returns-2 c = λ p g.
     let r = c .before .before .before .before .before in
-    build-counted p (g .holds .planned .rules) _ _ _ (omega arith) _ _
-    (sym (ap ranOf (c .before .before .t .given .1)) ∙ ap (λ (r : Result). r .answer) (r .run-read .ensures p g .0))
-    (c .measure-read .ensures p (g .holds))
+    build-counted p (g .held .planned .rules) _ _ _ (omega arith) _ _
+    (sym (ap ranOf (c .before .before .t .given .1)) ∙ ap (λ (r : Result). r .answer) (r .run-read .ensures p (g .runs) .0))
+    (c .measure-read .ensures p (g .held))
 
 pub build-read-spec : {M : Type 1} → statement M
 build-read-spec =

@@ -1,4 +1,8 @@
 -- What the entry `run` answers, by what was read.
+--   read-runs                     == a plan that was read can be run
+--   refuses-plan, answers-read    == what is answered to bytes that hold no plan; to bytes that hold one, what its run answers
+--   refuses-workers, refuses-choices, refuses-short == the run is turned down, by the first test that fails
+--   run-few, run-asked, rows-asked, run-answers     == where none does: its parts are given what they need, and it answers so
 use Prim.Native.Nat.{ℕ, _+_, _-_, _*_, _≤_, _<_}
 use mathlib.Core.Path.{_≡_, sym, ap, ap₂, _∙_}
 use mathlib.Core.Bool.{true, false}
@@ -9,8 +13,9 @@ use lib.Seq.{take-all, drop-length}
 use lib.Dec.{leb, leb→le, le→leb}
 use borrow.Author.Tests.{le-leb, lt-leb}
 use Rattle.plan.specs.declared.refusal.Refusal.{Refusal}
+use Rattle.plan.specs.Contract.{_⇒_}
 use Rattle.plan.specs.Refusal.{refused, accepted, numberOf}
-use Rattle.plan.specs.Plan.{Plan, total}
+use Rattle.plan.specs.Plan.{Plan}
 use Rattle.plan.specs.Reader.{readPlan}
 use Rattle.plan.specs.Found.{ReadPlan}
 use Rattle.plan.proofs.Laws.Valid.{total-range}
@@ -23,17 +28,18 @@ use Rattle.runs.specs.State.{State}
 use Rattle.runs.specs.Run.{run, workersFit, choicesFit, admitted, runOf}
 use Rattle.courses.specs.Schedule.{scheduleBytes}
 use Rattle.scheduler.specs.Entry.{Result, resulted, runInto, ranOf, Claimed}
-use Rattle.scheduler.specs.Machine.{RunGiven, Printed, Kept as RowsKept}
-use Rattle.scheduler.specs.Loaded.{RunIn, Loaded, Answered}
-use Rattle.scheduler.specs.Header.{headerBytes}
+use Rattle.rounds.specs.Rounds.{RunGiven, RunLeft}
+use Rattle.scheduler.specs.Loaded.{RunIn, Answered}
+use Rattle.scheduler.specs.Written.{headerBytes, Words, RowsWritten}
 use Rattle.runs.proofs.Laws.Fit.{Fit}
 use Rattle.runs.proofs.Laws.Demand3.{run-bounded}
-use Rattle.scheduler.proofs.Laws.RunBytes.{run-fits, run-written}
+use Rattle.scheduler.proofs.Laws.RunBytes.{run-fits, run-words, run-written}
 
 -- a plan that was read can be run
 pub read-runs : (bytes : List ℕ) (jobs actions : ℕ) (plan entering : List ℕ) (g : ReadPlan bytes jobs actions plan entering)
-    → RunIn jobs actions plan entering (g .is)
-read-runs bytes jobs actions plan entering g = record { holds = g .held; entered = g .entered; long = g .whole }
+    → RunIn actions plan entering (g .is)
+read-runs bytes jobs actions plan entering g =
+    record { planned = g .held .planned; all = g .held .all; entered = g .entered; whole = g .whole }
 
 -- what is answered to the bytes; where there was no run the claim says nothing
 abbrev Answers : List ℕ → ℕ → List ℕ → List ℕ → Ran → List ℕ → Type 0
@@ -46,23 +52,23 @@ module _ (bytes : List ℕ) (n : ℕ) (choices schedule : List ℕ) where
   unfolding runInto resulted runOf admitted
   refuses-plan cause e = (rw e, λ t q. absurd (let z : _≡_ {A = ℕ} 0 1 = cc in omega arith))
 
-  pub answers-read : (p : Plan) (r : Ran) (after : List ℕ) → readPlan bytes ≡ accepted p → Answered p n choices schedule r after
+  pub answers-read : (p : Plan) (r : Ran) (after : List ℕ) → readPlan bytes ≡ accepted p → Answered n choices schedule r after p
       → Answers bytes n choices schedule r after
   unfolding runInto runOf
   answers-read p r after e (a, claimed) =
       (a ∙ ap (λ o. resulted (admitted o n choices) n schedule) (sym e), λ t q. (p, e, claimed t q))
 
-module _ (p : Plan) (actions : ℕ) (frame first spawn join parent missing : List ℕ) (g : Loaded p actions frame first spawn join parent missing) where
-  pub loaded-few : actions ≤ 2048
-  loaded-few = omega (arith, g .all, total-range p (g .planned .accepted))
+module _ {actions : ℕ} {plan entering : List ℕ} {p : Plan} (g : RunIn actions plan entering p) where
+  pub run-few : actions ≤ 2048
+  run-few = omega (arith, g .all, total-range p (g .planned .rules))
 
   module _ (n : ℕ) (choices schedule : List ℕ) where
     refuses : (cause : Refusal) → admitted (accepted p) n choices ≡ refused (numberOf cause)
-        → Answered p n choices schedule (RefusedRun cause) schedule
+        → Answered n choices schedule (RefusedRun cause) schedule p
     unfolding resulted
     refuses cause e = (rw e, λ t q. absurd (let z : _≡_ {A = ℕ} 0 1 = cc in omega arith))
 
-    pub refuses-workers : (1 ≤ n → n ≤ 16 → ⊥) → Answered p n choices schedule (RefusedRun Refusal.Workers) schedule
+    pub refuses-workers : (1 ≤ n → n ≤ 16 → ⊥) → Answered n choices schedule (RefusedRun Refusal.Workers) schedule p
     unfolding admitted workersFit
     refuses-workers never =
         let e : workersFit n ≡ false = false-of (workersFit n) (λ t.
@@ -71,13 +77,13 @@ module _ (p : Plan) (actions : ℕ) (frame first spawn join parent missing : Lis
 
     module _ (some : 1 ≤ n) (most : n ≤ 16) where
       going : Fit (setting p n choices)
-      going = record { plan = g .planned .accepted; some = some; most = most }
+      going = record { plan = g .planned .rules; some = some; most = most }
 
       fits : workersFit n ≡ true
       unfolding workersFit
       fits = true-of (workersFit n) (both-intro (leb 1 n) (leb n 16) (le→leb 1 n some) (le→leb n 16 most))
 
-      pub refuses-choices : choicesFit n choices ≡ false → Answered p n choices schedule (RefusedRun Refusal.Choices) schedule
+      pub refuses-choices : choicesFit n choices ≡ false → Answered n choices schedule (RefusedRun Refusal.Choices) schedule p
       unfolding admitted
       refuses-choices e = refuses Refusal.Choices (rw (admitted, fits, e))
 
@@ -92,25 +98,31 @@ module _ (p : Plan) (actions : ℕ) (frame first spawn join parent missing : Lis
         whole : length (scheduleBytes n (s .rows)) ≡ 4 + 2 * actions
         whole = omega (arith, run-fits p n choices going, g .all)
 
-        pub refuses-short : length schedule < 4 + 2 * actions → Answered p n choices schedule (RefusedRun Refusal.Short) schedule
+        pub refuses-short : length schedule < 4 + 2 * actions → Answered n choices schedule (RefusedRun Refusal.Short) schedule p
         unfolding resulted
         refuses-short h =
             let l : length schedule < length (scheduleBytes n (s .rows)) = omega (arith, whole) in
             (rw (ran, resulted, lt-leb _ _ l), λ t q. absurd (let z : _≡_ {A = ℕ} 0 1 = cc in omega arith))
 
-        run-given : RunGiven p n choices frame first spawn join parent missing
-        run-given =
+        -- what all rounds are given
+        pub run-asked : RunGiven n actions choices plan entering p
+        run-asked =
             record {
               planned = g .planned;
+              all = g .all;
               entered = g .entered;
-              long = g .long;
+              whole = g .whole;
               some = some;
               most = most;
               fit = of-true (choicesFit n choices) fit;
             }
 
-        -- the header is written, and then the rows into what follows it
-        module _ (long : 4 + 2 * actions ≤ length schedule) (headed : List ℕ) (e : headed ≡ headerBytes n actions ++ drop 4 schedule) where
+        -- all rounds leave the rows in words; then the header is written, and the words into what follows it
+        module _ (long : 4 + 2 * actions ≤ length schedule) (headed : List ℕ) (e : headed ≡ headerBytes n actions ++ drop 4 schedule)
+            (t : Tally) (words : List ℕ) (told : RunGiven n actions choices plan entering ⇒ RunLeft n choices t words) where
+          left : RunLeft n choices t words p
+          left = told p run-asked
+
           abbrev rest : ℕ
           rest = length headed - 4
 
@@ -120,26 +132,21 @@ module _ (p : Plan) (actions : ℕ) (frame first spawn join parent missing : Lis
           behind : drop rest (drop 4 headed) ≡ []
           behind = ap (λ k. drop k (drop 4 headed)) (sym (length-drop 4 headed)) ∙ drop-length (drop 4 headed)
 
-          room : 2 * total p ≤ length (take rest (drop 4 headed))
-          room = rw (part, length-drop) (omega (arith, g .all))
+          -- what writing the rows is given
+          pub rows-asked : (actions ≤ 2048) × (2 * actions ≤ length (take rest (drop 4 headed))) × Words actions words
+          rows-asked =
+              (run-few, rw (part, length-drop) (omega arith), λ k h. run-words p n choices going words (left .rowed) k (omega (arith, g .all)))
 
-          -- what the runner is asked for
-          pub run-asked : (q : Plan) × RunGiven q n choices frame first spawn join parent missing × (2 * total q ≤ length (take rest (drop 4 headed)))
-          run-asked = (p, run-given, room)
-
-          -- and what it then answers
-          pub run-answers : (t : Tally) (rows : List ℕ)
-              → ((q : Plan) → RunGiven q n choices frame first spawn join parent missing → 2 * total q ≤ length (take rest (drop 4 headed))
-              → (t ≡ run (setting q n choices) .tally) × Printed q (run (setting q n choices)) rows × RowsKept q (take rest (drop 4 headed)) rows)
-              → Answered p n choices schedule (Done t) (take 4 headed ++ (rows ++ drop rest (drop 4 headed)))
+          pub run-answers : (out : List ℕ) → RowsWritten actions words (take rest (drop 4 headed)) out
+              → Answered n choices schedule (Done t) (take 4 headed ++ (out ++ drop rest (drop 4 headed))) p
           unfolding resulted
-          run-answers t rows told =
-              let (q, printed, kept) = told p run-given room in
-              let out = scheduleBytes n (s .rows) in
-              let fit : length out ≤ length schedule = omega (arith, whole) in
-              let x : take 4 headed ++ (rows ++ drop rest (drop 4 headed)) ≡ out ++ drop (length out) schedule =
-              ap₂ _++_ (ap (take 4) e) (ap (λ l. rows ++ l) behind ∙ append-nil rows)
-              ∙ (ap (λ a. headerBytes n a ++ rows) (g .all) ∙ run-written p n choices going schedule rows printed (rw part at kept)) in (
-                rw (q, x, ran, resulted, le-leb _ _ fit),
-                λ u v. let same : u ≡ s .tally = cc in rw (same, x) (run-bounded going (drop (length out) schedule)),
+          run-answers out w =
+              let bytes = scheduleBytes n (s .rows) in
+              let fit : length bytes ≤ length schedule = omega (arith, whole) in
+              let x : take 4 headed ++ (out ++ drop rest (drop 4 headed)) ≡ bytes ++ drop (length bytes) schedule =
+              ap₂ _++_ (ap (take 4) e) (ap (λ l. out ++ l) behind ∙ append-nil out)
+              ∙ (ap (λ a. headerBytes n a ++ out) (g .all)
+              ∙ run-written p n choices going words (left .rowed) schedule out (omega (arith, g .all)) (rw (part, g .all) at w)) in (
+                rw (left .counts, x, ran, resulted, le-leb _ _ fit),
+                λ u v. let same : u ≡ s .tally = cc (left .counts) in rw (same, x) (run-bounded going (drop (length bytes) schedule)),
               )

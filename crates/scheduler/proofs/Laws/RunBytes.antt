@@ -1,9 +1,12 @@
 -- What the runner has written is the schedule of the run.
+--   run-fits    == its length
+--   run-words   == the words of the rows have 16 bits
+--   run-written == the header, the words as bytes and what stood behind them are the schedule and what stood behind it
 use Prim.Native.Nat.{ℕ, suc, _+_, _*_, _/_, _%_, _≤_, _<_}
 use mathlib.Core.Path.{_≡_, refl, sym, ap, ap₂, _∙_}
 use mathlib.Core.List.{List, [], _∷_, _++_}
 use native.Mathlib.Omega.{arith}
-use lib.ListN.{length, getD, take, drop, take-append-drop}
+use lib.ListN.{length, getD, take, drop, take-append-drop, length-drop}
 use lib.Seq.{drop-drop}
 use Rattle.plan.specs.Plan.{Plan, total}
 use Rattle.plan.proofs.Laws.Placed.{locate}
@@ -11,11 +14,10 @@ use Rattle.plan.proofs.Laws.Valid.{total-range}
 use Rattle.plan_measure.proofs.Laws.Work.{work-range}
 use Rattle.courses.specs.Row.{Row, noRow}
 use Rattle.runs.specs.Setting.{setting}
-use Rattle.runs.specs.State.{nextOf}
 use Rattle.runs.specs.Run.{run}
 use Rattle.courses.specs.Schedule.{scheduleBytes}
-use Rattle.scheduler.specs.Machine.{Printed, Kept}
-use Rattle.scheduler.specs.Header.{headerBytes}
+use Rattle.turns.specs.Moments.{Rowed}
+use Rattle.scheduler.specs.Written.{headerBytes, Words, RowsWritten}
 use Rattle.runs.proofs.Laws.Fit.{Fit}
 use Rattle.runs.proofs.Laws.Coursed.{rows-length, round-most, run-row}
 use Rattle.courses.proofs.Laws.ScheduleBytes.{schedule-length}
@@ -54,13 +56,6 @@ module _ (p : Plan) (n : ℕ) (choices : List ℕ) (fit : Fit (setting p n choic
       let d = run-row fit t e k (omega (arith, run-long)) in
       (omega (arith, d .latest, round-most fit t, work-range p (fit .plan)), omega (arith, d .known))
 
-  run-printed : (bytes : List ℕ) → Printed p (run (setting p n choices)) bytes → take (2 * total p) bytes ≡ rowBytes rows
-  run-printed bytes q =
-      rw (← run-long) (rows-written rows bytes (omega (arith, run-long, q .room)) (λ k h.
-      let l = locate p k (omega (arith, run-long)) in
-      let i : l .position < nextOf (run (setting p n choices)) (l .job) = omega (arith, run-done fit (l .job) (l .known), l .within) in
-      (rw (l .place) (q .high (l .job) (l .position) (l .known) i), rw (l .place) (q .down (l .job) (l .position) (l .known) i))))
-
   pub run-bytes : scheduleBytes n rows ≡ headerBytes n (total p) ++ rowBytes rows
   run-bytes =
       rw (← run-long) (schedule-bytes n rows (fit .most) (omega (arith, run-long, total-range p (fit .plan))) run-narrow)
@@ -68,11 +63,26 @@ module _ (p : Plan) (n : ℕ) (choices : List ℕ) (fit : Fit (setting p n choic
   pub run-fits : length (scheduleBytes n rows) ≡ 4 + 2 * total p
   run-fits = schedule-length n rows ∙ ap (λ k. 4 + 2 * k) run-long
 
-  -- the header, the rows, and what stood behind them
-  pub run-written : (before after : List ℕ) → Printed p (run (setting p n choices)) after → Kept p (drop 4 before) after
-      → headerBytes n (total p) ++ after ≡ scheduleBytes n rows ++ drop (length (scheduleBytes n rows)) before
-  run-written before after q k =
-      let e : after ≡ rowBytes rows ++ drop (length (scheduleBytes n rows)) before =
-      sym (take-append-drop (2 * total p) after)
-      ∙ ap₂ _++_ (run-printed after q) (k .1 ∙ (drop-drop (2 * total p) 4 before ∙ ap (λ m. drop m before) (sym run-fits))) in
-      ap (λ l. headerBytes n (total p) ++ l) e ∙ ap (λ l. l ++ drop (length (scheduleBytes n rows)) before) (sym run-bytes)
+  module _ (words : List ℕ) (rowed : Rowed p (run (setting p n choices)) words) where
+    -- every action is done, so each word is that of a row
+    run-word : (k : ℕ) → k < total p → getD words k 0 ≡ 16 * getD rows k noRow .round + getD rows k noRow .worker
+    run-word k h =
+        let l = locate p k h in
+        rw (l .place) (rowed .each (l .job) (l .position) (l .known) (omega (arith, run-done fit (l .job) (l .known), l .within)))
+
+    pub run-words : Words (total p) words
+    run-words k h = omega (arith, run-word k h, run-narrow k (omega (arith, run-long)))
+
+    -- the header, the rows, and what stood behind them
+    pub run-written : (before after : List ℕ) → 4 + 2 * total p ≤ length before → RowsWritten (total p) words (drop 4 before) after
+        → headerBytes n (total p) ++ after ≡ scheduleBytes n rows ++ drop (length (scheduleBytes n rows)) before
+    run-written before after room w =
+        let front : take (2 * total p) after ≡ rowBytes rows =
+        rw (← run-long) (rows-written rows after (omega (arith, run-long, w .long, length-drop 4 before)) (λ k h.
+        let i : k < total p = omega (arith, run-long) in
+        let narrow = run-narrow k h in
+        (w .high k i ∙ omega (arith, run-word k i, narrow), w .down k i ∙ omega (arith, run-word k i, narrow)))) in
+        let back : drop (2 * total p) after ≡ drop (length (scheduleBytes n rows)) before =
+        w .kept ∙ (drop-drop (2 * total p) 4 before ∙ ap (λ m. drop m before) (sym run-fits)) in
+        ap (λ l. headerBytes n (total p) ++ l) (sym (take-append-drop (2 * total p) after) ∙ ap₂ _++_ front back)
+        ∙ ap (λ l. l ++ drop (length (scheduleBytes n rows)) before) (sym run-bytes)

@@ -8,7 +8,7 @@ use native.Mathlib.Omega.{arith}
 use lib.ListN.{length, getD}
 use Rattle.fields.specs.Field.{bitsOf, bits, number, pack, Bytes}
 use Rattle.courses.specs.Row.{Row, noRow}
-use Rattle.scheduler.specs.Header.{headerBytes}
+use Rattle.scheduler.specs.Written.{headerBytes}
 use Rattle.courses.specs.Schedule.{rowsBits, scheduleBits, scheduleBytes}
 use Rattle.fields.proofs.Laws.Bits.{append-binary, bitsOf-binary, number-append, number-injective, number-bitsOf, pack-bits}
 
@@ -34,7 +34,12 @@ row-bits r w h k =
   where
     same : number (bitsOf 8 (r / 16)) * 2 ^ 8 + number (bitsOf 8 (r % 16 * 16 + w)) ≡ number (bitsOf 12 r) * 2 ^ 4 + number (bitsOf 4 w)
     same =
-        rw (number-bitsOf 8 (r / 16) (omega arith), number-bitsOf 8 (r % 16 * 16 + w) (omega arith), number-bitsOf 12 r (omega arith), number-bitsOf 4 w (omega arith))
+        rw (
+          number-bitsOf 8 (r / 16) (omega arith),
+          number-bitsOf 8 (r % 16 * 16 + w) (omega arith),
+          number-bitsOf 12 r (omega arith),
+          number-bitsOf 4 w (omega arith),
+        )
         (omega arith)
 
 -- and three one of 5, one of 12 and seven zeros

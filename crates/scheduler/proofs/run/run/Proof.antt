@@ -14,14 +14,15 @@ read-into-requires c κs = (refl, refl)
 enum-known-cause : tie.Need-enum-known-cause
 enum-known-cause c = search needs
 
-enum-known-jobs : tie.Need-enum-known-jobs
-enum-known-jobs c = search needs
+enum-known-actions : tie.Need-enum-known-actions
+enum-known-actions c = search needs
 
 -- what was read
-plan-read : (c : tie.After-jobs)
+plan-read : (c : tie.After-actions)
     → let r = c .before .before in
-    ReadPlan (now (r .before .before .before .before .before .before .args .plan)) (c .jobs .given .0 .0) (c .jobs .given .0 .1 .0) (r .read-into .last .1 .0) (r .read-into .last .1 .1 .0)
-plan-read c = found-plan _ _ _ _ (c .before .before .read-into .ensures) _ _ (c .jobs .given .1)
+    let a = r .before .before .before .before .before .before .args in
+    ReadPlan (now (a .plan)) (c .actions .given .0 .0) (c .actions .given .0 .1 .0) (r .read-into .last .1 .0) (r .read-into .last .1 .1 .0)
+plan-read c = found-plan _ _ _ _ (c .before .before .read-into .ensures) _ _ (c .actions .given .1)
 
 run-read-requires : tie.Need-run-read-requires
 run-read-requires c κs =
@@ -47,7 +48,7 @@ run-spec =
     (tie.spec
     read-into-requires
     enum-known-cause
-    enum-known-jobs
+    enum-known-actions
     run-read-requires
     returns
     same-length

@@ -1,0 +1,2 @@
+-- The laws of sets and lines of workers.
+pub mod Laws

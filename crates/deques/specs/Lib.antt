@@ -1,0 +1,2 @@
+-- How one array holds sixteen deques.
+pub mod Dequed

@@ -1,0 +1,89 @@
+-- The runner's objects as they are made stand for the start of a run.
+--   first-manned, first-asking, first-done, first-deques == the workers and the account; the lines; what is done; the deques
+use Prim.Native.Nat.{ℕ, suc, _+_, _<_}
+use mathlib.Core.Path.{_≡_, refl, sym, ap, _∙_}
+use mathlib.Core.List.{List, []}
+use native.Mathlib.Nat.{zero-mod}
+use native.Mathlib.Omega.{arith}
+use lib.Dec.{ltb}
+use lib.ListN.{length, getD, set, replicate, getD-replicate}
+use Rattle.plan.specs.Plan.{Plan, job, size, total, placed, noPlaced, entering as enteringOf}
+use Rattle.plan.specs.Sheet.{frameOf}
+use Rattle.plan.proofs.Laws.Lists.{array-at, zeros-at}
+use Rattle.plan.proofs.Laws.Placed.{placed-length, placed-at, place-below}
+use Rattle.plan.proofs.Laws.Valid.{jobs-range}
+use Rattle.courses.specs.Row.{place}
+use Rattle.runs.specs.declared.worker.Worker.the-variants.{Idle, Holding}
+use Rattle.runs.specs.State.{workerOf, start}
+use Rattle.runs.proofs.Laws.Start.{none-done, start-idle}
+use Rattle.runs.proofs.Laws.Coursed.{start-weight}
+use Rattle.crew.proofs.Laws.Crews.{crewed-none, crewed-first, crewed-others}
+use Rattle.deques.specs.Dequed.{lenAt, dequeAt, Dequed}
+use Rattle.turns.specs.Progress.{missingAt, missingTo}
+use Rattle.turns.specs.Moments.{holds}
+use Rattle.turns.proofs.Laws.Missing.{missing-start}
+use Rattle.rounds.specs.Account.{isIdle, opened}
+use Rattle.rounds.specs.Rounds.{Started, RunGiven}
+use Rattle.rounds.proofs.Laws.Standing.{Manned, Asking, Done}
+use Rattle.rounds.proofs.Laws.Calming.{first-queued}
+
+module _ {n actions : ℕ} {choices plan entering : List ℕ} {p : Plan} (g : RunGiven n actions choices plan entering p) where
+  others : (u : ℕ) → workerOf (start p) (suc u) ≡ Idle
+  others u = start-idle p (suc u) (λ e. omega arith)
+
+  pub first-manned : {weighs : ℕ} → weighs ≡ frameOf plan 0 → Manned n (opened n weighs) (set (replicate 16 Idle) 0 (Holding 0)) p (start p)
+  unfolding start
+  first-manned e =
+      let ok = g .planned .rules in
+      let f = e ∙ g .planned .laid .frames 0 (jobs-range p ok .0) in
+      record {
+        seated = refl;
+        weighs = f ∙ sym (start-weight p ok);
+        counts = rw f refl;
+        hold = crewed-first (g .some) refl (λ u h. ap holds (others u));
+        idle = crewed-others (g .some) refl (λ u h. ap isIdle (others u));
+      }
+
+  pub first-asking : (hi : ℕ) → Asking n hi 0 choices 0 (replicate 32 0) (start p)
+  unfolding start
+  first-asking hi = record {
+    pointed = sym (zero-mod (length choices));
+    queued = first-queued p hi;
+    crewed = crewed-none (λ v h. ap (ltb 0) (getD-replicate 32 (16 + v) 0 0 (omega (arith, g .most))));
+  }
+
+  module _ {progress : List ℕ} (s : Started actions entering progress) where
+    first-missing : (j i : ℕ) → j < length p → i < size p j → missingAt progress (place p j i) ≡ missingTo p (start p .next) j i
+    unfolding start
+    first-missing j i h k =
+        let e = placed-length p in
+        let b = place-below p j i h k in
+        s .misses (place p j i) (omega (arith, g .all))
+        ∙ array-at (λ a. enteringOf p (a .job) (a .position)) entering (placed p) noPlaced (total p) (g .entered) e (place p j i) b
+        ∙ ap (λ a. enteringOf p (a .job) (a .position)) (placed-at p j i h k) ∙ sym (missing-start p j i)
+
+    pub first-done : {rows : List ℕ} → length rows ≡ 2048 → Done p progress rows (start p)
+    first-done long = record {
+      progressed = record {
+        long = s .long;
+        counts = λ j h. s .counts j (omega (arith, jobs-range p (g .planned .rules))) ∙ sym (none-done p j);
+        misses = first-missing;
+      };
+      rowed = record { long = long; each = λ j i h k. absurd (omega (arith, none-done p j)) };
+    }
+
+pub first-deques : (p : Plan) → Dequed (replicate 4128 0) (start p .deques)
+unfolding start
+first-deques p = record {
+  sixteen = refl;
+  long = refl;
+  holds = λ w h. ap (dequeAt (replicate 4128 0) w (zeros (4096 + w))) (none w) ∙ sym (getD-replicate 16 w [] [] h);
+  low = λ w i h k. absurd (omega (arith, none w));
+  room = λ w h. omega (arith, none w, zeros-at 4128 (4096 + w));
+}
+  where
+    zeros : ℕ → ℕ
+    zeros k = getD (replicate 4128 0) k 0
+
+    none : (w : ℕ) → lenAt (replicate 4128 0) w ≡ 0
+    none w = zeros-at 4128 (4112 + w)

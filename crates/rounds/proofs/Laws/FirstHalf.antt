@@ -1,0 +1,275 @@
+-- The first half of a round over the runner's objects: the turns of those who hold a job, with the idle turns as gaps between them.
+--   fitted, first-between  == what all rounds are given, and the objects as they are made
+--   turns-begin            == a round begins
+--   between-early, turns-early == a round is one of at most 2,048
+--   turns-known, turns-turning, turns-notable, turns-next == the turn of the lowest worker that is left: what it is given and leaves
+--   turns-restable, turns-over, turns-lays == the idle turns behind the last one; the run ends; or requests are laid
+use Prim.Native.Nat.{ℕ, zero, suc, _+_, _-_, _%_, _≤_, _<_}
+use mathlib.Core.Path.{_≡_, refl, sym, ap, _∙_}
+use mathlib.Core.Logic.{_≢_}
+use mathlib.Core.Bool.{true}
+use mathlib.Core.List.{List}
+use native.Mathlib.Nat.{le-refl, zero-add, add-zero}
+use native.Mathlib.Numerals.{add-one}
+use native.Mathlib.Omega.{arith}
+use lib.ListN.{length, getD, set, replicate}
+use borrow.Author.Tests.{le-leb, lt-leb}
+use Rattle.plan.specs.Plan.{Plan, size}
+use Rattle.plan.specs.Sheet.{frameOf, firstOf}
+use Rattle.plan.proofs.Laws.Valid.{jobs-range, total-range}
+use Rattle.plan.proofs.Laws.Laid.{laid-end}
+use Rattle.plan_measure.specs.Measure.{work}
+use Rattle.courses.specs.Ready.{weight}
+use Rattle.runs.specs.declared.worker.Worker.{Worker}
+use Rattle.runs.specs.declared.worker.Worker.the-variants.{Idle, Holding}
+use Rattle.runs.specs.Setting.{Setting, setting, countIn}
+use Rattle.runs.specs.State.{State, nextOf, start}
+use Rattle.runs.specs.Turn.{turnOf, turns}
+use Rattle.runs.specs.Steal.{lays}
+use Rattle.runs.specs.Run.{ended, rounds, run}
+use Rattle.runs.specs.Trace.{turning, begins}
+use Rattle.runs.proofs.Laws.Fit.{Fit}
+use Rattle.runs.proofs.Laws.Began.{trace-began}
+use Rattle.runs.proofs.Laws.Rounds.{rounds-known, numbered-late, not-ended}
+use Rattle.runs.proofs.Laws.Coursed.{round-most}
+use Rattle.runs.proofs.Laws.Whole.{round-last, rounds-stop, rounds-on}
+use Rattle.crew.specs.Crew.{Lowest, Without}
+use Rattle.crew.proofs.Laws.Walks.{left-start, left-known, left-ahead, left-test, left-next}
+use Rattle.turns.specs.declared.turn.Turned.{Turned}
+use Rattle.turns.specs.Count.{Restable}
+use Rattle.turns.specs.Progress.{doneOf}
+use Rattle.turns.specs.Moments.{InRun, holds, Moment, Turning, TurnTaken}
+use Rattle.turns.proofs.Laws.Running.{run-fit, run-sound, run-counts, run-countable, run-restable, run-turns}
+use Rattle.rounds.specs.declared.account.Account.{Account}
+use Rattle.rounds.specs.Account.{isIdle, opened, rested, Turnable, TurnNoted}
+use Rattle.rounds.specs.Rounds.{Started, RunGiven, RunLeft}
+use Rattle.rounds.proofs.Laws.Standing.{Fitted, Manned, Done, Begun, Between, InTurns, InLays, afterTurns}
+use Rattle.rounds.proofs.Laws.Rounding.{turns-requests}
+use Rattle.rounds.proofs.Laws.Idling.{Idled, turns-gap, turns-rest}
+use Rattle.rounds.proofs.Laws.Calming.{turns-queued}
+use Rattle.rounds.proofs.Laws.Beginning.{first-manned, first-asking, first-done, first-deques}
+use Rattle.rounds.proofs.Laws.Manning.{held-busy, manned-turned, manned-rested, done-rested}
+
+pub fitted : {m actions : ℕ} {choices plan entering : List ℕ} {q : Plan} → RunGiven m actions choices plan entering q
+    → Fitted (setting q m choices) plan
+fitted g = record { planned = g .planned; some = g .some; most = g .most; fit = g .fit }
+
+-- an accepted plan has at most 2,048 actions
+pub given-few : {m actions : ℕ} {choices plan entering : List ℕ} {q : Plan} → RunGiven m actions choices plan entering q → actions ≤ 2048
+given-few {q = q} g = omega (arith, g .all, total-range q (g .planned .rules))
+
+-- as a run begins; `weighs` is job 0's frame
+pub first-between : {m actions : ℕ} {choices plan entering rows : List ℕ} {q : Plan} → RunGiven m actions choices plan entering q
+    → length rows ≡ 2048 → {progress : List ℕ} → Started actions entering progress → {weighs : ℕ} → weighs ≡ frameOf plan 0
+    → Between (setting q m choices) 0 (opened m weighs) (set (replicate 16 Idle) 0 (Holding 0)) 0 (replicate 32 0) progress (replicate 4128 0) rows
+unfolding run
+first-between {m} {choices = choices} {q = q} g long s e =
+    let fit : Fit (setting q m choices) = record { plan = g .planned .rules; some = g .some; most = g .most } in
+    record {
+      state = start q;
+      begun = record { on = not-ended fit begins; trace = begins; fuel = work q; left = refl; enough = omega arith };
+      manned = first-manned g e;
+      asking = first-asking g 16;
+      done = first-done g s long;
+      dequed = first-deques q;
+    }
+
+module _ {S : Setting} {plan : List ℕ} (g : Fitted S plan) where
+  abbrev n : ℕ
+  n = S .workers
+
+  abbrev p : Plan
+  p = S .plan
+
+  -- a state as a round begins
+  begun-run : {r : ℕ} {s : State} → Begun S r s → InRun S r (s .workers) (turning 0) s
+  begun-run b = record { accepted = g .planned .rules; some = g .some; most = g .most; fit = g .fit; trace = b .trace }
+
+  -- a round in which job 0 ends is the last one
+  begun-last : {r : ℕ} {s : State} → Begun S r s → ended p (afterTurns S r n s) ≡ true → run S ≡ afterTurns S r n s
+  unfolding countIn
+  begun-last {r} {s} b over = b .left ∙ go (b .fuel) (b .enough)
+    where
+      fit : Fit S
+      fit = run-fit (begun-run b)
+
+      go : (k : ℕ) → work p < k + r → rounds k S s ≡ afterTurns S r n s
+      go zero h = absurd (omega (arith, round-most fit (b .trace)))
+      go (suc k) h =
+          rounds-on S k s (b .on) ∙ ap (rounds k S) (round-last S r s (rounds-known fit (b .trace)) over)
+          ∙ rounds-stop S k (afterTurns S r n s) over
+
+  pub turns-begin : {r : ℕ} {a : Account} {workers : List Worker} {cursor : ℕ} {lines progress deques rows : List ℕ}
+      → Between S r a workers cursor lines progress deques rows
+      → InTurns S (r + 1) (a .idle) (a .hold) 0 a workers cursor lines progress deques rows
+  unfolding turns
+  turns-begin z =
+      rw add-one
+      (record {
+        state = z .state;
+        begun = z .begun;
+        were-idle = z .manned .idle;
+        ahead = omega arith;
+        walk = left-start (z .manned .hold);
+        manned = z .manned;
+        asking = z .asking;
+        done = z .done;
+        dequed = z .dequed;
+      })
+
+  -- the round is one of at most 2,048
+  pub between-early : {r : ℕ} {a : Account} {workers : List Worker} {cursor : ℕ} {lines progress deques rows : List ℕ}
+      → Between S r a workers cursor lines progress deques rows → r < 2048
+  between-early z = run-counts (begun-run (z .begun)) .0
+
+  module _ {r began left past : ℕ} {a : Account} {workers : List Worker} {cursor : ℕ} {lines progress deques rows : List ℕ}
+      (z : InTurns S r began left past a workers cursor lines progress deques rows) where
+    pub turns-early : r ≤ 2048
+    turns-early = run-counts (begun-run (z .begun)) .0
+
+    abbrev s : State
+    s = z .state
+
+    -- the state after the turns of the workers below k
+    abbrev at : ℕ → State
+    at k = afterTurns S r k s
+
+    run-to : (k : ℕ) → k ≤ n → InRun S r (s .workers) (turning k) (at k)
+    run-to k h = run-turns (begun-run (z .begun)) k h
+
+    run-now : InRun S r (s .workers) (turning past) (at past)
+    run-now = run-to past (z .ahead)
+
+    -- at the lowest worker that is left
+    module _ {w : ℕ} (low : Lowest left w) where
+      pub turns-known : (past ≤ w) × (w < n) × (w < 16)
+      turns-known = let h = left-known (z .walk) low in (left-ahead (z .walk) low, h, omega (arith, g .most))
+
+      gap : Idled (w - past) (at past) (at w)
+      gap = turns-gap p r (s .workers) s (z .walk) low
+
+      -- it is as the round began, and holds a job
+      was : getD workers w Idle ≡ getD (s .workers) w Idle
+      was = ap (λ (ws : List Worker). getD ws w Idle) (z .manned .seated) ∙ trace-began (run-now .trace) w (turns-known .0)
+
+      held : holds (getD workers w Idle) ≡ true
+      held = ap holds was ∙ left-test (z .walk) low
+
+      turns-more : at (suc w) ≡ turnOf p r w (getD workers w Idle) (at w)
+      unfolding turns
+      turns-more = ap (λ (x : Worker). turnOf p r w x (at w)) (sym was)
+
+      -- the moment of its turn
+      abbrev pub turns-moment : Moment
+      turns-moment = record { setting = S; round = r; began = z .state .workers; state = afterTurns S r w (z .state) }
+
+      pub turns-turning : Turning (getD workers w Idle) r w (a .weight) plan progress deques rows turns-moment
+      turns-turning =
+          let d = done-rested gap (z .done) in
+          let (l, k, h) = turns-known in
+          record {
+            run = run-to w (omega arith);
+            now-in = refl;
+            known = k;
+            here = ap (λ (ws : List Worker). getD ws w Idle) (z .manned .seated ∙ sym (gap .workers));
+            holding = held;
+            weighed = z .manned .weighs ∙ ap (weight p) (sym (gap .next));
+            planned = g .planned;
+            progressed = d .progressed;
+            dequed = rw (gap .deques) (z .dequed);
+            rowed = d .rowed;
+          }
+
+      pub turns-notable : Turnable a r w (w - past)
+      turns-notable =
+          let (l, k, h) = turns-known in
+          let e : getD (at past .workers) w Idle ≡ getD workers w Idle = ap (λ (ws : List Worker). getD ws w Idle) (sym (z .manned .seated)) in
+          record {
+            known = h;
+            early = omega (arith, turns-early);
+            small = omega arith;
+            countable = run-countable run-now (z .manned .counts);
+            restable = run-restable run-now (w - past) (omega arith) (z .manned .counts);
+            held = z .manned .hold .each w k ∙ ap holds e ∙ held;
+            busy = z .manned .idle .each w k ∙ ap isIdle e ∙ held-busy (getD workers w Idle) held;
+          }
+
+      pub turns-next : {after : Turned} {progress′ deques′ rows′ : List ℕ}
+          → TurnTaken (getD workers w Idle) w after progress′ deques′ rows′ turns-moment
+          → {a′ : Account} → TurnNoted a r w (w - past) (after .worker) (after .weight) a′ → {left′ : ℕ} → Without left left′
+          → InTurns S r began left′ (w + 1) a′ (set workers w (after .worker)) cursor lines progress′ deques′ rows′
+      turns-next t e l =
+          let (ahead, k, h) = turns-known in
+          let long : w < length (at past .workers) = omega (arith, run-sound run-now .workers) in
+          rw add-one
+          (record {
+            state = s;
+            begun = z .begun;
+            were-idle = z .were-idle;
+            ahead = k;
+            walk = left-next (z .walk) low l;
+            manned = rw turns-more (manned-turned gap (z .manned) r w (getD workers w Idle) held long k (t .left) e);
+            asking = rw (e .asked) (z .asking);
+            done = rw turns-more (record { progressed = t .left .progressed; rowed = t .rowed });
+            dequed = rw turns-more (t .left .dequed);
+          })
+
+    -- nobody is left
+    module _ (none : left ≡ 0) where
+      pub turns-restable : (past ≤ n) × (n - past ≤ 16) × Restable (a .tally) (n - past)
+      turns-restable =
+          let few : n - past ≤ 16 = omega (arith, g .most) in
+          (z .ahead, few, run-restable run-now (n - past) few (z .manned .counts))
+
+      rest : Idled (n - past) (at past) (at n)
+      rest = turns-rest p r (s .workers) s (z .ahead) (rw none at (z .walk))
+
+      run-all : InRun S r (s .workers) (turning n) (at n)
+      run-all = run-to n (le-refl n)
+
+      counted : at n .tally .rounds ≡ r
+      counted = numbered-late (g .some) (rounds-known (run-fit run-all) (run-all .trace))
+
+      all-manned : Manned n (rested a r (n - past)) workers p (at n)
+      all-manned = manned-rested rest (z .manned) counted
+
+      all-done : Done p progress rows (at n)
+      all-done = done-rested rest (z .done)
+
+      -- job 0 has ended where its next place is the first of job 1
+      last-place : (doneOf progress 0 ≡ nextOf (at n) 0) × (firstOf plan 1 ≡ size p 0) × (nextOf (at n) 0 ≤ size p 0)
+      last-place =
+          let some = jobs-range p (g .planned .rules) .0 in (
+            all-done .progressed .counts 0 some,
+            laid-end plan p (g .planned .laid) 0 some ∙ zero-add (size p 0),
+            run-sound run-all .good .closed .bound 0 some,
+          )
+
+      pub turns-over : doneOf progress 0 ≡ firstOf plan 1 → RunLeft n (S .choices) (rested a r (n - past) .tally) rows (S .plan)
+      turns-over e =
+          let (d, f, l) = last-place in
+          let over : ended p (at n) ≡ true = le-leb (size p 0) (nextOf (at n) 0) (omega arith) in
+          let last : run S ≡ at n = begun-last (z .begun) over in
+          record { counts = rw last (all-manned .counts); rowed = rw last (all-done .rowed) }
+
+      pub turns-lays : doneOf progress 0 ≢ firstOf plan 1 → InLays S r began (rested a r (n - past)) workers cursor lines progress deques rows
+      unfolding lays
+      turns-lays e =
+          let (d, f, l) = last-place in
+          let ne : nextOf (at n) 0 ≢ size p 0 = λ q. e (d ∙ q ∙ sym f) in
+          record {
+            state = s;
+            begun = z .begun;
+            on = lt-leb (size p 0) (nextOf (at n) 0) (omega arith);
+            past = 0;
+            ahead = omega arith;
+            walk = left-start (z .were-idle);
+            manned = all-manned;
+            asking = record {
+              pointed = z .asking .pointed ∙ ap (λ (k : ℕ). k % length (S .choices)) (sym (turns-requests p r n (s .workers) s));
+              queued = rw add-zero (turns-queued (run-fit run-all) (z .begun .trace) (z .asking .queued) n (le-refl n));
+              crewed = z .asking .crewed;
+            };
+            done = all-done;
+            dequed = rw (rest .deques) (z .dequed);
+          }

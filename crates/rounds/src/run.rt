@@ -1,0 +1,110 @@
+// All rounds of a run (document 01, "Worker and round").
+ghost use mathlib.Core.Path.{_≡_};
+ghost use Prim.Native.Nat.{ℕ, suc, _%_, _≤_, _<_};
+ghost use lib.ListN.{length};
+ghost use Rattle.plan.specs.Contract.{Some, _⇒_, before, after};
+ghost use Rattle.rounds.specs.Rounds.{RunGiven, RunLeft};
+use crate::account::laid;
+use crate::account::opened;
+use crate::account::rested;
+use crate::account::served;
+use crate::account::turned;
+use crate::start::start_progress;
+use crew::line::len_of;
+use crew::line::line_up;
+use crew::line::step_up;
+use crew::set::lowest;
+use crew::set::rest;
+use deques::take_top;
+use numbers::wide8;
+use plan::sheet::Sheet;
+use plan::sheet::first_of;
+use plan::sheet::frame_of;
+use runs::tally::Tally;
+use runs::worker::Worker;
+use turns::progress::done_of;
+use turns::turn::Rows;
+use turns::turn::turn;
+
+// The place after `at` among `count` places, and after the last one the first.
+fn onward(at: usize, count: usize) -> usize
+    requires { ⌜ (at < count) × (count ≤ 4096) ⌝ }
+    ensures { λ r. ⌜ ((k : ℕ) → at ≡ k % count → r ≡ suc k % count) ⌝ }
+{
+    if at + 1 == count {
+        return 0;
+    }
+    at + 1
+}
+
+// Runs the plan by n workers: the counts. The rows of its schedule are then in `rows`; `entering` has how many joins enter each of
+// the actions. The sixteen workers are a local of this function, so that none is copied but the one whose turn it is.
+pub fn run_rounds(
+    n: usize,
+    actions: usize,
+    choices: &[u8],
+    plan: &Sheet,
+    entering: &[u8; 2048],
+    rows: &mut Rows,
+) -> Tally
+    requires { ⌜ Some (RunGiven n actions (now choices) (now plan) (now entering)) × (length (now rows) ≡ 2048) ⌝ }
+    ensures { λ t. ⌜ RunGiven n actions (before choices) (before plan) (before entering)
+        ⇒ RunLeft n (before choices) t (after rows) ⌝ }
+{
+    let mut workers = [Worker::Idle; 16];
+    workers[0] = Worker::Holding(0);
+    let mut progress = [0u8; 2560];
+    start_progress(actions, entering, &mut progress);
+    let mut deques = [0u8; 4128];
+    let mut lines = [0u64; 32];
+    let mut cursor = 0usize;
+    let mut r = 0usize;
+    let mut a = opened(n, frame_of(plan, 0));
+    loop {
+        r += 1;
+        let began = a.idle;
+        // First half: those who hold a job take their turns; `past` is the first worker whose turn has not come.
+        let mut left = a.hold;
+        let mut past = 0usize;
+        while left != 0 {
+            let w = lowest(left);
+            let held = workers[w];
+            let after = turn(held, r, w, a.weight, plan, &mut progress, &mut deques, rows);
+            let worker = after.worker;
+            workers[w] = worker;
+            a = turned(a, r, w, w - past, worker, after.weight);
+            past = w + 1;
+            left = rest(left);
+        }
+        a = rested(a, r, n - past);
+        if done_of(&progress, 0) == first_of(plan, 1) {
+            return a.tally;
+        }
+        // Second half: those who were idle as the round began lay requests.
+        left = began;
+        while left != 0 {
+            let w = lowest(left);
+            let victim = choices[cursor];
+            let v = wide8(victim);
+            let round = r as u16;
+            workers[w] = Worker::Waiting {
+                victim,
+                laid: round,
+            };
+            line_up(&mut lines, v, w);
+            a = laid(a, w, v);
+            cursor = onward(cursor, choices.len());
+            left = rest(left);
+        }
+        // Every victim that has requests serves the oldest.
+        left = a.asked;
+        while left != 0 {
+            let v = lowest(left);
+            let w = step_up(&mut lines, v, 0);
+            let worker = take_top(&mut deques, v);
+            workers[w] = worker;
+            a = served(a, v, len_of(&lines, v), w, worker);
+            left = rest(left);
+        }
+    }
+}

@@ -1,0 +1,54 @@
+-- What is known where a worker is about to act: the plan, the state, the job and its action.
+--   held-sound, held-job, held-room == the state is sound; the job has an action left, and its number and place are small
+--   held-target, held-spawn         == what the action sends and spawns, from the plan's array
+--   held-next, held-others          == how many actions of each job are done after it
+use Prim.Native.Nat.{ℕ, suc, _≤_, _<_}
+use mathlib.Core.Path.{_≡_}
+use mathlib.Core.Logic.{_≢_}
+use mathlib.Core.List.{List}
+use native.Mathlib.Omega.{arith}
+use lib.ListN.{length, getD}
+use Rattle.plan.specs.Plan.{Plan, size, action, total, spawnAt, parent}
+use Rattle.plan.specs.Sheet.{targetAt, childAt}
+use Rattle.plan.proofs.Laws.Laid.{laid-target, laid-child}
+use Rattle.plan.proofs.Laws.Placed.{place-below}
+use Rattle.plan.proofs.Laws.Valid.{jobs-range, size-range, total-range}
+use Rattle.runs.specs.State.{State, nextOf}
+use Rattle.turns.specs.Moments.{Moment, Held, afterOf}
+use Rattle.runs.proofs.Laws.Lined as Lined
+use Rattle.runs.proofs.Laws.Lined.{Sound}
+use Rattle.runs.proofs.Laws.TurnSound.{acted, others}
+use Rattle.turns.proofs.Laws.Running.{run-sound}
+
+module _ {k j w weighs : ℕ} {plan : List ℕ} {m : Moment} (a : Held k j w weighs plan m) where
+  abbrev p : Plan
+  p = m .setting .plan
+
+  abbrev s : State
+  s = m .state
+
+  pub held-sound : Sound p (m .setting .workers) s
+  held-sound = run-sound (a .run)
+
+  pub held-job : (j < length p) × (nextOf s j < size p j) × (1 ≤ j → spawnAt p j < nextOf s (parent p j))
+  held-job = Lined.held-job held-sound w (a .holding)
+
+  pub held-room : (j < 256) × (k < total p) × (k < 2048) × (nextOf s j < 255) × (w < 16)
+  held-room =
+      let ok = a .planned .rules in
+      let (h, l, o) = held-job in
+      let z = size-range p ok j h in
+      let below = place-below p j (nextOf s j) h l in
+      omega (arith, jobs-range p ok, total-range p ok, a .here, a .known, a .run .most)
+
+  pub held-target : targetAt plan k ≡ action p j (nextOf s j) .join
+  held-target = rw (a .here) (laid-target plan p (a .planned .laid) j (held-job .0) (nextOf s j) (held-job .1))
+
+  pub held-spawn : childAt plan k ≡ action p j (nextOf s j) .spawn
+  held-spawn = rw (a .here) (laid-child plan p (a .planned .laid) j (held-job .0) (nextOf s j) (held-job .1))
+
+  pub held-next : getD (afterOf s j) j 0 ≡ suc (nextOf s j)
+  held-next = acted (a .planned .rules) held-sound w (a .holding)
+
+  pub held-others : (h : ℕ) → h ≢ j → getD (afterOf s j) h 0 ≡ nextOf s h
+  held-others = others s j

@@ -1,0 +1,2 @@
+-- The laws that proofs of this crate and of the crates above cite.
+pub mod Laws

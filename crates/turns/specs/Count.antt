@@ -1,0 +1,26 @@
+-- What the updates of the tally ask. Functions that are no entries cite this file.
+--   Countable t        == each count that an event moves by 1 has a next one in 32 bits
+--   Restable t turns   == so many idle turns more can be counted in 32 bits
+--   withIdles t r turns == the tally t after so many idle turns of round r, one of whose turns has been taken
+use Prim.Native.Nat.{ℕ, _+_, _<_}
+use Rattle.runs.specs.declared.tally.Tally.{Tally}
+
+pub record Countable (t : Tally) : Type 0 where
+  pub actions : t .actions < 4294967295
+  pub requests : t .requests < 4294967295
+  pub steals : t .steals < 4294967295
+  pub misses : t .misses < 4294967295
+
+abbrev pub Restable : Tally → ℕ → Type 0
+Restable t turns = t .idle + turns < 4294967296
+
+abbrev pub withIdles : Tally → ℕ → ℕ → Tally
+withIdles t r turns = record {
+  rounds = r;
+  actions = t .actions;
+  idle = t .idle + turns;
+  requests = t .requests;
+  steals = t .steals;
+  misses = t .misses;
+  peak = t .peak;
+}

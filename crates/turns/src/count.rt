@@ -1,0 +1,113 @@
+// The counts of a run, and what each event makes of them (document 01, "Worker and round"). Each event has one update by value; no
+// other function names a count that it moves.
+// Every turn moves its counts where the tally stands: the tally is lent by `&mut` to one of two functions, which apply the update.
+// Their proofs, and those of the two that lend it, are walks by hand that know no count; whoever calls `acted` or `idled` passes a
+// tally by value and needs none.
+ghost use mathlib.Core.Path.{_≡_};
+ghost use Prim.Native.Nat.{_<_};
+ghost use Rattle.turns.specs.Count.{Countable, Restable, withIdles};
+ghost use Rattle.runs.specs.Tally.{noCounts, withAction, withRequest, withSteal, withMiss};
+use numbers::larger;
+use runs::tally::Tally;
+
+// As a run begins; `frame` is job 0's.
+pub fn no_counts(frame: u32) -> Tally
+    ensures { λ r. ⌜ r ≡ noCounts frame ⌝ }
+{
+    Tally {
+        rounds: 0,
+        actions: 0,
+        idle: 0,
+        requests: 0,
+        steals: 0,
+        misses: 0,
+        peak: frame,
+    }
+}
+
+// A turn that did an action; `weight` is that of the living frames after it.
+fn with_action(t: Tally, round: u32, weight: u32) -> Tally
+    requires { ⌜ Countable t ⌝ }
+    ensures { λ r. ⌜ r ≡ withAction t round weight ⌝ }
+{
+    let mut u = t;
+    u.rounds = round;
+    u.actions = t.actions + 1;
+    u.peak = larger(t.peak, weight);
+    u
+}
+
+// So many turns of workers that held nothing when the round began.
+fn with_idles(t: Tally, round: u32, turns: u32) -> Tally
+    requires { ⌜ Restable t turns ⌝ }
+    ensures { λ r. ⌜ r ≡ withIdles t round turns ⌝ }
+{
+    let mut u = t;
+    u.rounds = round;
+    u.idle = t.idle + turns;
+    u
+}
+
+// A request.
+pub fn with_request(t: Tally) -> Tally
+    requires { ⌜ Countable t ⌝ }
+    ensures { λ r. ⌜ r ≡ withRequest t ⌝ }
+{
+    let mut u = t;
+    u.requests = t.requests + 1;
+    u
+}
+
+// A service that gave a job.
+pub fn with_steal(t: Tally) -> Tally
+    requires { ⌜ Countable t ⌝ }
+    ensures { λ r. ⌜ r ≡ withSteal t ⌝ }
+{
+    let mut u = t;
+    u.steals = t.steals + 1;
+    u
+}
+
+// A service that gave none.
+pub fn with_miss(t: Tally) -> Tally
+    requires { ⌜ Countable t ⌝ }
+    ensures { λ r. ⌜ r ≡ withMiss t ⌝ }
+{
+    let mut u = t;
+    u.misses = t.misses + 1;
+    u
+}
+
+fn count_action(t: &mut Tally, round: u32, weight: u32)
+    requires { ⌜ Countable (now t) ⌝ }
+    ensures { λ _. ⌜ now (t .exit) ≡ withAction (now (t .entry)) round weight ⌝ }
+{
+    *t = with_action(*t, round, weight);
+}
+
+fn count_idles(t: &mut Tally, round: u32, turns: u32)
+    requires { ⌜ Restable (now t) turns ⌝ }
+    ensures { λ _. ⌜ now (t .exit) ≡ withIdles (now (t .entry)) round turns ⌝ }
+{
+    *t = with_idles(*t, round, turns);
+}
+
+// The tally after a turn that did an action.
+pub fn acted(t: Tally, round: usize, weight: u32) -> Tally
+    requires { ⌜ (round < 4294967296) × Countable t ⌝ }
+    ensures { λ r. ⌜ r ≡ withAction t round weight ⌝ }
+{
+    let mut t = t;
+    count_action(&mut t, round as u32, weight);
+    t
+}
+
+// The tally after so many idle turns of a round in which a turn is taken.
+pub fn idled(t: Tally, round: usize, turns: u32) -> Tally
+    requires { ⌜ (round < 4294967296) × Restable t turns ⌝ }
+    ensures { λ r. ⌜ r ≡ withIdles t round turns ⌝ }
+{
+    let mut t = t;
+    count_idles(&mut t, round as u32, turns);
+    t
+}

@@ -1,0 +1,55 @@
+// The progress of a run as one array: from 0 on how many actions of each of 256 jobs are done, and from 512 on how many joins each of
+// 2,048 actions misses. The 256 places from 256 on are left for the rounds spent on a job's next action: nothing reads or writes
+// them yet.
+ghost use mathlib.Core.Path.{_≡_};
+ghost use mathlib.Core.Logic.{_≢_};
+ghost use Prim.Native.Nat.{_+_, _-_, _<_};
+ghost use lib.ListN.{set};
+ghost use Rattle.plan.specs.Contract.{before, after};
+ghost use Rattle.turns.specs.Progress.{doneOf, missingAt, withMissing};
+use numbers::wide8;
+
+pub type Progress = [u8; 2560];
+
+const MISSING: usize = 512;
+
+// How many actions of job j are done.
+pub fn done_of(progress: &Progress, j: usize) -> usize
+    requires { ⌜ j < 256 ⌝ }
+    ensures { λ r. ⌜ (r ≡ doneOf (before progress) j) × (r < 256) ⌝ }
+{
+    wide8(progress[j])
+}
+
+// One action more of job j is done.
+pub fn count_done(progress: &mut Progress, j: usize)
+    requires { ⌜ (j < 256) × (doneOf (now progress) j < 255) ⌝ }
+    ensures { λ _. ⌜ after progress ≡ set (before progress) j (doneOf (before progress) j + 1) ⌝ }
+{
+    progress[j] = progress[j] + 1;
+}
+
+// How many joins the action at place k misses.
+pub fn missing_at(progress: &Progress, k: usize) -> usize
+    requires { ⌜ k < 2048 ⌝ }
+    ensures { λ r. ⌜ (r ≡ missingAt (before progress) k) × (r < 256) ⌝ }
+{
+    wide8(progress[MISSING + k])
+}
+
+pub fn set_missing(progress: &mut Progress, k: usize, joins: u8)
+    requires { ⌜ k < 2048 ⌝ }
+    ensures { λ _. ⌜ after progress ≡ withMissing (before progress) k joins ⌝ }
+{
+    progress[MISSING + k] = joins;
+}
+
+// A join is sent to the action at place k: how many it misses then.
+pub fn take_join(progress: &mut Progress, k: usize) -> u8
+    requires { ⌜ (k < 2048) × (missingAt (now progress) k ≢ 0) ⌝ }
+    ensures { λ r. ⌜ (r ≡ missingAt (before progress) k - 1) × (after progress ≡ withMissing (before progress) k r) ⌝ }
+{
+    let left = progress[MISSING + k] - 1;
+    progress[MISSING + k] = left;
+    left
+}
