@@ -9,7 +9,7 @@ use Rattle.plan.specs.Refusal.{accepted}
 use Rattle.plan.specs.Plan.{Plan}
 use Rattle.plan.specs.Sheet.{PlanIn}
 use Rattle.runs.specs.Run.{admitted}
-use Rattle.scheduler.specs.Loaded.{RunIn}
+use Rattle.scheduler.specs.RunRead.{RunIn}
 use Rattle.build.specs.declared.Built.{Built}
 use Rattle.build.specs.Build.{countsOf, builtOf}
 

@@ -1,12 +1,14 @@
 -- Lines of workers, one for each of sixteen victims, in one array: from place 0 on the lines, each a number that has four binary digits
 -- for a worker, the first one lowest; from place 16 on how many workers stand in each. Functions that are no entries cite this file.
---   pack q           == the number of the line q
---   Small q          == every worker of the line is below 16
---   without q i      == the line without its worker at place i
---   Lined q line len == the two numbers hold the line q
---   lineAt, lenAt    == the two numbers of victim v
---   LineAt v lines q == the array holds the line q at victim v
---   Beside v l l′    == the array l′ has what l has of every other victim
+--   pack q            == the number of the line q
+--   Small q           == every worker of the line is below 16
+--   without q i       == the line without its worker at place i
+--   Lined line len q  == the two numbers hold the line q
+--   lineAt, waitingAt == the two numbers of victim v
+--   LineAt v lines q  == the array holds the line q at victim v
+--   Beside v l l′     == the array l′ has what l has of every other victim
+--   LiningUp, LinedUp == worker w is about to go behind the line at victim v; it has gone there
+--   Leaving, Gone     == the worker at place i of the line at victim v is about to leave it; it is w, and has left
 use Prim.Native.Nat.{ℕ, suc, _+_, _*_, _≤_, _<_}
 use mathlib.Core.Path.{_≡_}
 use mathlib.Core.Logic.{_≢_}
@@ -24,7 +26,7 @@ Small (w ∷ q) = (w < 16) × Small q
 abbrev pub without : List ℕ → ℕ → List ℕ
 without q i = take i q ++ drop (suc i) q
 
-pub record Lined (q : List ℕ) (line len : ℕ) : Type 0 where
+pub record Lined (line len : ℕ) (q : List ℕ) : Type 0 where
   pub long : len ≤ 16
   pub count : length q ≡ len
   pub packed : line ≡ pack q
@@ -33,29 +35,27 @@ pub record Lined (q : List ℕ) (line len : ℕ) : Type 0 where
 abbrev pub lineAt : List ℕ → ℕ → ℕ
 lineAt lines v = getD lines v 0
 
-abbrev pub lenAt : List ℕ → ℕ → ℕ
-lenAt lines v = getD lines (16 + v) 0
+abbrev pub waitingAt : List ℕ → ℕ → ℕ
+waitingAt lines v = getD lines (16 + v) 0
 
 pub record LineAt (v : ℕ) (lines q : List ℕ) : Type 0 where
   pub long : length lines ≡ 32
   pub known : v < 16
-  pub lined : Lined q (lineAt lines v) (lenAt lines v)
+  pub lined : Lined (lineAt lines v) (waitingAt lines v) q
 
 pub record Beside (v : ℕ) (lines lines′ : List ℕ) : Type 0 where
   pub long : length lines′ ≡ length lines
   pub others : (u : ℕ) → u < 16 → u ≢ v → lineAt lines′ u ≡ lineAt lines u
-  pub lens : (u : ℕ) → u < 16 → u ≢ v → lenAt lines′ u ≡ lenAt lines u
+  pub lens : (u : ℕ) → u < 16 → u ≢ v → waitingAt lines′ u ≡ waitingAt lines u
 
--- worker w goes behind the line at victim v
-pub record Joining (v w : ℕ) (lines q : List ℕ) : Type 0 where
+pub record LiningUp (v w : ℕ) (lines q : List ℕ) : Type 0 where
   pub line : LineAt v lines q
   pub room : length q < 16
   pub known : w < 16
 
-abbrev pub Joined : ℕ → ℕ → List ℕ → List ℕ → Type 0
-Joined v w lines q = LineAt v lines (q ++ (w ∷ []))
+abbrev pub LinedUp : ℕ → ℕ → List ℕ → List ℕ → Type 0
+LinedUp v w lines q = LineAt v lines (q ++ (w ∷ []))
 
--- the worker at place i of the line leaves it
 pub record Leaving (v i : ℕ) (lines q : List ℕ) : Type 0 where
   pub line : LineAt v lines q
   pub there : i < length q

@@ -1,8 +1,8 @@
 // A set of workers as the bits of a number, worker 0 lowest.
 ghost use mathlib.Core.Path.{_≡_};
 ghost use mathlib.Core.Bool.{true, false};
-ghost use Prim.Native.Nat.{_^_, _<_};
-ghost use Rattle.crew.specs.Crew.{Marked, Lowest, Without};
+ghost use Prim.Native.Nat.{_-_, _^_, _≤_, _<_};
+ghost use Rattle.crew.specs.Crew.{Marked, Lowest, Rest};
 
 // The set of worker w alone.
 fn one(w: usize) -> u32
@@ -10,6 +10,14 @@ fn one(w: usize) -> u32
     ensures { λ r. ⌜ r ≡ 2 ^ w ⌝ }
 {
     1u32 << (w as u32)
+}
+
+// The set of the workers below n but worker 0.
+pub fn others(n: usize) -> u32
+    requires { ⌜ (1 ≤ n) × (n ≤ 16) ⌝ }
+    ensures { λ r. ⌜ r ≡ 2 ^ n - 2 ⌝ }
+{
+    (1u32 << (n as u32)) - 2
 }
 
 // The set with worker w in it.
@@ -39,7 +47,7 @@ pub fn lowest(set: u32) -> usize
 // The set without that worker.
 pub fn rest(set: u32) -> u32
     requires { ⌜ 0 < set ⌝ }
-    ensures { λ r. ⌜ Without set r ⌝ }
+    ensures { λ r. ⌜ Rest set r ⌝ }
 {
     set & (set - 1)
 }

@@ -1,1 +1,2 @@
+-- What holds of sixteen deques in one array as jobs come and go.
 pub mod Deques

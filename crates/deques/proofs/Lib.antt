@@ -1,1 +1,2 @@
+-- The laws of the sixteen deques.
 pub mod Laws

@@ -36,6 +36,7 @@ fn job_at(deques: &Deques, w: usize, i: usize) -> u8
     deques[w * 256 + i]
 }
 
+// Deque w begins at this place now.
 fn set_top(deques: &mut Deques, w: usize, at: usize)
     requires { ⌜ (w < 16) × (at < 256) ⌝ }
     ensures { λ _. ⌜ after deques ≡ set (before deques) (4096 + w) at ⌝ }
@@ -43,6 +44,7 @@ fn set_top(deques: &mut Deques, w: usize, at: usize)
     deques[TOP + w] = at as u8;
 }
 
+// It has so many jobs now.
 fn set_len(deques: &mut Deques, w: usize, n: usize)
     requires { ⌜ (w < 16) × (n < 256) ⌝ }
     ensures { λ _. ⌜ after deques ≡ set (before deques) (4112 + w) n ⌝ }
@@ -50,6 +52,7 @@ fn set_len(deques: &mut Deques, w: usize, n: usize)
     deques[LEN + w] = n as u8;
 }
 
+// Job j stands at its place i now.
 fn set_job(deques: &mut Deques, w: usize, i: usize, j: u8)
     requires { ⌜ (w < 16) × (i < 256) ⌝ }
     ensures { λ _. ⌜ after deques ≡ set (before deques) (w * 256 + i) j ⌝ }
@@ -57,7 +60,8 @@ fn set_job(deques: &mut Deques, w: usize, i: usize, j: u8)
     deques[w * 256 + i] = j;
 }
 
-// Puts job j on the bottom of deque w. An empty deque starts at its first place again.
+// Puts job j on the bottom of deque w. An empty deque starts at its first place again. A job is of greater number than the one that it
+// is put on, so none stands at a place above its number, and the places never run out.
 pub fn push(deques: &mut Deques, w: usize, j: u8)
     requires { ⌜ Some (Pushing w j (now deques)) ⌝ }
     ensures { λ _. ⌜ Pushing w j (before deques) ⇒ Pushed w j (after deques) ⌝ }

@@ -1,37 +1,36 @@
 -- The account of a run: what each event makes of it. Functions that are no entries cite this file.
---   isIdle x            == the worker x is idle
 --   opened n weight     == the account as a run of n workers begins, where job 0's frame weighs so much
 --   rested a r turns    == the account a after so many idle turns of round r, one of whose turns has been taken
 --   Turnable, TurnNoted == worker w is about to be noted after its turn in round r, and `gap` idle turns before it; a′ has noted it
 --   Layable, LayNoted   == the same of a request of worker w at victim v
 --   Servable, ServiceNoted == the same of a service of victim v, which gave worker w what it now has and has so many requests left
+--   Serving a v lines q == .. of the oldest request of the line q at victim v
+--   serviceCounted x t  == the counts t after a service that left its worker as x
 use Prim.Native.Nat.{ℕ, _-_, _^_, _≤_, _<_}
 use mathlib.Core.Path.{_≡_}
-use mathlib.Core.Bool.{Bool, true, false}
+use mathlib.Core.Bool.{true, false}
+use mathlib.Core.List.{List}
 use lib.Dec.{ltb}
+use lib.ListN.{getD}
 use Rattle.crew.specs.Crew.{member, Marked}
+use Rattle.crew.specs.Line.{Leaving}
 use Rattle.runs.specs.declared.tally.Tally.{Tally}
 use Rattle.runs.specs.declared.worker.Worker.{Worker}
 use Rattle.runs.specs.declared.worker.Worker.the-variants.{Idle, Holding, Waiting}
 use Rattle.runs.specs.Tally.{noCounts, withAction, withRequest, withSteal, withMiss}
+use Rattle.turns.specs.Worker.{holds, isIdle}
 use Rattle.turns.specs.Count.{Countable, Restable, withIdles}
-use Rattle.turns.specs.Moments.{holds}
 use Rattle.rounds.specs.declared.account.Account.{Account}
 
-abbrev pub isIdle : Worker → Bool
-isIdle Idle = true
-isIdle (Holding j) = false
-isIdle (Waiting v l) = false
-
 abbrev pub opened : ℕ → ℕ → Account
-opened n weight = record { weight = weight; hold = 1; idle = 2 ^ n - 2; asked = 0; tally = noCounts weight }
+opened n weight = record { weight = weight; holders = 1; idlers = 2 ^ n - 2; victims = 0; tally = noCounts weight }
 
 abbrev pub rested : Account → ℕ → ℕ → Account
 rested a r turns = record {
   weight = a .weight;
-  hold = a .hold;
-  idle = a .idle;
-  asked = a .asked;
+  holders = a .holders;
+  idlers = a .idlers;
+  victims = a .victims;
   tally = withIdles (a .tally) r turns;
 }
 
@@ -41,15 +40,15 @@ pub record Turnable (a : Account) (r w gap : ℕ) : Type 0 where
   pub small : gap ≤ 16
   pub countable : Countable (a .tally)
   pub restable : Restable (a .tally) gap
-  pub held : member (a .hold) w ≡ true
-  pub busy : member (a .idle) w ≡ false
+  pub held : member (a .holders) w ≡ true
+  pub busy : member (a .idlers) w ≡ false
 
 pub record TurnNoted (a : Account) (r w gap : ℕ) (x : Worker) (weighs : ℕ) (a′ : Account) : Type 0 where
   pub weighed : a′ .weight ≡ weighs
   pub counts : a′ .tally ≡ withIdles (withAction (a .tally) r weighs) r gap
-  pub hold : Marked w (holds x) (a .hold) (a′ .hold)
-  pub idle : Marked w (isIdle x) (a .idle) (a′ .idle)
-  pub asked : a′ .asked ≡ a .asked
+  pub holders : Marked w (holds x) (a .holders) (a′ .holders)
+  pub idlers : Marked w (isIdle x) (a .idlers) (a′ .idlers)
+  pub victims : a′ .victims ≡ a .victims
 
 pub record Layable (a : Account) (w v : ℕ) : Type 0 where
   pub known : w < 16
@@ -59,18 +58,21 @@ pub record Layable (a : Account) (w v : ℕ) : Type 0 where
 pub record LayNoted (a : Account) (w v : ℕ) (a′ : Account) : Type 0 where
   pub weighed : a′ .weight ≡ a .weight
   pub counts : a′ .tally ≡ withRequest (a .tally)
-  pub hold : a′ .hold ≡ a .hold
-  pub idle : Marked w false (a .idle) (a′ .idle)
-  pub asked : Marked v true (a .asked) (a′ .asked)
+  pub holders : a′ .holders ≡ a .holders
+  pub idlers : Marked w false (a .idlers) (a′ .idlers)
+  pub victims : Marked v true (a .victims) (a′ .victims)
 
 pub record Servable (a : Account) (v w : ℕ) : Type 0 where
   pub known : w < 16
   pub there : v < 16
   pub countable : Countable (a .tally)
-  pub waits : (member (a .hold) w ≡ false) × (member (a .idle) w ≡ false)
-  pub asked : member (a .asked) v ≡ true
+  pub waits : (member (a .holders) w ≡ false) × (member (a .idlers) w ≡ false)
+  pub victims : member (a .victims) v ≡ true
 
--- what a service that left its worker so made of the counts
+pub record Serving (a : Account) (v : ℕ) (lines q : List ℕ) : Type 0 where
+  pub leaving : Leaving v 0 lines q
+  pub servable : Servable a v (getD q 0 0)
+
 abbrev pub serviceCounted : Worker → Tally → Tally
 serviceCounted Idle t = withMiss t
 serviceCounted (Holding j) t = withSteal t
@@ -79,6 +81,6 @@ serviceCounted (Waiting v l) t = withMiss t
 pub record ServiceNoted (a : Account) (v left w : ℕ) (x : Worker) (a′ : Account) : Type 0 where
   pub weighed : a′ .weight ≡ a .weight
   pub counts : a′ .tally ≡ serviceCounted x (a .tally)
-  pub hold : Marked w (holds x) (a .hold) (a′ .hold)
-  pub idle : Marked w (isIdle x) (a .idle) (a′ .idle)
-  pub asked : Marked v (ltb 0 left) (a .asked) (a′ .asked)
+  pub holders : Marked w (holds x) (a .holders) (a′ .holders)
+  pub idlers : Marked w (isIdle x) (a .idlers) (a′ .idlers)
+  pub victims : Marked v (ltb 0 left) (a .victims) (a′ .victims)

@@ -8,6 +8,7 @@ ghost use Rattle.crew.specs.Crew.{member, Marked};
 ghost use Rattle.turns.specs.Count.{Restable};
 ghost use Rattle.rounds.specs.Account.{opened as openedOf, rested as restedOf};
 ghost use Rattle.rounds.specs.Account.{Turnable, TurnNoted, Layable, LayNoted, Servable, ServiceNoted};
+use crew::set::others;
 use crew::set::with;
 use crew::set::without;
 use numbers::units;
@@ -22,9 +23,9 @@ use turns::count::with_steal;
 
 pub struct Account {
     pub weight: u32,
-    pub hold: u32,
-    pub idle: u32,
-    pub asked: u32,
+    pub holders: u32,
+    pub idlers: u32,
+    pub victims: u32,
     pub tally: Tally,
 }
 
@@ -35,14 +36,15 @@ pub fn opened(n: usize, weight: u32) -> Account
 {
     Account {
         weight,
-        hold: 1,
-        idle: (1u32 << (n as u32)) - 2,
-        asked: 0,
+        holders: 1,
+        idlers: others(n),
+        victims: 0,
         tally: no_counts(weight),
     }
 }
 
-// After the turn of worker w, which did an action and is left as it stands now, and after so many idle turns before it.
+// After the turn of worker w, which did an action and is left as it stands now, and after so many idle turns before it. Both
+// set the count of rounds to this one, so that it does not matter which is counted first.
 pub fn turned(
     account: Account,
     round: usize,
@@ -58,23 +60,23 @@ pub fn turned(
     match worker {
         Worker::Holding(_) => Account {
             weight,
-            hold: account.hold,
-            idle: account.idle,
-            asked: account.asked,
+            holders: account.holders,
+            idlers: account.idlers,
+            victims: account.victims,
             tally,
         },
         Worker::Idle => Account {
             weight,
-            hold: without(account.hold, w),
-            idle: with(account.idle, w),
-            asked: account.asked,
+            holders: without(account.holders, w),
+            idlers: with(account.idlers, w),
+            victims: account.victims,
             tally,
         },
         Worker::Waiting { victim: _, laid: _ } => Account {
             weight,
-            hold: without(account.hold, w),
-            idle: account.idle,
-            asked: account.asked,
+            holders: without(account.holders, w),
+            idlers: account.idlers,
+            victims: account.victims,
             tally,
         },
     }
@@ -87,9 +89,9 @@ pub fn rested(account: Account, round: usize, turns: usize) -> Account
 {
     Account {
         weight: account.weight,
-        hold: account.hold,
-        idle: account.idle,
-        asked: account.asked,
+        holders: account.holders,
+        idlers: account.idlers,
+        victims: account.victims,
         tally: idled(account.tally, round, units(turns)),
     }
 }
@@ -101,22 +103,22 @@ pub fn laid(account: Account, w: usize, v: usize) -> Account
 {
     Account {
         weight: account.weight,
-        hold: account.hold,
-        idle: without(account.idle, w),
-        asked: with(account.asked, v),
+        holders: account.holders,
+        idlers: without(account.idlers, w),
+        victims: with(account.victims, v),
         tally: with_request(account.tally),
     }
 }
 
 // The victims that have requests, where so many are left at victim v.
-fn still_asked(asked: u32, v: usize, left: u64) -> u32
-    requires { ⌜ (v < 16) × (member asked v ≡ true) ⌝ }
-    ensures { λ r. ⌜ Marked v (ltb 0 left) asked r ⌝ }
+fn still_asked(victims: u32, v: usize, left: u64) -> u32
+    requires { ⌜ (v < 16) × (member victims v ≡ true) ⌝ }
+    ensures { λ r. ⌜ Marked v (ltb 0 left) victims r ⌝ }
 {
     if left == 0 {
-        return without(asked, v);
+        return without(victims, v);
     }
-    asked
+    victims
 }
 
 // After victim v served worker w, which stands as given now; so many requests are left there.
@@ -124,27 +126,27 @@ pub fn served(account: Account, v: usize, left: u64, w: usize, worker: Worker) -
     requires { ⌜ Servable account v w ⌝ }
     ensures { λ a. ⌜ ServiceNoted account v left w worker a ⌝ }
 {
-    let asked = still_asked(account.asked, v, left);
+    let victims = still_asked(account.victims, v, left);
     match worker {
         Worker::Holding(_) => Account {
             weight: account.weight,
-            hold: with(account.hold, w),
-            idle: account.idle,
-            asked,
+            holders: with(account.holders, w),
+            idlers: account.idlers,
+            victims,
             tally: with_steal(account.tally),
         },
         Worker::Idle => Account {
             weight: account.weight,
-            hold: account.hold,
-            idle: with(account.idle, w),
-            asked,
+            holders: account.holders,
+            idlers: with(account.idlers, w),
+            victims,
             tally: with_miss(account.tally),
         },
         Worker::Waiting { victim: _, laid: _ } => Account {
             weight: account.weight,
-            hold: account.hold,
-            idle: account.idle,
-            asked,
+            holders: account.holders,
+            idlers: account.idlers,
+            victims,
             tally: with_miss(account.tally),
         },
     }

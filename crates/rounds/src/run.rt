@@ -4,18 +4,14 @@ ghost use Prim.Native.Nat.{ℕ, suc, _%_, _≤_, _<_};
 ghost use lib.ListN.{length};
 ghost use Rattle.plan.specs.Contract.{Some, _⇒_, before, after};
 ghost use Rattle.rounds.specs.Rounds.{RunGiven, RunLeft};
-use crate::account::laid;
 use crate::account::opened;
 use crate::account::rested;
-use crate::account::served;
 use crate::account::turned;
 use crate::start::start_progress;
-use crew::line::len_of;
-use crew::line::line_up;
-use crew::line::step_up;
+use crate::steal::lay;
+use crate::steal::serve;
 use crew::set::lowest;
 use crew::set::rest;
-use deques::take_top;
 use numbers::wide8;
 use plan::sheet::Sheet;
 use plan::sheet::first_of;
@@ -23,7 +19,7 @@ use plan::sheet::frame_of;
 use runs::tally::Tally;
 use runs::worker::Worker;
 use turns::progress::done_of;
-use turns::turn::Rows;
+use turns::rows::Rows;
 use turns::turn::turn;
 
 // The place after `at` among `count` places, and after the last one the first.
@@ -62,9 +58,9 @@ pub fn run_rounds(
     let mut a = opened(n, frame_of(plan, 0));
     loop {
         r += 1;
-        let began = a.idle;
+        let were_idle = a.idlers;
         // First half: those who hold a job take their turns; `past` is the first worker whose turn has not come.
-        let mut left = a.hold;
+        let mut left = a.holders;
         let mut past = 0usize;
         while left != 0 {
             let w = lowest(left);
@@ -77,33 +73,33 @@ pub fn run_rounds(
             left = rest(left);
         }
         a = rested(a, r, n - past);
+        // Job 0's actions stand below the first place of job 1: it has ended where so many are done.
         if done_of(&progress, 0) == first_of(plan, 1) {
             return a.tally;
         }
         // Second half: those who were idle as the round began lay requests.
-        left = began;
+        left = were_idle;
         while left != 0 {
             let w = lowest(left);
             let victim = choices[cursor];
-            let v = wide8(victim);
             let round = r as u16;
             workers[w] = Worker::Waiting {
                 victim,
                 laid: round,
             };
-            line_up(&mut lines, v, w);
-            a = laid(a, w, v);
+            a = lay(a, w, wide8(victim), &mut lines);
             cursor = onward(cursor, choices.len());
             left = rest(left);
         }
         // Every victim that has requests serves the oldest.
-        left = a.asked;
+        left = a.victims;
         while left != 0 {
             let v = lowest(left);
-            let w = step_up(&mut lines, v, 0);
-            let worker = take_top(&mut deques, v);
-            workers[w] = worker;
-            a = served(a, v, len_of(&lines, v), w, worker);
+            let after = serve(a, v, &mut lines, &mut deques);
+            let who = after.who;
+            let worker = after.worker;
+            workers[who] = worker;
+            a = after.account;
             left = rest(left);
         }
     }

@@ -1,5 +1,5 @@
 -- What each event makes of the counts (document 01, "Worker and round"). A count stands in the record `Tally` of src/, in `noCounts`
--- and in the updates below, and nowhere else is a tally written out.
+-- and in the updates below; beside them a tally is written out in `recounted` (`turns` S/Count) alone, for several idle turns at once.
 --   noCounts frame        == the counts as a run begins, where job 0 has that frame
 --   withAction t r weight == after a turn of round r that did an action, after which the living frames weigh `weight`
 --   withIdle t r          == after a turn of round r of a worker that held nothing when the round began

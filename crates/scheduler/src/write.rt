@@ -5,7 +5,8 @@ ghost use Prim.Native.Nat.{_*_, _≤_};
 ghost use lib.ListN.{length, drop};
 ghost use Rattle.plan.specs.Contract.{before, after};
 ghost use Rattle.scheduler.specs.Written.{headerBytes, Words, RowsWritten};
-use turns::turn::Rows;
+use turns::rows::Rows;
+use turns::rows::row_at;
 
 // The schedule's first four bytes.
 pub fn write_header(schedule: &mut [u8], n: usize, actions: usize)
@@ -25,7 +26,7 @@ pub fn write_rows(out: &mut [u8], actions: usize, rows: &Rows)
 {
     let mut k = 0;
     while k < actions {
-        let x = rows[k];
+        let x = row_at(rows, k);
         out[2 * k] = (x / 256) as u8;
         out[2 * k + 1] = (x % 256) as u8;
         k += 1;

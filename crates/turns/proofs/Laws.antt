@@ -1,3 +1,4 @@
+-- What holds of a turn over the runner's arrays, and of the counts in memory.
 pub mod Running
 pub mod Missing
 pub mod Weights

@@ -1,6 +1,8 @@
 -- What the updates of the tally ask. Functions that are no entries cite this file.
---   Countable t        == each count that an event moves by 1 has a next one in 32 bits
---   Restable t turns   == so many idle turns more can be counted in 32 bits
+--   Countable t         == each count that an event moves by 1 has a next one in 32 bits
+--   Restable t turns    == so many idle turns more can be counted in 32 bits
+--   recounted t r idle  == the tally t with other counts of rounds and idle turns: the one tally written out beside runs' updates,
+--                          which count one event each
 --   withIdles t r turns == the tally t after so many idle turns of round r, one of whose turns has been taken
 use Prim.Native.Nat.{ℕ, _+_, _<_}
 use Rattle.runs.specs.declared.tally.Tally.{Tally}
@@ -14,13 +16,16 @@ pub record Countable (t : Tally) : Type 0 where
 abbrev pub Restable : Tally → ℕ → Type 0
 Restable t turns = t .idle + turns < 4294967296
 
-abbrev pub withIdles : Tally → ℕ → ℕ → Tally
-withIdles t r turns = record {
+abbrev pub recounted : Tally → ℕ → ℕ → Tally
+recounted t r idle = record {
   rounds = r;
   actions = t .actions;
-  idle = t .idle + turns;
+  idle = idle;
   requests = t .requests;
   steals = t .steals;
   misses = t .misses;
   peak = t .peak;
 }
+
+abbrev pub withIdles : Tally → ℕ → ℕ → Tally
+withIdles t r turns = recounted t r (t .idle + turns)

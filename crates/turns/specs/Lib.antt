@@ -1,4 +1,6 @@
 -- What the functions of a turn are given and leave; none of them is an entry.
+pub mod Worker
 pub mod Count
 pub mod Progress
+pub mod Rows
 pub mod Moments

@@ -1,28 +1,29 @@
 -- A moment of a run, and what a turn and its parts are given and leave of it. Functions that are no entries cite this file.
---   InRun S r b g s == s is the state of a run of S at stage g of round r, where b are the workers as the round began
+--   InRun S r b g s == the setting S is let through (an accepted plan, 1 to 16 workers, choices that fit), and s is the state of its run
+--                      at stage g of round r, where b are the workers as the round began
 --   Moment, At      == a setting, a round, the workers as it began and a state; the state is that of a run at a stage
---   Rowed p s rows  == the array holds the rows of the actions that are done: sixteen times the round, and the worker
 --   Held            == at moment m worker w holds job j, whose next action stands at place k
---   Acting          == .. and the arrays stand for m
+--   Sending         == .. and the arrays stand for m
+--   Acting          == .. and so does the weight of the living frames
 --   Sent            == the action is counted and rule 1 followed
---   Settling        == .. and the action spawned none
---   Acted           == the arrays stand for the state after the turn, and the answer for its worker and the living frames
---   holds x         == the worker x holds a job
+--   Settling        == Held and Sent, the weight is that of the living frames at m, and the action spawned none
+--   After           == the arrays stand for the state t of a run of p, and the answer `after` for its worker w and living frames
+--   Acted           == .. where t is the state after the turn of worker w, which holds job j
 --   Turning         == at moment m worker w, which holds a job, is about to take its turn; the arrays stand for m
 --   TurnTaken       == they stand for the state after it
-use Prim.Native.Nat.{ℕ, _+_, _*_, _≤_, _<_}
+use Prim.Native.Nat.{ℕ, _≤_, _<_}
 use mathlib.Core.Path.{_≡_}
-use mathlib.Core.Bool.{Bool, true, false}
+use mathlib.Core.Bool.{true}
 use mathlib.Core.List.{List}
-use lib.ListN.{length, getD, set}
+use lib.ListN.{set}
 use lib.Dec.{T}
 use Rattle.plan.specs.Plan.{Plan, action}
 use Rattle.plan.specs.Rules.{Accepted}
 use Rattle.plan.specs.Sheet.{Planned}
-use Rattle.courses.specs.Row.{noRow, place}
+use Rattle.courses.specs.Row.{place}
 use Rattle.courses.specs.Ready.{weight}
 use Rattle.runs.specs.declared.worker.Worker.{Worker}
-use Rattle.runs.specs.declared.worker.Worker.the-variants.{Idle, Holding, Waiting}
+use Rattle.runs.specs.declared.worker.Worker.the-variants.{Holding}
 use Rattle.runs.specs.Setting.{Setting}
 use Rattle.runs.specs.State.{State, nextOf, workerOf}
 use Rattle.runs.specs.Turn.{turn, turnOf}
@@ -31,7 +32,9 @@ use Rattle.runs.specs.Trace.{Stage, turning, Trace}
 pub use Rattle.runs.specs.Parts.{afterOf, aboveOf}
 use Rattle.deques.specs.Dequed.{Dequed}
 use Rattle.turns.specs.declared.turn.Turned.{Turned}
+use Rattle.turns.specs.Worker.{holds}
 use Rattle.turns.specs.Progress.{Progressed}
+use Rattle.turns.specs.Rows.{Rowed}
 
 pub record InRun (S : Setting) (r : ℕ) (began : List Worker) (g : Stage) (s : State) : Type 0 where
   pub accepted : Accepted (S .plan)
@@ -49,35 +52,33 @@ pub record Moment : Type 0 where
 abbrev pub At : Stage → Moment → Type 0
 At g m = InRun (m .setting) (m .round) (m .began) g (m .state)
 
-pub record Rowed (p : Plan) (s : State) (rows : List ℕ) : Type 0 where
-  pub long : length rows ≡ 2048
-  pub each : (j i : ℕ) → j < length p → i < nextOf s j
-      → getD rows (place p j i) 0 ≡ 16 * getD (s .rows) (place p j i) noRow .round + getD (s .rows) (place p j i) noRow .worker
-
-pub record Held (k j w weighs : ℕ) (plan : List ℕ) (m : Moment) : Type 0 where
+pub record Held (k j w : ℕ) (plan : List ℕ) (m : Moment) : Type 0 where
   pub run : At (turning w) m
   pub known : w < m .setting .workers
   pub holding : workerOf (m .state) w ≡ Holding j
   pub planned : Planned plan (m .setting .plan)
   pub here : k ≡ place (m .setting .plan) j (nextOf (m .state) j)
-  pub weighed : weighs ≡ weight (m .setting .plan) (m .state .next)
 
-pub record Acting (k j w weighs : ℕ) (plan progress deques : List ℕ) (m : Moment) : Type 0 where
-  pub held : Held k j w weighs plan m
+pub record Sending (k j w : ℕ) (plan progress deques : List ℕ) (m : Moment) : Type 0 where
+  pub held : Held k j w plan m
   pub progressed : Progressed (m .setting .plan) (m .state .next) progress
   pub dequed : Dequed deques (m .state .deques)
+
+pub record Acting (k j w weighs : ℕ) (plan progress deques : List ℕ) (m : Moment) : Type 0 where
+  pub sending : Sending k j w plan progress deques m
+  pub weighed : weighs ≡ weight (m .setting .plan) (m .state .next)
 
 pub record Sent (j w : ℕ) (progress deques : List ℕ) (m : Moment) : Type 0 where
   pub progressed : Progressed (m .setting .plan) (afterOf (m .state) j) progress
   pub dequed : Dequed deques (set (m .state .deques) w (aboveOf (m .setting .plan) (m .state) w j))
 
 pub record Settling (k j w weighs : ℕ) (plan progress deques : List ℕ) (m : Moment) : Type 0 where
-  pub held : Held k j w weighs plan m
+  pub held : Held k j w plan m
+  pub weighed : weighs ≡ weight (m .setting .plan) (m .state .next)
   pub sent : Sent j w progress deques m
   pub none : action (m .setting .plan) j (nextOf (m .state) j) .spawn ≡ 0
 
--- t is the state after it
-pub record Left (w : ℕ) (after : Turned) (progress deques : List ℕ) (p : Plan) (t : State) : Type 0 where
+pub record After (w : ℕ) (after : Turned) (progress deques : List ℕ) (p : Plan) (t : State) : Type 0 where
   pub worker : after .worker ≡ workerOf t w
   pub weighed : after .weight ≡ weight p (t .next)
   pub progressed : Progressed p (t .next) progress
@@ -85,12 +86,7 @@ pub record Left (w : ℕ) (after : Turned) (progress deques : List ℕ) (p : Pla
 
 abbrev pub Acted : ℕ → ℕ → Turned → List ℕ → List ℕ → Moment → Type 0
 Acted j w after progress deques m =
-    Left w after progress deques (m .setting .plan) (turn (m .setting .plan) (m .round) w j (m .state))
-
-abbrev pub holds : Worker → Bool
-holds Idle = false
-holds (Holding j) = true
-holds (Waiting v l) = false
+    After w after progress deques (m .setting .plan) (turn (m .setting .plan) (m .round) w j (m .state))
 
 pub record Turning (x : Worker) (r w weighs : ℕ) (plan progress deques rows : List ℕ) (m : Moment) : Type 0 where
   pub run : At (turning w) m
@@ -105,5 +101,5 @@ pub record Turning (x : Worker) (r w weighs : ℕ) (plan progress deques rows : 
   pub rowed : Rowed (m .setting .plan) (m .state) rows
 
 pub record TurnTaken (x : Worker) (w : ℕ) (after : Turned) (progress deques rows : List ℕ) (m : Moment) : Type 0 where
-  pub left : Left w after progress deques (m .setting .plan) (turnOf (m .setting .plan) (m .round) w x (m .state))
+  pub left : After w after progress deques (m .setting .plan) (turnOf (m .setting .plan) (m .round) w x (m .state))
   pub rowed : Rowed (m .setting .plan) (turnOf (m .setting .plan) (m .round) w x (m .state)) rows

@@ -1,5 +1,5 @@
 -- The array of a run's progress, and how it stands for what is done. Functions that are no entries cite this file.
---   doneOf progress j    == how many actions of job j are done
+--   doneOf progress j    == how many actions of job j are done; withDone == the array where one more is
 --   missingAt progress k == how many joins the action at place k misses; withMissing == the array with another number there
 --   missingTo p done j i == how many joins into an action are not sent yet
 --   Progressed p done progress == the array holds what is done of each job, and how many joins each action misses
@@ -14,6 +14,9 @@ use Rattle.courses.specs.Row.{place}
 
 abbrev pub doneOf : List ℕ → ℕ → ℕ
 doneOf progress j = getD progress j 0
+
+abbrev pub withDone : List ℕ → ℕ → List ℕ
+withDone progress j = set progress j (doneOf progress j + 1)
 
 abbrev pub missingAt : List ℕ → ℕ → ℕ
 missingAt progress k = getD progress (512 + k) 0

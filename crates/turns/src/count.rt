@@ -5,6 +5,7 @@
 // tally by value and needs none.
 ghost use mathlib.Core.Path.{_≡_};
 ghost use Prim.Native.Nat.{_<_};
+ghost use Rattle.plan.specs.Contract.{before, after};
 ghost use Rattle.turns.specs.Count.{Countable, Restable, withIdles};
 ghost use Rattle.runs.specs.Tally.{noCounts, withAction, withRequest, withSteal, withMiss};
 use numbers::larger;
@@ -78,16 +79,18 @@ pub fn with_miss(t: Tally) -> Tally
     u
 }
 
+// `with_action` where the tally stands.
 fn count_action(t: &mut Tally, round: u32, weight: u32)
     requires { ⌜ Countable (now t) ⌝ }
-    ensures { λ _. ⌜ now (t .exit) ≡ withAction (now (t .entry)) round weight ⌝ }
+    ensures { λ _. ⌜ after t ≡ withAction (before t) round weight ⌝ }
 {
     *t = with_action(*t, round, weight);
 }
 
+// `with_idles` where the tally stands.
 fn count_idles(t: &mut Tally, round: u32, turns: u32)
     requires { ⌜ Restable (now t) turns ⌝ }
-    ensures { λ _. ⌜ now (t .exit) ≡ withIdles (now (t .entry)) round turns ⌝ }
+    ensures { λ _. ⌜ after t ≡ withIdles (before t) round turns ⌝ }
 {
     *t = with_idles(*t, round, turns);
 }

@@ -2,4 +2,5 @@
 // promise, and cites their laws only.
 pub mod count;
 pub mod progress;
+pub mod rows;
 pub mod turn;

@@ -3,10 +3,9 @@
 // them yet.
 ghost use mathlib.Core.Path.{_≡_};
 ghost use mathlib.Core.Logic.{_≢_};
-ghost use Prim.Native.Nat.{_+_, _-_, _<_};
-ghost use lib.ListN.{set};
+ghost use Prim.Native.Nat.{_-_, _<_};
 ghost use Rattle.plan.specs.Contract.{before, after};
-ghost use Rattle.turns.specs.Progress.{doneOf, missingAt, withMissing};
+ghost use Rattle.turns.specs.Progress.{doneOf, withDone, missingAt, withMissing};
 use numbers::wide8;
 
 pub type Progress = [u8; 2560];
@@ -24,7 +23,7 @@ pub fn done_of(progress: &Progress, j: usize) -> usize
 // One action more of job j is done.
 pub fn count_done(progress: &mut Progress, j: usize)
     requires { ⌜ (j < 256) × (doneOf (now progress) j < 255) ⌝ }
-    ensures { λ _. ⌜ after progress ≡ set (before progress) j (doneOf (before progress) j + 1) ⌝ }
+    ensures { λ _. ⌜ after progress ≡ withDone (before progress) j ⌝ }
 {
     progress[j] = progress[j] + 1;
 }
@@ -37,6 +36,7 @@ pub fn missing_at(progress: &Progress, k: usize) -> usize
     wide8(progress[MISSING + k])
 }
 
+// The action at place k misses so many joins.
 pub fn set_missing(progress: &mut Progress, k: usize, joins: u8)
     requires { ⌜ k < 2048 ⌝ }
     ensures { λ _. ⌜ after progress ≡ withMissing (before progress) k joins ⌝ }

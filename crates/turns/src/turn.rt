@@ -1,11 +1,13 @@
 // A worker's turn (document 01, "Worker and round", rules 1 to 3), with its row of the schedule.
 ghost use Rattle.plan.specs.Contract.{Some, _⇒_, before, after};
-ghost use Rattle.turns.specs.Moments.{Acting, Sent, Settling, Acted, Turning, TurnTaken};
+ghost use Rattle.turns.specs.Moments.{Sending, Acting, Sent, Settling, Acted, Turning, TurnTaken};
 use crate::progress::Progress;
 use crate::progress::count_done;
 use crate::progress::done_of;
 use crate::progress::missing_at;
 use crate::progress::take_join;
+use crate::rows::Rows;
+use crate::rows::set_row;
 use deques::Deques;
 use deques::push;
 use deques::take_bottom;
@@ -19,9 +21,6 @@ use plan::sheet::parent_of;
 use plan::sheet::target_at;
 use runs::worker::Worker;
 
-// The rows of a schedule in plan order: sixteen times the round, and the worker.
-pub type Rows = [u32; 2048];
-
 // What a turn leaves of the worker, and the weight of the living frames after it.
 pub struct Turned {
     pub worker: Worker,
@@ -30,17 +29,9 @@ pub struct Turned {
 
 // 1. The action at place k is done and sends its join; where that was the last one missing to the parent's next action, the
 // parent goes on the bottom of deque w.
-fn send(
-    k: usize,
-    j: usize,
-    w: usize,
-    weight: u32,
-    plan: &Sheet,
-    progress: &mut Progress,
-    deques: &mut Deques,
-)
-    requires { ⌜ Some (Acting k j w weight (now plan) (now progress) (now deques)) ⌝ }
-    ensures { λ _. ⌜ Acting k j w weight (before plan) (before progress) (before deques)
+fn send(k: usize, j: usize, w: usize, plan: &Sheet, progress: &mut Progress, deques: &mut Deques)
+    requires { ⌜ Some (Sending k j w (now plan) (now progress) (now deques)) ⌝ }
+    ensures { λ _. ⌜ Sending k j w (before plan) (before progress) (before deques)
         ⇒ Sent j w (after progress) (after deques) ⌝ }
 {
     count_done(progress, j);
@@ -105,7 +96,7 @@ fn act(
     ensures { λ a. ⌜ Acting k j w weight (before plan) (before progress) (before deques)
         ⇒ Acted j w a (after progress) (after deques) ⌝ }
 {
-    send(k, j, w, weight, plan, progress, deques);
+    send(k, j, w, plan, progress, deques);
     let child = child_at(plan, k);
     if child == 0 {
         return settle(k, j, w, weight, plan, progress, deques);
@@ -135,11 +126,12 @@ pub fn turn(
     ensures { λ a. ⌜ Turning worker round w weight (before plan) (before progress) (before deques) (before rows)
         ⇒ TurnTaken worker w a (after progress) (after deques) (after rows) ⌝ }
 {
+    // A worker whose turn it is holds a job, for the walk over the set of holders goes to no other: `else` is never taken.
     let Worker::Holding(held) = worker else {
         return Turned { worker, weight };
     };
     let j = wide8(held);
     let k = first_of(plan, j) + done_of(progress, j);
-    rows[k] = (16 * round + w) as u32;
+    set_row(rows, k, round, w);
     act(k, j, w, weight, plan, progress, deques)
 }

@@ -1,5 +1,6 @@
 -- Sets that stand for a test, as they begin and as the test changes at one number: how a set is kept beside what it tells of.
 --   crewed-none, crewed-first, crewed-others == the sets of nobody, of worker 0 alone, and of all below n but worker 0
+--   marked-as-was == a set in which worker w stands as it is to stand, marked there, is that set itself
 --   crewed-at     == a set that is marked at one number stands for every test that changes there alone, to the same
 --   testOf f ws d == the test of each entry of the list ws
 --   crewed-mark   == of such a test, where one entry is set and its number is marked
@@ -17,8 +18,9 @@ use lib.Pow.{pow-pos}
 use lib.ListN.{length, getD, set}
 use lib.Seq.{getD-set-same, getD-set-other}
 use borrow.Author.Tests.{eq-eqb, ne-eqb}
-use Rattle.crew.specs.Crew.{chosen, member, Marked, Crewed}
+use Rattle.crew.specs.Crew.{whether, member, Marked}
 use Rattle.crew.proofs.Laws.Members.{member-none, member-one, member-but}
+use Rattle.crew.proofs.Laws.Walks.{Crewed}
 
 module _ {test : ℕ → Bool} {n : ℕ} where
   pub crewed-none : ((u : ℕ) → u < n → test u ≡ false) → Crewed test n 0
@@ -48,13 +50,21 @@ module _ {test : ℕ → Bool} {n : ℕ} where
       all zero l = sym first
       all (suc u) l = ap not (eqb·suc-zero u) ∙ sym (more u l)
 
+pub marked-as-was : {w : ℕ} {b : Bool} {s : ℕ} → member s w ≡ b → Marked w b s s
+marked-as-was {w} {b} {s} m = record {
+  small = λ n h l. l;
+  each = λ u. by-cases (ℕ-discrete u w)
+      (λ e. ap (member s) e ∙ m ∙ sym (ap (λ (t : Bool). whether t b (member s u)) (eq-eqb u w e)))
+      (λ f. sym (ap (λ (t : Bool). whether t b (member s u)) (ne-eqb u w f)));
+}
+
 pub crewed-at : {test test′ : ℕ → Bool} {n s r w : ℕ} {b : Bool} → Crewed test n s → Marked w b s r → w < n
     → test′ w ≡ b → ((u : ℕ) → u ≢ w → test′ u ≡ test u) → Crewed test′ n r
 crewed-at {test} {test′} {n} {s} {r} {w} {b} q m h is others = record {
   small = m .small n h (q .small);
   each = λ u l. m .each u ∙ by-cases (ℕ-discrete u w)
-      (λ i. ap (λ (t : Bool). chosen t b (member s u)) (eq-eqb u w i) ∙ sym (ap test′ i ∙ is))
-      (λ g. ap (λ (t : Bool). chosen t b (member s u)) (ne-eqb u w g) ∙ q .each u l ∙ sym (others u g));
+      (λ i. ap (λ (t : Bool). whether t b (member s u)) (eq-eqb u w i) ∙ sym (ap test′ i ∙ is))
+      (λ g. ap (λ (t : Bool). whether t b (member s u)) (ne-eqb u w g) ∙ q .each u l ∙ sym (others u g));
 }
 
 abbrev pub testOf : {A : Type 0} → (A → Bool) → List A → A → ℕ → Bool
@@ -64,10 +74,5 @@ module _ {A : Type 0} (f : A → Bool) (ws : List A) (d x : A) {n s w : ℕ} (q 
   pub crewed-mark : {r : ℕ} → Marked w (f x) s r → w < n → Crewed (testOf f (set ws w x) d) n r
   crewed-mark m l = crewed-at q m l (ap f (getD-set-same ws w x d h)) (λ u g. ap f (getD-set-other ws w u x d g))
 
-  pub crewed-same : f x ≡ f (getD ws w d) → Crewed (testOf f (set ws w x) d) n s
-  crewed-same e = record {
-    small = q .small;
-    each = λ u b. q .each u b ∙ by-cases (ℕ-discrete u w)
-        (λ i. ap (λ (k : ℕ). f (getD ws k d)) i ∙ sym (ap (λ (k : ℕ). f (getD (set ws w x) k d)) i ∙ ap f (getD-set-same ws w x d h) ∙ e))
-        (λ g. sym (ap f (getD-set-other ws w u x d g)));
-  }
+  pub crewed-same : w < n → f x ≡ f (getD ws w d) → Crewed (testOf f (set ws w x) d) n s
+  crewed-same l e = crewed-mark (marked-as-was (q .each w l ∙ sym e)) l

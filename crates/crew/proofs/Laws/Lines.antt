@@ -4,17 +4,16 @@
 --   line-put        == and hold another where its numbers are stored
 --   beside-put      == and every other victim has what it had
 --   line-beside     == so the line of another victim stays
---   line-empty, line-some == a line of length 0 is empty, and one that is longer has a worker
 use Prim.Native.Nat.{ℕ, _+_, _<_}
 use mathlib.Core.Path.{_≡_, refl, _∙_}
 use mathlib.Core.Logic.{_≢_}
-use mathlib.Core.List.{List, [], _∷_}
+use mathlib.Core.List.{List, []}
 use native.Mathlib.Omega.{arith}
-use lib.ListN.{length, set, replicate, length-set, length-replicate, getD-replicate}
+use lib.ListN.{set, replicate, length-set, length-replicate, getD-replicate}
 use lib.Seq.{getD-set-same, getD-set-other}
-use Rattle.crew.specs.Line.{pack, lineAt, lenAt, Lined, LineAt, Beside}
+use Rattle.crew.specs.Line.{pack, lineAt, waitingAt, Lined, LineAt, Beside}
 
-lined-none : Lined [] 0 0
+lined-none : Lined 0 0 []
 unfolding pack
 lined-none = record { long = omega arith; count = refl; packed = refl; small = omega arith }
 
@@ -26,10 +25,10 @@ line-first-zero v h = record {
 }
 
 module _ {v : ℕ} {lines q : List ℕ} (a : LineAt v lines q) where
-  pub line-lined : {len : ℕ} → len ≡ lenAt lines v → Lined q (lineAt lines v) len
+  pub line-lined : {len : ℕ} → len ≡ waitingAt lines v → Lined (lineAt lines v) len q
   line-lined e = rw e (a .lined)
 
-  pub line-put : {q′ : List ℕ} {x y : ℕ} → Lined q′ x y → LineAt v (set (set lines v x) (16 + v) y) q′
+  pub line-put : {q′ : List ℕ} {x y : ℕ} → Lined x y q′ → LineAt v (set (set lines v x) (16 + v) y) q′
   line-put {q′} {x} {y} d = record {
     long = length-set (set lines v x) (16 + v) y ∙ length-set lines v x ∙ a .long;
     known = a .known;
@@ -40,18 +39,8 @@ module _ {v : ℕ} {lines q : List ℕ} (a : LineAt v lines q) where
       at-line = getD-set-other (set lines v x) (16 + v) v y 0 (λ e. omega arith)
           ∙ getD-set-same lines v x 0 (omega (arith, a .long, a .known))
 
-      at-len : lenAt (set (set lines v x) (16 + v) y) v ≡ y
+      at-len : waitingAt (set (set lines v x) (16 + v) y) v ≡ y
       at-len = getD-set-same (set lines v x) (16 + v) y 0 (omega (arith, length-set lines v x, a .long, a .known))
-
-  pub line-empty : lenAt lines v ≡ 0 → q ≡ []
-  line-empty e = none q (a .lined .count ∙ e)
-    where
-      none : (l : List ℕ) → length l ≡ 0 → l ≡ []
-      none [] e = refl
-      none (x ∷ l) e = absurd (omega arith)
-
-  pub line-some : 0 < lenAt lines v → 0 < length q
-  line-some h = omega (arith, a .lined .count)
 
 pub beside-put : (lines : List ℕ) (v x y : ℕ) → v < 16 → Beside v lines (set (set lines v x) (16 + v) y)
 beside-put lines v x y h = record {

@@ -10,7 +10,7 @@ use native.Mathlib.Omega.{arith}
 use lib.Dec.{eqb, eqb·zero-suc, eqb·suc-zero, eqb·suc-suc}
 use lib.Bits.{bitAnd, and-self}
 use lib.Count.{under, trailingZeros}
-use Rattle.crew.specs.Crew.{chosen, odd, member, Lowest}
+use Rattle.crew.specs.Crew.{whether, odd, member, Lowest}
 use Rattle.crew.proofs.Laws.Members.{and-half, and-odd}
 
 -- the lowest digit is 0 or 1
@@ -57,31 +57,31 @@ tz-none (suc k) n (suc u) h = elim (parity n) [
 pub tz-lowest : (k n : ℕ) → 0 < n → n < 2 ^ k → Lowest n (trailingZeros k n)
 tz-lowest k n p h = record { there = tz-there k n p h; none = tz-none k n }
 
-pub tz-rest : (k n u : ℕ) → 0 < n → n < 2 ^ k → member (bitAnd n (n - 1)) u ≡ chosen (eqb u (trailingZeros k n)) false (member n u)
+pub tz-rest : (k n u : ℕ) → 0 < n → n < 2 ^ k → member (bitAnd n (n - 1)) u ≡ whether (eqb u (trailingZeros k n)) false (member n u)
 unfolding member
 tz-rest zero n u p h = absurd (omega arith)
 tz-rest (suc k) n zero p h = and-odd n (n - 1) ∙ elim (parity n) [
-  | even e ↦ ap (λ (d : ℕ). chosen (eqb d 1) (odd (n - 1)) false) e
-      ∙ sym (ap₂ (λ (t d : ℕ). chosen (eqb 0 t) false (eqb d 1)) (tz-even k n e) e
-      ∙ ap (λ (b : Bool). chosen b false false) (eqb·zero-suc (trailingZeros k (n / 2))))
-  | uneven e ↦ ap (λ (d : ℕ). chosen (odd n) (eqb d 1) false) (before e) ∙ none (odd n)
-      ∙ sym (ap (λ (t : ℕ). chosen (eqb 0 t) false (odd n)) (tz-odd k n e))
+  | even e ↦ ap (λ (d : ℕ). whether (eqb d 1) (odd (n - 1)) false) e
+      ∙ sym (ap₂ (λ (t d : ℕ). whether (eqb 0 t) false (eqb d 1)) (tz-even k n e) e
+      ∙ ap (λ (b : Bool). whether b false false) (eqb·zero-suc (trailingZeros k (n / 2))))
+  | uneven e ↦ ap (λ (d : ℕ). whether (odd n) (eqb d 1) false) (before e) ∙ none (odd n)
+      ∙ sym (ap (λ (t : ℕ). whether (eqb 0 t) false (odd n)) (tz-odd k n e))
 ]
   where
     before : n % 2 ≡ 1 → (n - 1) % 2 ≡ 0
     before e = omega arith
 
-    none : (b : Bool) → chosen b false false ≡ false
+    none : (b : Bool) → whether b false false ≡ false
     none true = refl
     none false = refl
 tz-rest (suc k) n (suc u) p h = ap (λ (x : ℕ). member x u) (and-half n (n - 1)) ∙ elim (parity n) [
   | even e ↦ ap (λ (x : ℕ). member (bitAnd (n / 2) x) u) (less e)
       ∙ tz-rest k (n / 2) u (omega arith) (let q = pow-suc 2 k in omega arith)
-      ∙ sym (ap (λ (t : ℕ). chosen (eqb (suc u) t) false (member (n / 2) u)) (tz-even k n e)
-      ∙ ap (λ (b : Bool). chosen b false (member (n / 2) u)) (eqb·suc-suc u (trailingZeros k (n / 2))))
+      ∙ sym (ap (λ (t : ℕ). whether (eqb (suc u) t) false (member (n / 2) u)) (tz-even k n e)
+      ∙ ap (λ (b : Bool). whether b false (member (n / 2) u)) (eqb·suc-suc u (trailingZeros k (n / 2))))
   | uneven e ↦ ap (λ (x : ℕ). member (bitAnd (n / 2) x) u) (same e) ∙ ap (λ (x : ℕ). member x u) (and-self (n / 2))
-      ∙ sym (ap (λ (t : ℕ). chosen (eqb (suc u) t) false (member (n / 2) u)) (tz-odd k n e)
-      ∙ ap (λ (b : Bool). chosen b false (member (n / 2) u)) (eqb·suc-zero u))
+      ∙ sym (ap (λ (t : ℕ). whether (eqb (suc u) t) false (member (n / 2) u)) (tz-odd k n e)
+      ∙ ap (λ (b : Bool). whether b false (member (n / 2) u)) (eqb·suc-zero u))
 ]
   where
     less : n % 2 ≡ 0 → (n - 1) / 2 ≡ n / 2 - 1

@@ -23,16 +23,16 @@ sixteens (suc k) = ap (λ (x : ℕ). 2 ^ x) (four k) ∙ pow-add 2 (4 * k) 4 ∙
     four : (k : ℕ) → 4 * suc k ≡ 4 * k + 4
     four k = omega arith
 
-pub sixteen-pos : (k : ℕ) → 0 < 16 ^ k
+sixteen-pos : (k : ℕ) → 0 < 16 ^ k
 sixteen-pos zero = omega arith
 sixteen-pos (suc k) = omega (arith, pow-suc 16 k, sixteen-pos k)
 
-pub pack-lt : (q : List ℕ) → Small q → pack q < 16 ^ length q
+pack-lt : (q : List ℕ) → Small q → pack q < 16 ^ length q
 unfolding pack
 pack-lt [] s = omega arith
 pack-lt (w ∷ q) (h, s) = rw (pow-suc 16 (length q)) (digits-lt (pack-lt q s) h)
 
-pub pack-append : (a b : List ℕ) → pack (a ++ b) ≡ pack b * 16 ^ length a + pack a
+pack-append : (a b : List ℕ) → pack (a ++ b) ≡ pack b * 16 ^ length a + pack a
 unfolding pack
 pack-append [] b = nothing (pack b)
   where
@@ -55,7 +55,7 @@ half x w h = omega arith
 digit : (x w : ℕ) → w < 16 → (x * 16 + w) % 16 ≡ w
 digit x w h = omega arith
 
-pub pack-drop : (q : List ℕ) → Small q → (i : ℕ) → pack q / 16 ^ i ≡ pack (drop i q)
+pack-drop : (q : List ℕ) → Small q → (i : ℕ) → pack q / 16 ^ i ≡ pack (drop i q)
 unfolding pack
 pack-drop q s zero = div-one (pack q)
 pack-drop [] s (suc i) = zero-div (16 ^ suc i)
@@ -63,7 +63,7 @@ pack-drop (w ∷ q) (h, s) (suc i) =
     ap (λ (x : ℕ). (pack q * 16 + w) / x) (pow-succ' 16 i) ∙ sym (div-div-eq-div-mul (pack q * 16 + w) 16 (16 ^ i))
     ∙ ap (λ (x : ℕ). x / 16 ^ i) (half (pack q) w h) ∙ pack-drop q s i
 
-pub pack-take : (q : List ℕ) → Small q → (i : ℕ) → pack q % 16 ^ i ≡ pack (take i q)
+pack-take : (q : List ℕ) → Small q → (i : ℕ) → pack q % 16 ^ i ≡ pack (take i q)
 unfolding pack
 pack-take q s zero = mod-one (pack q)
 pack-take [] s (suc i) = zero-mod (16 ^ suc i)
@@ -77,7 +77,8 @@ unfolding pack
 pack-at [] s i = ap (λ (x : ℕ). x % 16) (zero-div (16 ^ i))
 pack-at (w ∷ q) (h, s) zero = ap (λ (x : ℕ). x % 16) (div-one (pack q * 16 + w)) ∙ digit (pack q) w h
 pack-at (w ∷ q) (h, s) (suc i) =
-    ap (λ (x : ℕ). (pack q * 16 + w) / x % 16) (pow-succ' 16 i) ∙ ap (λ (x : ℕ). x % 16) (sym (div-div-eq-div-mul (pack q * 16 + w) 16 (16 ^ i)))
+    ap (λ (x : ℕ). (pack q * 16 + w) / x % 16) (pow-succ' 16 i)
+    ∙ ap (λ (x : ℕ). x % 16) (sym (div-div-eq-div-mul (pack q * 16 + w) 16 (16 ^ i)))
     ∙ ap (λ (x : ℕ). x / 16 ^ i % 16) (half (pack q) w h) ∙ pack-at q s i
 
 pub pack-without : (q : List ℕ) → Small q → (i : ℕ) → i < length q

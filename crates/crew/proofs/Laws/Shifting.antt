@@ -17,7 +17,7 @@ use Rattle.crew.specs.Line.{pack, without, Lined}
 use Rattle.crew.proofs.Laws.Packing.{sixteens, pack-behind, pack-at, pack-without, pack-fits}
 use Rattle.crew.proofs.Laws.Packing.{small-behind, small-without, length-without}
 
-module _ {q : List ℕ} {line len : ℕ} (d : Lined q line len) where
+module _ {line len : ℕ} {q : List ℕ} (d : Lined line len q) where
   pub lined-fits : line < 2 ^ 64
   lined-fits = lt-of-le-of-lt (le-of-eq (d .packed)) (pack-fits q (d .small) (omega (arith, d .long, d .count)))
 
@@ -29,7 +29,7 @@ module _ {q : List ℕ} {line len : ℕ} (d : Lined q line len) where
       ∙ sym (pack-behind q w)
 
   pub lined-behind : (w : ℕ) → len < 16 → w < 16 → (r : ℕ)
-      → r ≡ (w * 2 ^ (4 * len)) % 2 ^ 64 + line → Lined (q ++ (w ∷ [])) r (len + 1)
+      → r ≡ (w * 2 ^ (4 * len)) % 2 ^ 64 + line → Lined r (len + 1) (q ++ (w ∷ []))
   lined-behind w h g r e = record {
     long = omega arith;
     count = length-append q (w ∷ []) ∙ ap (λ (x : ℕ). x + 1) (d .count);
@@ -45,7 +45,8 @@ module _ {q : List ℕ} {line len : ℕ} (d : Lined q line len) where
 
   high-kept : (k : ℕ) → (line / 2 ^ k / 16 * 2 ^ k) % 2 ^ 64 ≡ line / 2 ^ k / 16 * 2 ^ k
   high-kept k =
-      mod-eq-of-lt (lt-of-le-of-lt (le-trans (mul-le-mul-right (2 ^ k) (div-le-self (line / 2 ^ k) 16)) (div-mul-le-self line (2 ^ k))) lined-fits)
+      let less = le-trans (mul-le-mul-right (2 ^ k) (div-le-self (line / 2 ^ k) 16)) (div-mul-le-self line (2 ^ k)) in
+      mod-eq-of-lt (lt-of-le-of-lt less lined-fits)
 
   taken : (i : ℕ) → i < len
       → (line / 2 ^ (4 * i) / 16 * 2 ^ (4 * i)) % 2 ^ 64 + bitAnd line ((1 * 2 ^ (4 * i)) % 2 ^ 64 - 1) ≡ pack (without q i)
@@ -56,7 +57,8 @@ module _ {q : List ℕ} {line len : ℕ} (d : Lined q line len) where
       ∙ sym (pack-without q (d .small) i (omega (arith, d .count)))
 
   pub lined-without : (i : ℕ) → i < len → (r : ℕ)
-      → r ≡ (line / 2 ^ (4 * i) / 16 * 2 ^ (4 * i)) % 2 ^ 64 + bitAnd line ((1 * 2 ^ (4 * i)) % 2 ^ 64 - 1) → Lined (without q i) r (len - 1)
+      → r ≡ (line / 2 ^ (4 * i) / 16 * 2 ^ (4 * i)) % 2 ^ 64 + bitAnd line ((1 * 2 ^ (4 * i)) % 2 ^ 64 - 1)
+      → Lined r (len - 1) (without q i)
   lined-without i h r e =
       let l = length-without q i (omega (arith, d .count)) in record {
         long = omega (arith, d .long);

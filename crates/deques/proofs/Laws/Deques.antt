@@ -1,4 +1,8 @@
 -- The sixteen deques in one array: what a store, a shorter deque and a top that moves on make of them.
+--   bottom-none, bottom-taken == the bottom job of deque w is taken, where it has none, and where it has n jobs
+--   top-none, top-taken       == the top job is
+--   push-place                == the place behind the bottom job is not above the number of a job that may go there
+--   pushed-first, pushed-next == such a job goes on the bottom, where deque w has no job, and where it has n
 use Prim.Native.Nat.{ℕ, zero, suc, _+_, _-_, _*_, _≤_, _<_}
 use mathlib.Core.Path.{_≡_, refl, ap, sym, _∙_}
 use mathlib.Core.Logic.{_≢_, by-cases}
@@ -14,7 +18,8 @@ use Rattle.runs.specs.Steal.{dropTop, topOf}
 use Rattle.deques.specs.Dequed.{jobAt, topAt, lenAt, dequeAt, Dequed, Pushing, Pushed, TookBottom, TookTop}
 
 -- a deque is as its places are
-pub deque-same : (a b : List ℕ) (w top n : ℕ) → ((i : ℕ) → i < n → jobAt a w (top + i) ≡ jobAt b w (top + i)) → dequeAt a w top n ≡ dequeAt b w top n
+deque-same : (a b : List ℕ) (w top n : ℕ) → ((i : ℕ) → i < n → jobAt a w (top + i) ≡ jobAt b w (top + i))
+    → dequeAt a w top n ≡ dequeAt b w top n
 deque-same a b w top zero h = refl
 deque-same a b w top (suc n) h = rw (h n (omega arith), deque-same a b w top n (λ i l. h i (omega arith)))
 
@@ -35,7 +40,7 @@ module _ {l : List ℕ} {ds : List (List ℕ)} (q : Dequed l ds) (w : ℕ) (h : 
   abbrev Others : List ℕ → Type 0
   Others l′ = (x : ℕ) → ¬ ((w * 256 ≤ x) × (x < w * 256 + 256)) → x ≢ 4096 + w → x ≢ 4112 + w → getD l′ x 0 ≡ getD l x 0
 
-  pub deque-changed : (l′ : List ℕ) (t n : ℕ) (d : List ℕ) → length l′ ≡ 4128 → Others l′ → topAt l′ w ≡ t → lenAt l′ w ≡ n
+  deque-changed : (l′ : List ℕ) (t n : ℕ) (d : List ℕ) → length l′ ≡ 4128 → Others l′ → topAt l′ w ≡ t → lenAt l′ w ≡ n
       → dequeAt l′ w t n ≡ d → ((i : ℕ) → i < n → t + i ≤ jobAt l′ w (t + i)) → t + n ≤ 255 → Dequed l′ (set ds w d)
   deque-changed l′ t n d long others tops lens is low room = record {
     sixteen = simp length-set (q .sixteen);
@@ -83,7 +88,8 @@ module _ {l : List ℕ} {ds : List (List ℕ)} (q : Dequed l ds) (w : ℕ) (h : 
       let k : set ds w [] ≡ ds = rw z at (set-getD ds w []) in
       rw (z, k) (refl, q)
 
-  pub bottom-taken : (n : ℕ) → n ≡ lenAt l w → n ≢ 0 → TookBottom w (Holding (jobAt l w (topAt l w + (n - 1)))) (set l (4112 + w) (n - 1)) ds
+  pub bottom-taken : (n : ℕ) → n ≡ lenAt l w → n ≢ 0
+      → TookBottom w (Holding (jobAt l w (topAt l w + (n - 1)))) (set l (4112 + w) (n - 1)) ds
   bottom-taken zero e f = absurd (f refl)
   bottom-taken (suc m) e f =
       let z : suc m - 1 ≡ m = omega arith in
@@ -107,7 +113,8 @@ module _ {l : List ℕ} {ds : List (List ℕ)} (q : Dequed l ds) (w : ℕ) (h : 
             (λ x a b c. getD-set-other l₁ (4112 + w) x m 0 c ∙ getD-set-other l (4096 + w) x (suc t) 0 b)
             (getD-set-other l₁ (4112 + w) (4096 + w) m 0 (λ x. omega arith) ∙ getD-set-same l (4096 + w) (suc t) 0 (omega (arith, q .long)))
             (getD-set-same l₁ (4112 + w) m 0 (omega (arith, length-set l (4096 + w) (suc t), q .long)))
-            (deque-same l′ l w (suc t) m (λ i b. job i (omega arith)) ∙ sym (deque-drop l w t m)) (λ i b. rw (job i (omega arith)) (next i (omega arith)))
+            (deque-same l′ l w (suc t) m (λ i b. job i (omega arith)) ∙ sym (deque-drop l w t m))
+            (λ i b. rw (job i (omega arith)) (next i (omega arith)))
             (omega (arith, q .room w h)),
       )
     where
@@ -142,8 +149,11 @@ module _ {w j : ℕ} {l : List ℕ} {ds : List (List ℕ)} (p : Pushing w j l ds
   pub pushed-first : 0 ≡ lenAt l w → Pushed w j (set (set (set l (4096 + w) 0) (w * 256 + 0) j) (4112 + w) 1) ds
   pushed-first e =
       deque-changed q w (p .known) (set l₂ (4112 + w) 1) 0 1 (j ∷ getD ds w []) (simp length-set (q .long))
-      (λ x a b c. getD-set-other l₂ (4112 + w) x 1 0 c ∙ (getD-set-other l₁ (w * 256 + 0) x j 0 (λ z. a (omega arith)) ∙ getD-set-other l (4096 + w) x 0 0 b))
-      (getD-set-other l₂ (4112 + w) (4096 + w) 1 0 (λ z. omega arith) ∙ (getD-set-other l₁ (w * 256 + 0) (4096 + w) j 0 (λ z. omega (arith, p .known)) ∙ getD-set-same l (4096 + w) 0 0 (omega (arith, p .known, q .long))))
+      (λ x a b c. getD-set-other l₂ (4112 + w) x 1 0 c
+      ∙ getD-set-other l₁ (w * 256 + 0) x j 0 (λ z. a (omega arith)) ∙ getD-set-other l (4096 + w) x 0 0 b)
+      (getD-set-other l₂ (4112 + w) (4096 + w) 1 0 (λ z. omega arith)
+      ∙ getD-set-other l₁ (w * 256 + 0) (4096 + w) j 0 (λ z. omega (arith, p .known))
+      ∙ getD-set-same l (4096 + w) 0 0 (omega (arith, p .known, q .long)))
       (getD-set-same l₂ (4112 + w) 1 0 (omega (arith, p .known, long₂)))
       (rw zero-add (rw here (ap (λ d. j ∷ d) (deque-of q w (p .known) 0 e)))) (λ i m. omega arith) (omega arith)
     where
@@ -164,8 +174,10 @@ module _ {w j : ℕ} {l : List ℕ} {ds : List (List ℕ)} (p : Pushing w j l ds
   pub pushed-next : (n : ℕ) → n ≡ lenAt l w → n ≢ 0 → Pushed w j (set (set l (w * 256 + (topAt l w + n)) j) (4112 + w) (suc n)) ds
   pushed-next n e f =
       deque-changed q w (p .known) l′ t (suc n) (j ∷ getD ds w []) (simp length-set (q .long))
-      (λ x a b c. getD-set-other l₁ (4112 + w) x (suc n) 0 c ∙ getD-set-other l (w * 256 + (t + n)) x j 0 (λ z. a (omega (arith, fits, p .small))))
-      (getD-set-other l₁ (4112 + w) (4096 + w) (suc n) 0 (λ z. omega arith) ∙ getD-set-other l (w * 256 + (t + n)) (4096 + w) j 0 (λ z. omega (arith, fits, p .small, p .known)))
+      (λ x a b c. getD-set-other l₁ (4112 + w) x (suc n) 0 c
+      ∙ getD-set-other l (w * 256 + (t + n)) x j 0 (λ z. a (omega (arith, fits, p .small))))
+      (getD-set-other l₁ (4112 + w) (4096 + w) (suc n) 0 (λ z. omega arith)
+      ∙ getD-set-other l (w * 256 + (t + n)) (4096 + w) j 0 (λ z. omega (arith, fits, p .small, p .known)))
       (getD-set-same l₁ (4112 + w) (suc n) 0 (omega (arith, p .known, length-set l (w * 256 + (t + n)) j, q .long)))
       (rw (here, deque-same l′ l w t n (λ i m. there i (omega arith)), deque-of q w (p .known) n e))
       (λ i m. by-cases (ℕ-discrete i n) (λ x. rw (x, here) fits) (λ g. rw (there i (omega arith)) (q .low w i (p .known) (omega arith))))

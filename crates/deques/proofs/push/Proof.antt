@@ -33,18 +33,20 @@ add-set-job c = search needs
 
 set-job-requires-2 : tie.Need-set-job-requires-2
 set-job-requires-2 c κs =
-    let a = c .before .before .before .before .before .before in
-    let n = c .before .before .before .before .len-of in
-    (a .pre .1 .known, omega (arith, c .top-of .ensures .0, push-place (a .pre .1) (n .result) (n .ensures .0) (c .before .before .before .if1 .left), a .pre .1 .small))
+    let n = c .before .before .before .before in
+    let p = n .before .before .pre .1 in
+    let low = push-place p (n .len-of .result) (n .len-of .ensures .0) (c .before .before .before .if1 .left) in
+    (p .known, omega (arith, c .top-of .ensures .0, low, p .small))
 
 add-set-len : tie.Need-add-set-len
 add-set-len c = search needs
 
 set-len-requires-2 : tie.Need-set-len-requires-2
 set-len-requires-2 c κs =
-    let a = c .before .before .before .before .before .before .before .before in
-    let n = c .before .before .before .before .before .before .len-of in
-    (a .pre .1 .known, omega (arith, push-place (a .pre .1) (n .result) (n .ensures .0) (c .before .before .before .before .before .if1 .left), a .pre .1 .small))
+    let n = c .before .before .before .before .before .before in
+    let p = n .before .before .pre .1 in
+    let low = push-place p (n .len-of .result) (n .len-of .ensures .0) (c .before .before .before .before .before .if1 .left) in
+    (p .known, omega (arith, low, p .small))
 
 returns-2 : tie.Need-returns-2
 returns-2 c ds p =

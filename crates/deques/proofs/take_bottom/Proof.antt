@@ -10,7 +10,9 @@ len-of-requires : tie.Need-len-of-requires
 len-of-requires c κs = search needs
 
 returns : tie.Need-returns
-returns c ds q = let a = c .before .before .before in bottom-none q (a .args .w) (a .pre .1) (sym (c .if1 .taken) ∙ c .before .len-of .ensures .0)
+returns c ds q =
+    let a = c .before .before .before in
+    bottom-none q (a .args .w) (a .pre .1) (sym (c .if1 .taken) ∙ c .before .len-of .ensures .0)
 
 top-of-requires : tie.Need-top-of-requires
 top-of-requires c κs = search needs

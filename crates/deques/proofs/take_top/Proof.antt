@@ -10,7 +10,9 @@ len-of-requires : tie.Need-len-of-requires
 len-of-requires c κs = search needs
 
 returns : tie.Need-returns
-returns c ds q = let a = c .before .before .before in top-none q (a .args .v) (a .pre .1) (sym (c .if1 .taken) ∙ c .before .len-of .ensures .0)
+returns c ds q =
+    let a = c .before .before .before in
+    top-none q (a .args .v) (a .pre .1) (sym (c .if1 .taken) ∙ c .before .len-of .ensures .0)
 
 top-of-requires : tie.Need-top-of-requires
 top-of-requires c κs = search needs
@@ -23,9 +25,11 @@ add-set-top c = search needs
 
 set-top-requires : tie.Need-set-top-requires
 set-top-requires c κs =
-    let a = c .before .before .before .before .before .before .before .before in
-    let n = c .before .before .before .before .before .before .len-of in
-    (a .pre .1, omega (arith, c .before .before .before .top-of .ensures, n .ensures, c .before .before .before .before .before .if1 .left, a .pre .0 .1 .room (a .args .v) (a .pre .1)))
+    let t = c .before .before .before in
+    let n = t .before .before .before in
+    let a = n .before .before in
+    let room = a .pre .0 .1 .room (a .args .v) (a .pre .1) in
+    (a .pre .1, omega (arith, t .top-of .ensures, n .len-of .ensures, t .before .before .if1 .left, room))
 
 sub-set-len : tie.Need-sub-set-len
 sub-set-len c = search needs
@@ -35,10 +39,13 @@ set-len-requires c κs = search needs
 
 returns-2 : tie.Need-returns-2
 returns-2 c ds q =
-    let n = c .before .before .before .before .before .before .before .before .before .len-of in
-    let a = c .before .before .before .before .before .before .before .before .before .before .before in
-    rw (c .set-len .ensures, c .before .before .set-top .ensures, c .before .before .before .before .job-at .ensures, c .before .before .before .before .before .before .top-of .ensures .0)
-    (top-taken q (a .args .v) (a .pre .1) (n .result) (n .ensures .0) (c .before .before .before .before .before .before .before .before .if1 .left))
+    let s = c .before .before in
+    let j = s .before .before in
+    let t = j .before .before in
+    let n = t .before .before .before in
+    let a = n .before .before in
+    rw (c .set-len .ensures, s .set-top .ensures, j .job-at .ensures, t .top-of .ensures .0)
+    (top-taken q (a .args .v) (a .pre .1) (n .len-of .result) (n .len-of .ensures .0) (t .before .before .if1 .left))
 
 pub take-top-spec : {M : Type 1} → statement M
 take-top-spec =

@@ -1,13 +1,17 @@
--- The runner's objects as they are made stand for the start of a run.
+-- A run begins: the progress as it is made, action by action, and all objects as they are made, which stand for the run's start.
+--   started-none, started-next == the progress before the first action, where every place is 0, and with one action more
 --   first-manned, first-asking, first-done, first-deques == the workers and the account; the lines; what is done; the deques
 use Prim.Native.Nat.{ℕ, suc, _+_, _<_}
 use mathlib.Core.Path.{_≡_, refl, sym, ap, _∙_}
+use mathlib.Core.Logic.{by-cases}
 use mathlib.Core.List.{List, []}
 use native.Mathlib.Nat.{zero-mod}
 use native.Mathlib.Omega.{arith}
+use native.Mathlib.Decide.{ℕ-discrete}
 use lib.Dec.{ltb}
-use lib.ListN.{length, getD, set, replicate, getD-replicate}
-use Rattle.plan.specs.Plan.{Plan, job, size, total, placed, noPlaced, entering as enteringOf}
+use lib.ListN.{length, getD, set, replicate, length-replicate, getD-replicate, length-set}
+use lib.Seq.{getD-set-same, getD-set-other}
+use Rattle.plan.specs.Plan.{Plan, size, total, placed, noPlaced, entering as enteringOf}
 use Rattle.plan.specs.Sheet.{frameOf}
 use Rattle.plan.proofs.Laws.Lists.{array-at, zeros-at}
 use Rattle.plan.proofs.Laws.Placed.{placed-length, placed-at, place-below}
@@ -15,17 +19,47 @@ use Rattle.plan.proofs.Laws.Valid.{jobs-range}
 use Rattle.courses.specs.Row.{place}
 use Rattle.runs.specs.declared.worker.Worker.the-variants.{Idle, Holding}
 use Rattle.runs.specs.State.{workerOf, start}
-use Rattle.runs.proofs.Laws.Start.{none-done, start-idle}
+use Rattle.runs.specs.Steal.{waits}
+use Rattle.runs.proofs.Laws.Start.{none-done, start-idle, start-calm}
 use Rattle.runs.proofs.Laws.Coursed.{start-weight}
 use Rattle.crew.proofs.Laws.Crews.{crewed-none, crewed-first, crewed-others}
+use Rattle.crew.proofs.Laws.Lines.{line-first-zero}
 use Rattle.deques.specs.Dequed.{lenAt, dequeAt, Dequed}
-use Rattle.turns.specs.Progress.{missingAt, missingTo}
-use Rattle.turns.specs.Moments.{holds}
+use Rattle.turns.specs.Worker.{holds, isIdle}
+use Rattle.turns.specs.Progress.{withMissing, missingAt, missingTo}
 use Rattle.turns.proofs.Laws.Missing.{missing-start}
-use Rattle.rounds.specs.Account.{isIdle, opened}
+use Rattle.rounds.specs.Account.{opened}
 use Rattle.rounds.specs.Rounds.{Started, RunGiven}
-use Rattle.rounds.proofs.Laws.Standing.{Manned, Asking, Done}
-use Rattle.rounds.proofs.Laws.Calming.{first-queued}
+use Rattle.rounds.proofs.Laws.Standing.{Queued, Manned, Asking, Done}
+
+module _ {entering progress : List ℕ} where
+  pub started-none : progress ≡ replicate 2560 0 → Started 0 entering progress
+  started-none e = record {
+    long = ap length e ∙ length-replicate {A = ℕ} 2560 0;
+    counts = λ j h. ap (λ (l : List ℕ). getD l j 0) e ∙ getD-replicate 2560 j 0 0 (omega arith);
+    misses = λ k h. absurd (omega arith);
+  }
+
+  pub started-next : {k : ℕ} → Started k entering progress → k < 2048
+      → Started (k + 1) entering (withMissing progress k (getD entering k 0))
+  started-next {k} s b = record {
+    long = length-set progress (512 + k) joins ∙ s .long;
+    counts = λ j h. getD-set-other progress (512 + k) j joins 0 (omega arith) ∙ s .counts j h;
+    misses = λ i h. by-cases (ℕ-discrete i k)
+        (λ e. rw e (getD-set-same progress (512 + k) joins 0 (omega (arith, s .long))))
+        (λ f. getD-set-other progress (512 + k) (512 + i) joins 0 (omega (arith, f)) ∙ s .misses i (omega (arith, f)));
+  }
+    where
+      joins : ℕ
+      joins = getD entering k 0
+
+first-queued : (p : Plan) (hi : ℕ) → Queued hi (start p .workers) (replicate 32 0)
+first-queued p hi v h = record {
+  line = [];
+  lined = line-first-zero v h;
+  ranked = omega arith;
+  whole = λ w l e. absurd (omega (arith, start-calm p w, ap waits e));
+}
 
 module _ {n actions : ℕ} {choices plan entering : List ℕ} {p : Plan} (g : RunGiven n actions choices plan entering p) where
   others : (u : ℕ) → workerOf (start p) (suc u) ≡ Idle
@@ -34,14 +68,14 @@ module _ {n actions : ℕ} {choices plan entering : List ℕ} {p : Plan} (g : Ru
   pub first-manned : {weighs : ℕ} → weighs ≡ frameOf plan 0 → Manned n (opened n weighs) (set (replicate 16 Idle) 0 (Holding 0)) p (start p)
   unfolding start
   first-manned e =
-      let ok = g .planned .rules in
-      let f = e ∙ g .planned .laid .frames 0 (jobs-range p ok .0) in
+      let ok = g .given .planned .rules in
+      let f = e ∙ g .given .planned .laid .frames 0 (jobs-range p ok .0) in
       record {
         seated = refl;
         weighs = f ∙ sym (start-weight p ok);
         counts = rw f refl;
-        hold = crewed-first (g .some) refl (λ u h. ap holds (others u));
-        idle = crewed-others (g .some) refl (λ u h. ap isIdle (others u));
+        holders = crewed-first (g .some) refl (λ u h. ap holds (others u));
+        idlers = crewed-others (g .some) refl (λ u h. ap isIdle (others u));
       }
 
   pub first-asking : (hi : ℕ) → Asking n hi 0 choices 0 (replicate 32 0) (start p)
@@ -58,15 +92,15 @@ module _ {n actions : ℕ} {choices plan entering : List ℕ} {p : Plan} (g : Ru
     first-missing j i h k =
         let e = placed-length p in
         let b = place-below p j i h k in
-        s .misses (place p j i) (omega (arith, g .all))
-        ∙ array-at (λ a. enteringOf p (a .job) (a .position)) entering (placed p) noPlaced (total p) (g .entered) e (place p j i) b
+        s .misses (place p j i) (omega (arith, g .given .all))
+        ∙ array-at (λ a. enteringOf p (a .job) (a .position)) entering (placed p) noPlaced (total p) (g .given .entered) e (place p j i) b
         ∙ ap (λ a. enteringOf p (a .job) (a .position)) (placed-at p j i h k) ∙ sym (missing-start p j i)
 
     pub first-done : {rows : List ℕ} → length rows ≡ 2048 → Done p progress rows (start p)
     first-done long = record {
       progressed = record {
         long = s .long;
-        counts = λ j h. s .counts j (omega (arith, jobs-range p (g .planned .rules))) ∙ sym (none-done p j);
+        counts = λ j h. s .counts j (omega (arith, jobs-range p (g .given .planned .rules))) ∙ sym (none-done p j);
         misses = first-missing;
       };
       rowed = record { long = long; each = λ j i h k. absurd (omega (arith, none-done p j)) };

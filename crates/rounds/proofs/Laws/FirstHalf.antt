@@ -1,9 +1,14 @@
 -- The first half of a round over the runner's objects: the turns of those who hold a job, with the idle turns as gaps between them.
---   fitted, first-between  == what all rounds are given, and the objects as they are made
---   turns-begin            == a round begins
+--   in-few        == an accepted plan has at most 2,048 actions
+--   first-between == the objects as they are made: no round is done
+--   begun-run     == the run as a round begins
+--   turns-begin   == .. and the objects
 --   between-early, turns-early == a round is one of at most 2,048
---   turns-known, turns-turning, turns-notable, turns-next == the turn of the lowest worker that is left: what it is given and leaves
---   turns-restable, turns-over, turns-lays == the idle turns behind the last one; the run ends; or requests are laid
+--   turns-known   == the lowest worker that is left is one of those that have not had their turns
+--   turns-moment, turns-turning, turns-notable == the moment of its turn, what the turn is given, and what noting it is given
+--   turns-next    == its turn leaves the objects so
+--   turns-restable == nobody is left: the idle turns behind the last one can be counted
+--   turns-over, turns-lays == .. and the run ends, or requests are laid
 use Prim.Native.Nat.{ℕ, zero, suc, _+_, _-_, _%_, _≤_, _<_}
 use mathlib.Core.Path.{_≡_, refl, sym, ap, _∙_}
 use mathlib.Core.Logic.{_≢_}
@@ -33,38 +38,35 @@ use Rattle.runs.proofs.Laws.Began.{trace-began}
 use Rattle.runs.proofs.Laws.Rounds.{rounds-known, numbered-late, not-ended}
 use Rattle.runs.proofs.Laws.Coursed.{round-most}
 use Rattle.runs.proofs.Laws.Whole.{round-last, rounds-stop, rounds-on}
-use Rattle.crew.specs.Crew.{Lowest, Without}
+use Rattle.crew.specs.Crew.{Lowest, Rest}
 use Rattle.crew.proofs.Laws.Walks.{left-start, left-known, left-ahead, left-test, left-next}
 use Rattle.turns.specs.declared.turn.Turned.{Turned}
+use Rattle.turns.specs.Worker.{holds, isIdle}
 use Rattle.turns.specs.Count.{Restable}
 use Rattle.turns.specs.Progress.{doneOf}
-use Rattle.turns.specs.Moments.{InRun, holds, Moment, Turning, TurnTaken}
+use Rattle.turns.specs.Moments.{InRun, Moment, Turning, TurnTaken}
 use Rattle.turns.proofs.Laws.Running.{run-fit, run-sound, run-counts, run-countable, run-restable, run-turns}
 use Rattle.rounds.specs.declared.account.Account.{Account}
-use Rattle.rounds.specs.Account.{isIdle, opened, rested, Turnable, TurnNoted}
-use Rattle.rounds.specs.Rounds.{Started, RunGiven, RunLeft}
+use Rattle.rounds.specs.Account.{opened, rested, Turnable, TurnNoted}
+use Rattle.rounds.specs.Rounds.{Started, RunIn, RunGiven, RunLeft}
 use Rattle.rounds.proofs.Laws.Standing.{Fitted, Manned, Done, Begun, Between, InTurns, InLays, afterTurns}
-use Rattle.rounds.proofs.Laws.Rounding.{turns-requests}
+use Rattle.rounds.proofs.Laws.Halves.{turns-requests, done-kept}
 use Rattle.rounds.proofs.Laws.Idling.{Idled, turns-gap, turns-rest}
-use Rattle.rounds.proofs.Laws.Calming.{turns-queued}
+use Rattle.rounds.proofs.Laws.Queues.{turns-queued}
 use Rattle.rounds.proofs.Laws.Beginning.{first-manned, first-asking, first-done, first-deques}
-use Rattle.rounds.proofs.Laws.Manning.{held-busy, manned-turned, manned-rested, done-rested}
+use Rattle.rounds.proofs.Laws.Manning.{held-busy, manned-turned, manned-rested}
 
-pub fitted : {m actions : ℕ} {choices plan entering : List ℕ} {q : Plan} → RunGiven m actions choices plan entering q
-    → Fitted (setting q m choices) plan
-fitted g = record { planned = g .planned; some = g .some; most = g .most; fit = g .fit }
-
--- an accepted plan has at most 2,048 actions
-pub given-few : {m actions : ℕ} {choices plan entering : List ℕ} {q : Plan} → RunGiven m actions choices plan entering q → actions ≤ 2048
-given-few {q = q} g = omega (arith, g .all, total-range q (g .planned .rules))
+pub in-few : {actions : ℕ} {plan entering : List ℕ} {q : Plan} → RunIn actions plan entering q → actions ≤ 2048
+in-few {q = q} g = omega (arith, g .all, total-range q (g .planned .rules))
 
 -- as a run begins; `weighs` is job 0's frame
 pub first-between : {m actions : ℕ} {choices plan entering rows : List ℕ} {q : Plan} → RunGiven m actions choices plan entering q
     → length rows ≡ 2048 → {progress : List ℕ} → Started actions entering progress → {weighs : ℕ} → weighs ≡ frameOf plan 0
-    → Between (setting q m choices) 0 (opened m weighs) (set (replicate 16 Idle) 0 (Holding 0)) 0 (replicate 32 0) progress (replicate 4128 0) rows
+    → Between (setting q m choices) 0 (opened m weighs) (set (replicate 16 Idle) 0 (Holding 0)) 0 (replicate 32 0) progress
+    (replicate 4128 0) rows
 unfolding run
 first-between {m} {choices = choices} {q = q} g long s e =
-    let fit : Fit (setting q m choices) = record { plan = g .planned .rules; some = g .some; most = g .most } in
+    let fit : Fit (setting q m choices) = record { plan = g .given .planned .rules; some = g .some; most = g .most } in
     record {
       state = start q;
       begun = record { on = not-ended fit begins; trace = begins; fuel = work q; left = refl; enough = omega arith };
@@ -82,7 +84,7 @@ module _ {S : Setting} {plan : List ℕ} (g : Fitted S plan) where
   p = S .plan
 
   -- a state as a round begins
-  begun-run : {r : ℕ} {s : State} → Begun S r s → InRun S r (s .workers) (turning 0) s
+  pub begun-run : {r : ℕ} {s : State} → Begun S r s → InRun S r (s .workers) (turning 0) s
   begun-run b = record { accepted = g .planned .rules; some = g .some; most = g .most; fit = g .fit; trace = b .trace }
 
   -- a round in which job 0 ends is the last one
@@ -101,23 +103,22 @@ module _ {S : Setting} {plan : List ℕ} (g : Fitted S plan) where
 
   pub turns-begin : {r : ℕ} {a : Account} {workers : List Worker} {cursor : ℕ} {lines progress deques rows : List ℕ}
       → Between S r a workers cursor lines progress deques rows
-      → InTurns S (r + 1) (a .idle) (a .hold) 0 a workers cursor lines progress deques rows
+      → InTurns S (r + 1) (a .idlers) (a .holders) 0 a workers cursor lines progress deques rows
   unfolding turns
   turns-begin z =
       rw add-one
       (record {
         state = z .state;
         begun = z .begun;
-        were-idle = z .manned .idle;
+        were-idle = z .manned .idlers;
         ahead = omega arith;
-        walk = left-start (z .manned .hold);
+        walk = left-start (z .manned .holders);
         manned = z .manned;
         asking = z .asking;
         done = z .done;
         dequed = z .dequed;
       })
 
-  -- the round is one of at most 2,048
   pub between-early : {r : ℕ} {a : Account} {workers : List Worker} {cursor : ℕ} {lines progress deques rows : List ℕ}
       → Between S r a workers cursor lines progress deques rows → r < 2048
   between-early z = run-counts (begun-run (z .begun)) .0
@@ -165,7 +166,7 @@ module _ {S : Setting} {plan : List ℕ} (g : Fitted S plan) where
 
       pub turns-turning : Turning (getD workers w Idle) r w (a .weight) plan progress deques rows turns-moment
       turns-turning =
-          let d = done-rested gap (z .done) in
+          let d : Done p progress rows (at w) = done-kept (z .done) (gap .next, gap .rows) in
           let (l, k, h) = turns-known in
           record {
             run = run-to w (omega arith);
@@ -183,20 +184,21 @@ module _ {S : Setting} {plan : List ℕ} (g : Fitted S plan) where
       pub turns-notable : Turnable a r w (w - past)
       turns-notable =
           let (l, k, h) = turns-known in
-          let e : getD (at past .workers) w Idle ≡ getD workers w Idle = ap (λ (ws : List Worker). getD ws w Idle) (sym (z .manned .seated)) in
+          let e : getD (at past .workers) w Idle ≡ getD workers w Idle =
+          ap (λ (ws : List Worker). getD ws w Idle) (sym (z .manned .seated)) in
           record {
             known = h;
             early = omega (arith, turns-early);
             small = omega arith;
             countable = run-countable run-now (z .manned .counts);
             restable = run-restable run-now (w - past) (omega arith) (z .manned .counts);
-            held = z .manned .hold .each w k ∙ ap holds e ∙ held;
-            busy = z .manned .idle .each w k ∙ ap isIdle e ∙ held-busy (getD workers w Idle) held;
+            held = z .manned .holders .each w k ∙ ap holds e ∙ held;
+            busy = z .manned .idlers .each w k ∙ ap isIdle e ∙ held-busy (getD workers w Idle) held;
           }
 
       pub turns-next : {after : Turned} {progress′ deques′ rows′ : List ℕ}
           → TurnTaken (getD workers w Idle) w after progress′ deques′ rows′ turns-moment
-          → {a′ : Account} → TurnNoted a r w (w - past) (after .worker) (after .weight) a′ → {left′ : ℕ} → Without left left′
+          → {a′ : Account} → TurnNoted a r w (w - past) (after .worker) (after .weight) a′ → {left′ : ℕ} → Rest left left′
           → InTurns S r began left′ (w + 1) a′ (set workers w (after .worker)) cursor lines progress′ deques′ rows′
       turns-next t e l =
           let (ahead, k, h) = turns-known in
@@ -209,7 +211,7 @@ module _ {S : Setting} {plan : List ℕ} (g : Fitted S plan) where
             ahead = k;
             walk = left-next (z .walk) low l;
             manned = rw turns-more (manned-turned gap (z .manned) r w (getD workers w Idle) held long k (t .left) e);
-            asking = rw (e .asked) (z .asking);
+            asking = rw (e .victims) (z .asking);
             done = rw turns-more (record { progressed = t .left .progressed; rowed = t .rowed });
             dequed = rw turns-more (t .left .dequed);
           })
@@ -234,7 +236,7 @@ module _ {S : Setting} {plan : List ℕ} (g : Fitted S plan) where
       all-manned = manned-rested rest (z .manned) counted
 
       all-done : Done p progress rows (at n)
-      all-done = done-rested rest (z .done)
+      all-done = done-kept (z .done) (rest .next, rest .rows)
 
       -- job 0 has ended where its next place is the first of job 1
       last-place : (doneOf progress 0 ≡ nextOf (at n) 0) × (firstOf plan 1 ≡ size p 0) × (nextOf (at n) 0 ≤ size p 0)
@@ -252,7 +254,8 @@ module _ {S : Setting} {plan : List ℕ} (g : Fitted S plan) where
           let last : run S ≡ at n = begun-last (z .begun) over in
           record { counts = rw last (all-manned .counts); rowed = rw last (all-done .rowed) }
 
-      pub turns-lays : doneOf progress 0 ≢ firstOf plan 1 → InLays S r began (rested a r (n - past)) workers cursor lines progress deques rows
+      pub turns-lays : doneOf progress 0 ≢ firstOf plan 1
+          → InLays S r began (rested a r (n - past)) workers cursor lines progress deques rows
       unfolding lays
       turns-lays e =
           let (d, f, l) = last-place in

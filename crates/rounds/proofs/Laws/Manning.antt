@@ -1,7 +1,7 @@
 -- The workers and the account after a worker's turn, and after idle turns.
---   held-busy                  == who holds a job is not idle
---   manned-turned              == the workers and the account after idle turns and then the turn of one that holds a job
---   manned-rested, done-rested == the workers and the account, and what is done, after idle turns
+--   held-busy     == who holds a job is not idle
+--   manned-turned == the workers and the account after idle turns and then the turn of one that holds a job
+--   manned-rested == .. after idle turns alone
 use Prim.Native.Nat.{ℕ, _<_}
 use mathlib.Core.Path.{_≡_, refl, sym, ap, ap₂, _∙_}
 use mathlib.Core.Bool.{true, false, true≢false}
@@ -18,12 +18,12 @@ use Rattle.runs.specs.State.{State, workerOf}
 use Rattle.runs.specs.Turn.{turn, turnOf}
 use Rattle.crew.proofs.Laws.Crews.{crewed-mark}
 use Rattle.turns.specs.declared.turn.Turned.{Turned}
+use Rattle.turns.specs.Worker.{holds, isIdle}
 use Rattle.turns.specs.Count.{withIdles}
-use Rattle.turns.specs.Moments.{holds, Left}
-use Rattle.turns.proofs.Laws.Rows.{rowed-still}
+use Rattle.turns.specs.Moments.{After}
 use Rattle.rounds.specs.declared.account.Account.{Account}
-use Rattle.rounds.specs.Account.{isIdle, rested, TurnNoted}
-use Rattle.rounds.proofs.Laws.Standing.{Manned, Done}
+use Rattle.rounds.specs.Account.{rested, TurnNoted}
+use Rattle.rounds.proofs.Laws.Standing.{Manned}
 use Rattle.rounds.proofs.Laws.Idling.{Idled}
 
 pub held-busy : (x : Worker) → holds x ≡ true → isIdle x ≡ false
@@ -51,15 +51,15 @@ module _ {p : Plan} {n gap : ℕ} {s t : State} (q : Idled gap s t) {a : Account
     abbrev u : State
     u = turnOf p r w x t
 
-    pub manned-turned : {after : Turned} {progress deques : List ℕ} → Left w after progress deques p u
+    pub manned-turned : {after : Turned} {progress deques : List ℕ} → After w after progress deques p u
         → {a′ : Account} → TurnNoted a r w gap (after .worker) (after .weight) a′ → Manned n a′ (set workers w (after .worker)) p u
     manned-turned {after} l {a′} d = record {
       seated = rw (m .seated) seats;
       weighs = d .weighed ∙ l .weighed;
       counts = d .counts ∙ ap₂ (λ (c : Tally) (weighs : ℕ). withIdles (withAction c r weighs) r gap) (m .counts) (l .weighed)
           ∙ ap (λ (c : Tally). withAction c r (weight p (u .next))) (sym (q .counts)) ∙ sym (turn-counts p r w t x e);
-      hold = rw (← seats) (crewed-mark holds (s .workers) Idle (after .worker) (m .hold) h (d .hold) k);
-      idle = rw (← seats) (crewed-mark isIdle (s .workers) Idle (after .worker) (m .idle) h (d .idle) k);
+      holders = rw (← seats) (crewed-mark holds (s .workers) Idle (after .worker) (m .holders) h (d .holders) k);
+      idlers = rw (← seats) (crewed-mark isIdle (s .workers) Idle (after .worker) (m .idlers) h (d .idlers) k);
     }
       where
         seats : set (s .workers) w (after .worker) ≡ u .workers
@@ -72,12 +72,6 @@ module _ {p : Plan} {n gap : ℕ} {s t : State} (q : Idled gap s t) {a : Account
     seated = m .seated ∙ sym (q .workers);
     weighs = m .weighs ∙ ap (weight p) (sym (q .next));
     counts = ap (λ (c : Tally). withIdles c r gap) (m .counts) ∙ ap (λ (k : ℕ). withIdles (s .tally) k gap) (sym e) ∙ sym (q .counts);
-    hold = rw (q .workers) (m .hold);
-    idle = rw (q .workers) (m .idle);
+    holders = rw (q .workers) (m .holders);
+    idlers = rw (q .workers) (m .idlers);
   }
-
-pub done-rested : {p : Plan} {gap : ℕ} {s t : State} → Idled gap s t → {progress rows : List ℕ} → Done p progress rows s → Done p progress rows t
-done-rested q d = record {
-  progressed = rw (q .next) (d .progressed);
-  rowed = rowed-still (q .next) (q .rows) (d .rowed);
-}

@@ -1,4 +1,6 @@
 -- The place that comes after a place, where they go round: that of the next request's choice.
+--   place-wraps == after the last place it is the first
+--   place-steps == after every other it is the next
 use Prim.Native.Nat.{ℕ, suc, _+_, _%_, _<_}
 use mathlib.Core.Path.{_≡_, sym, ap, _∙_}
 use mathlib.Core.Logic.{_≢_}

@@ -1,20 +1,20 @@
 -- How the runner's objects stand for a run, at the head of each of the four loops of `run_rounds`.
---   Fitted S plan      == the array holds the plan of S, and S can be run
+--   Fitted S plan       == the array holds the plan of S, and S can be run; fitted == so it is of what a run is given
 --   holdingIn, idleIn, askedIn == a worker holds a job; is idle; a victim has a request: the tests that the three sets stand for
---   Calm x             == the worker x does not wait
---   Stands w q         == w stands in the line q
---   Ranked v ws lo hi q == the workers of q wait on v, and their requests have rising ranks from lo on and below hi: a request's rank
---                         is by the round it was laid in, then by the worker
---   Queue, Queued      == the line of the requests at a victim, oldest first and whole, and the sixteen lines
---   Manned             == the workers, the weight of the living frames, the counts and the sets of those that hold a job or are idle
---   Asking             == the place of the next request's choice, the lines, and the set of the victims that have one
---   Done               == what is done, and the rows
---   Begun S r s        == s is the state of the run of S as round r begins, and the run goes on from it
+--   Ranked v ws lo hi q == the workers of q wait on v, and their requests have rising ranks from lo on and below hi
+--   Queue, Queued       == the line of the requests at a victim, oldest first and whole, and the sixteen lines
+--   Manned              == the workers, the weight of the living frames, the counts and the sets of those that hold a job or are idle
+--   Asking              == the place of the next request's choice, the lines, and the set of the victims that have one
+--   Done                == what is done, and the rows
+--   Begun S r s         == s is the state of the run of S as round r begins, and the run goes on from it
+--   Throughout A        == A holds of every setting that a run may have been given, and there is one; one-of, go-on == of that one, and
+--                          from one such fact to the next
+--   afterTurns, half, afterLays, afterServes == the state after the turns of the workers below k; after all turns; after the requests of
+--                          the workers below k; after the services of the victims below k
 --   Between, InTurns, InLays, InServes == the loops' invariants: between two rounds, and among a round's turns, requests and services
 use Prim.Native.Nat.{ℕ, suc, _+_, _*_, _%_, _≤_, _<_}
 use mathlib.Core.Path.{_≡_}
 use mathlib.Core.Bool.{Bool, false}
-use mathlib.Core.Logic.{_⊎_}
 use mathlib.Core.List.{List, [], _∷_}
 use lib.ListN.{length, getD}
 use lib.Dec.{T, ltb}
@@ -22,6 +22,7 @@ use Rattle.plan.specs.Contract.{Some, _⇒_}
 use Rattle.plan.specs.Plan.{Plan}
 use Rattle.plan.specs.Sheet.{Planned}
 use Rattle.plan_measure.specs.Measure.{work}
+use Rattle.lines.proofs.Laws.Member.{_∈_}
 use Rattle.courses.specs.Ready.{weight}
 use Rattle.runs.specs.declared.worker.Worker.{Worker}
 use Rattle.runs.specs.declared.worker.Worker.the-variants.{Idle, Waiting}
@@ -31,13 +32,14 @@ use Rattle.runs.specs.Turn.{turns}
 use Rattle.runs.specs.Steal.{lays, serves}
 use Rattle.runs.specs.Run.{ended, rounds, run, choicesFit}
 use Rattle.runs.specs.Trace.{turning, Trace}
-use Rattle.crew.specs.Crew.{Crewed, Left}
-use Rattle.crew.specs.Line.{lenAt, LineAt}
+use Rattle.runs.proofs.Laws.Least.{rank}
+use Rattle.crew.specs.Line.{waitingAt, LineAt}
+use Rattle.crew.proofs.Laws.Walks.{Crewed, Left}
 use Rattle.deques.specs.Dequed.{Dequed}
+use Rattle.turns.specs.Worker.{holds, isIdle}
 use Rattle.turns.specs.Progress.{Progressed}
-use Rattle.turns.specs.Moments.{holds, Rowed}
+use Rattle.turns.specs.Rows.{Rowed}
 use Rattle.rounds.specs.declared.account.Account.{Account}
-use Rattle.rounds.specs.Account.{isIdle}
 use Rattle.rounds.specs.Rounds.{RunGiven}
 
 pub record Fitted (S : Setting) (plan : List ℕ) : Type 0 where
@@ -53,25 +55,18 @@ abbrev pub idleIn : List Worker → ℕ → Bool
 idleIn ws w = isIdle (getD ws w Idle)
 
 abbrev pub askedIn : List ℕ → ℕ → Bool
-askedIn lines v = ltb 0 (lenAt lines v)
-
-abbrev pub Calm : Worker → Type 0
-Calm x = (v l : ℕ) → x ≡ Waiting v l → ⊥
-
-abbrev pub Stands : ℕ → List ℕ → Type 0
-Stands w [] = ⊥
-Stands w (u ∷ q) = (w ≡ u) ⊎ Stands w q
+askedIn lines v = ltb 0 (waitingAt lines v)
 
 abbrev pub Ranked : ℕ → List Worker → ℕ → ℕ → List ℕ → Type 0
 Ranked v ws lo hi [] = lo ≤ hi
 Ranked v ws lo hi (w ∷ q) =
-    (l : ℕ) × (w < 16) × (getD ws w Idle ≡ Waiting v l) × (lo ≤ l * 16 + w) × Ranked v ws (suc (l * 16 + w)) hi q
+    (l : ℕ) × (w < 16) × (getD ws w Idle ≡ Waiting v l) × (lo ≤ rank l w) × Ranked v ws (suc (rank l w)) hi q
 
 pub record Queue (v : ℕ) (ws : List Worker) (hi : ℕ) (lines : List ℕ) : Type 0 where
   pub line : List ℕ
   pub lined : LineAt v lines line
   pub ranked : Ranked v ws 0 hi line
-  pub whole : (w l : ℕ) → getD ws w Idle ≡ Waiting v l → Stands w line
+  pub whole : (w l : ℕ) → getD ws w Idle ≡ Waiting v l → w ∈ line
 
 abbrev pub Queued : ℕ → List Worker → List ℕ → Type 0
 Queued hi ws lines = (v : ℕ) → v < 16 → Queue v ws hi lines
@@ -80,13 +75,13 @@ pub record Manned (n : ℕ) (a : Account) (workers : List Worker) (p : Plan) (s 
   pub seated : workers ≡ s .workers
   pub weighs : a .weight ≡ weight p (s .next)
   pub counts : a .tally ≡ s .tally
-  pub hold : Crewed (holdingIn (s .workers)) n (a .hold)
-  pub idle : Crewed (idleIn (s .workers)) n (a .idle)
+  pub holders : Crewed (holdingIn (s .workers)) n (a .holders)
+  pub idlers : Crewed (idleIn (s .workers)) n (a .idlers)
 
-pub record Asking (n hi : ℕ) (asked : ℕ) (choices : List ℕ) (cursor : ℕ) (lines : List ℕ) (s : State) : Type 0 where
+pub record Asking (n hi : ℕ) (victims : ℕ) (choices : List ℕ) (cursor : ℕ) (lines : List ℕ) (s : State) : Type 0 where
   pub pointed : cursor ≡ s .tally .requests % length choices
   pub queued : Queued hi (s .workers) lines
-  pub crewed : Crewed (askedIn lines) n asked
+  pub crewed : Crewed (askedIn lines) n victims
 
 pub record Done (p : Plan) (progress rows : List ℕ) (s : State) : Type 0 where
   pub progressed : Progressed p (s .next) progress
@@ -99,10 +94,22 @@ pub record Begun (S : Setting) (r : ℕ) (s : State) : Type 0 where
   pub left : run S ≡ rounds fuel S s
   pub enough : work (S .plan) < fuel + r
 
--- what holds of every plan that a run may have been given, and there is one
-abbrev pub Throughout : (n actions : ℕ) (choices plan entering : List ℕ) → (Setting → Type 0) → Type 0
-Throughout n actions choices plan entering A =
-    Some (RunGiven n actions choices plan entering) × (RunGiven n actions choices plan entering ⇒ (λ p. A (setting p n choices)))
+pub fitted : {m actions : ℕ} {choices plan entering : List ℕ} {q : Plan} → RunGiven m actions choices plan entering q
+    → Fitted (setting q m choices) plan
+fitted g = record { planned = g .given .planned; some = g .some; most = g .most; fit = g .fit }
+
+pub record Throughout (n actions : ℕ) (choices plan entering : List ℕ) (A : Setting → Type 0) : Type 0 where
+  pub given : Some (RunGiven n actions choices plan entering)
+  pub all : RunGiven n actions choices plan entering ⇒ (λ p. A (setting p n choices))
+
+module _ {n actions : ℕ} {choices plan entering : List ℕ} {A : Setting → Type 0} (t : Throughout n actions choices plan entering A) where
+  pub one-of : (p : Plan) × Fitted (setting p n choices) plan × A (setting p n choices)
+  one-of = let (p, g) = t .given in (p, fitted g, t .all p g)
+
+  pub go-on : {B : Setting → Type 0}
+      → ((p : Plan) → Fitted (setting p n choices) plan → A (setting p n choices) → B (setting p n choices))
+      → Throughout n actions choices plan entering B
+  go-on f = record { given = t .given; all = λ p g. f p (fitted g) (t .all p g) }
 
 module _ (S : Setting) where
   abbrev n : ℕ
@@ -116,7 +123,7 @@ module _ (S : Setting) where
     pub state : State
     pub begun : Begun S (suc r) state
     pub manned : Manned n a workers p state
-    pub asking : Asking n (suc r * 16) (a .asked) (S .choices) cursor lines state
+    pub asking : Asking n (suc r * 16) (a .victims) (S .choices) cursor lines state
     pub done : Done p progress rows state
     pub dequed : Dequed deques (state .deques)
 
@@ -129,14 +136,15 @@ module _ (S : Setting) where
 
   -- `began` is the set of those who were idle as round r began; the workers below `past` have had their turns, and `left` is the set
   -- of those of the others who held a job as it began
-  pub record InTurns (r began left past : ℕ) (a : Account) (workers : List Worker) (cursor : ℕ) (lines progress deques rows : List ℕ) : Type 0 where
+  pub record InTurns (r began left past : ℕ) (a : Account) (workers : List Worker) (cursor : ℕ) (lines progress deques rows : List ℕ)
+      : Type 0 where
     pub state : State
     pub begun : Begun S r state
     pub were-idle : Crewed (idleIn (state .workers)) n began
     pub ahead : past ≤ n
     pub walk : Left (holdingIn (state .workers)) n past left
     pub manned : Manned n a workers p (afterTurns r past state)
-    pub asking : Asking n (r * 16) (a .asked) (S .choices) cursor lines state
+    pub asking : Asking n (r * 16) (a .victims) (S .choices) cursor lines state
     pub done : Done p progress rows (afterTurns r past state)
     pub dequed : Dequed deques (afterTurns r past state .deques)
 
@@ -151,7 +159,7 @@ module _ (S : Setting) where
     pub ahead : past ≤ n
     pub walk : Left (idleIn (state .workers)) n past left
     pub manned : Manned n a workers p (afterLays r past state)
-    pub asking : Asking n (r * 16 + past) (a .asked) (S .choices) cursor lines (afterLays r past state)
+    pub asking : Asking n (r * 16 + past) (a .victims) (S .choices) cursor lines (afterLays r past state)
     pub done : Done p progress rows (half r state)
     pub dequed : Dequed deques (half r state .deques)
 
@@ -167,8 +175,8 @@ module _ (S : Setting) where
     pub past : ℕ
     pub ahead : past ≤ n
     pub walk : Left (askedIn first) n past left
-    pub same : (u : ℕ) → past ≤ u → u < 16 → lenAt lines u ≡ lenAt first u
+    pub same : (u : ℕ) → past ≤ u → u < 16 → waitingAt lines u ≡ waitingAt first u
     pub manned : Manned n a workers p (afterServes r past state)
-    pub asking : Asking n (suc r * 16) (a .asked) (S .choices) cursor lines (afterServes r past state)
+    pub asking : Asking n (suc r * 16) (a .victims) (S .choices) cursor lines (afterServes r past state)
     pub done : Done p progress rows (half r state)
     pub dequed : Dequed deques (afterServes r past state .deques)

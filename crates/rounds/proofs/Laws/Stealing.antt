@@ -1,9 +1,8 @@
 -- A request and a service, and what each makes of the runner's objects.
 --   idle-is       == the test of idle workers holds of no other
---   done-kept     == what is done, and the rows, of a state that has both from another
 --   laid-manned   == the account and the workers after a request
---   given-manned, given-dequed    == the account, the workers and the deques after a service
---   given-workers, given-requests == whom it changes, and that it lays no request
+--   given-manned, given-dequed == the account, the workers and the deques after a service
+--   given-workers == whom it changes
 --   top-waits     == who has been served does not wait
 --   asked-marked  == the set of the victims that have a request, where the line of one has changed
 use Prim.Native.Nat.{ℕ, _+_, _≤_, _<_}
@@ -24,30 +23,23 @@ use Rattle.runs.specs.State.{State, workerOf, dequeOf}
 use Rattle.runs.specs.Tally.{withRequest, withSteal, withMiss}
 use Rattle.runs.specs.Steal.{laid, given, waits, dropTop, topOf}
 use Rattle.runs.proofs.Laws.Stores.{victimOf}
-use Rattle.crew.specs.Crew.{Crewed, Marked}
-use Rattle.crew.specs.Line.{lenAt, Beside}
+use Rattle.crew.specs.Crew.{Marked}
+use Rattle.crew.specs.Line.{waitingAt, Beside}
+use Rattle.crew.proofs.Laws.Walks.{Crewed}
 use Rattle.crew.proofs.Laws.Crews.{crewed-at, crewed-mark, crewed-same}
 use Rattle.deques.specs.Dequed.{Dequed, topJob}
-use Rattle.turns.specs.Moments.{holds}
-use Rattle.turns.proofs.Laws.Rows.{rowed-still}
+use Rattle.turns.specs.Worker.{holds, isIdle}
 use Rattle.rounds.specs.declared.account.Account.{Account}
-use Rattle.rounds.specs.Account.{isIdle, LayNoted, ServiceNoted}
-use Rattle.rounds.proofs.Laws.Standing.{askedIn, Manned, Done}
+use Rattle.rounds.specs.Account.{LayNoted, ServiceNoted}
+use Rattle.rounds.proofs.Laws.Standing.{askedIn, Manned}
 
 pub idle-is : (x : Worker) → isIdle x ≡ true → x ≡ Idle
 idle-is Idle e = refl
 idle-is (Holding j) e = absurd (true≢false (sym e))
 idle-is (Waiting v l) e = absurd (true≢false (sym e))
 
-pub done-kept : {p : Plan} {progress rows : List ℕ} {s t : State} → Done p progress rows s → t .next ≡ s .next → t .rows ≡ s .rows
-    → Done p progress rows t
-done-kept d e f = record {
-  progressed = rw e (d .progressed);
-  rowed = rowed-still e f (d .rowed);
-}
-
-module _ {n : ℕ} {p : Plan} {s : State} {a : Account} {workers : List Worker} (m : Manned n a workers p s) (sixteen : length (s .workers) ≡ 16)
-    {w : ℕ} (known : w < n) (most : n ≤ 16) where
+module _ {n : ℕ} {p : Plan} {s : State} {a : Account} {workers : List Worker} (m : Manned n a workers p s)
+    (sixteen : length (s .workers) ≡ 16) {w : ℕ} (known : w < n) (most : n ≤ 16) where
   inside : w < length (s .workers)
   inside = omega arith
 
@@ -58,8 +50,8 @@ module _ {n : ℕ} {p : Plan} {s : State} {a : Account} {workers : List Worker} 
     seated = ap (λ ws. set ws w (Waiting v r)) (m .seated);
     weighs = q .weighed ∙ m .weighs;
     counts = q .counts ∙ ap withRequest (m .counts);
-    hold = rw (q .hold) (crewed-same holds (s .workers) Idle (Waiting v r) (m .hold) inside (sym (ap holds was)));
-    idle = crewed-mark isIdle (s .workers) Idle (Waiting v r) (m .idle) inside (q .idle) known;
+    holders = rw (q .holders) (crewed-same holds (s .workers) Idle (Waiting v r) (m .holders) inside known (sym (ap holds was)));
+    idlers = crewed-mark isIdle (s .workers) Idle (Waiting v r) (m .idlers) inside (q .idlers) known;
   })
 
   pub given-manned : (v more : ℕ) (d : List ℕ) {a′ : Account} → ServiceNoted a v more w (topJob d) a′
@@ -69,15 +61,15 @@ module _ {n : ℕ} {p : Plan} {s : State} {a : Account} {workers : List Worker} 
     seated = ap (λ ws. set ws w Idle) (m .seated);
     weighs = q .weighed ∙ m .weighs;
     counts = q .counts ∙ ap withMiss (m .counts);
-    hold = crewed-mark holds (s .workers) Idle Idle (m .hold) inside (q .hold) known;
-    idle = crewed-mark isIdle (s .workers) Idle Idle (m .idle) inside (q .idle) known;
+    holders = crewed-mark holds (s .workers) Idle Idle (m .holders) inside (q .holders) known;
+    idlers = crewed-mark isIdle (s .workers) Idle Idle (m .idlers) inside (q .idlers) known;
   }
   given-manned v more (x ∷ d) q = record {
     seated = ap (λ ws. set ws w (Holding (topOf x d))) (m .seated);
     weighs = q .weighed ∙ m .weighs;
     counts = q .counts ∙ ap withSteal (m .counts);
-    hold = crewed-mark holds (s .workers) Idle (Holding (topOf x d)) (m .hold) inside (q .hold) known;
-    idle = crewed-mark isIdle (s .workers) Idle (Holding (topOf x d)) (m .idle) inside (q .idle) known;
+    holders = crewed-mark holds (s .workers) Idle (Holding (topOf x d)) (m .holders) inside (q .holders) known;
+    idlers = crewed-mark isIdle (s .workers) Idle (Holding (topOf x d)) (m .idlers) inside (q .idlers) known;
   }
 
 module _ (v w : ℕ) (s : State) where
@@ -86,12 +78,8 @@ module _ (v w : ℕ) (s : State) where
   given-workers [] = refl
   given-workers (x ∷ d) = refl
 
-  pub given-requests : (d : List ℕ) → given v w d s .tally .requests ≡ s .tally .requests
-  unfolding given
-  given-requests [] = refl
-  given-requests (x ∷ d) = refl
-
-  pub given-dequed : {deques : List ℕ} → Dequed deques (set (s .deques) v (dropTop (dequeOf s v))) → Dequed deques (given v w (dequeOf s v) s .deques)
+  pub given-dequed : {deques : List ℕ} → Dequed deques (set (s .deques) v (dropTop (dequeOf s v)))
+      → Dequed deques (given v w (dequeOf s v) s .deques)
   unfolding given
   given-dequed {deques} = go (dequeOf s v) refl
     where
@@ -105,12 +93,12 @@ top-waits (x ∷ d) = refl
 
 -- the line of v alone has changed
 module _ {v : ℕ} {lines lines′ : List ℕ} (long : length lines ≡ 32) (beside : Beside v lines lines′) where
-  lens-kept : (u : ℕ) → u ≢ v → lenAt lines′ u ≡ lenAt lines u
+  lens-kept : (u : ℕ) → u ≢ v → waitingAt lines′ u ≡ waitingAt lines u
   lens-kept u d =
       by-cases (decLt u 16) (λ h. beside .lens u h d)
       (λ f. List·getD-eq-default lines′ 0 {n = 16 + u} (omega (arith, f, beside .long))
       ∙ sym (List·getD-eq-default lines 0 {n = 16 + u} (omega (arith, f))))
 
-  pub asked-marked : {n asked asked′ : ℕ} {b : Bool} → Crewed (askedIn lines) n asked → v < n → Marked v b asked asked′ → ltb 0 (lenAt lines′ v) ≡ b
-      → Crewed (askedIn lines′) n asked′
+  pub asked-marked : {n victims asked′ : ℕ} {b : Bool} → Crewed (askedIn lines) n victims → v < n → Marked v b victims asked′
+      → ltb 0 (waitingAt lines′ v) ≡ b → Crewed (askedIn lines′) n asked′
   asked-marked q h m e = crewed-at q m h e (λ u d. ap (ltb 0) (lens-kept u d))

@@ -15,7 +15,7 @@ use Rattle.plan.proofs.Laws.Lists.{both-left, both-right, both-intro, false-of,
 use Rattle.plan.proofs.Laws.Counts.{either-right, equal-tests}
 use Rattle.plan_measure.proofs.Laws.Largest.{member-at, member-place, largest-above, largest-within, largest-append}
 use Rattle.runs.specs.Run.{choicesFit}
-use Rattle.scheduler.specs.Written.{largestOf}
+use Rattle.scheduler.specs.Choices.{largestOf}
 
 pub largest-step : (l : List ℕ) (i : ℕ) → i < length l → max (largestOf (take i l)) (getD l i 0) ≡ largestOf (take (i + 1) l)
 largest-step l i h =

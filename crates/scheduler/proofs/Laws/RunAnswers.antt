@@ -1,8 +1,8 @@
 -- What the entry `run` answers, by what was read.
---   read-runs                     == a plan that was read can be run
---   refuses-plan, answers-read    == what is answered to bytes that hold no plan; to bytes that hold one, what its run answers
+--   read-runs    == a plan that was read can be run
+--   refuses-plan, answers-read == what is answered to bytes that hold no plan; to bytes that hold one, what its run answers
 --   refuses-workers, refuses-choices, refuses-short == the run is turned down, by the first test that fails
---   run-few, run-asked, rows-asked, run-answers     == where none does: its parts are given what they need, and it answers so
+--   run-asked, rows-asked, run-answers == where none does: its parts are given what they need, and it answers so
 use Prim.Native.Nat.{ℕ, _+_, _-_, _*_, _≤_, _<_}
 use mathlib.Core.Path.{_≡_, sym, ap, ap₂, _∙_}
 use mathlib.Core.Bool.{true, false}
@@ -18,7 +18,6 @@ use Rattle.plan.specs.Refusal.{refused, accepted, numberOf}
 use Rattle.plan.specs.Plan.{Plan}
 use Rattle.plan.specs.Reader.{readPlan}
 use Rattle.plan.specs.Found.{ReadPlan}
-use Rattle.plan.proofs.Laws.Valid.{total-range}
 use Rattle.plan.proofs.Laws.Lists.{both-intro, both-left, both-right, true-of, false-of, of-true}
 use Rattle.runs.specs.Setting.{setting}
 use Rattle.runs.specs.declared.tally.Tally.{Tally}
@@ -29,13 +28,13 @@ use Rattle.runs.specs.Run.{run, workersFit, choicesFit, admitted, runOf}
 use Rattle.courses.specs.Schedule.{scheduleBytes}
 use Rattle.scheduler.specs.Entry.{Result, resulted, runInto, ranOf, Claimed}
 use Rattle.rounds.specs.Rounds.{RunGiven, RunLeft}
-use Rattle.scheduler.specs.Loaded.{RunIn, Answered}
+use Rattle.rounds.proofs.Laws.FirstHalf.{in-few}
+use Rattle.scheduler.specs.RunRead.{RunIn, Answered}
 use Rattle.scheduler.specs.Written.{headerBytes, Words, RowsWritten}
 use Rattle.runs.proofs.Laws.Fit.{Fit}
 use Rattle.runs.proofs.Laws.Demand3.{run-bounded}
 use Rattle.scheduler.proofs.Laws.RunBytes.{run-fits, run-words, run-written}
 
--- a plan that was read can be run
 pub read-runs : (bytes : List ℕ) (jobs actions : ℕ) (plan entering : List ℕ) (g : ReadPlan bytes jobs actions plan entering)
     → RunIn actions plan entering (g .is)
 read-runs bytes jobs actions plan entering g =
@@ -59,9 +58,6 @@ module _ (bytes : List ℕ) (n : ℕ) (choices schedule : List ℕ) where
       (a ∙ ap (λ o. resulted (admitted o n choices) n schedule) (sym e), λ t q. (p, e, claimed t q))
 
 module _ {actions : ℕ} {plan entering : List ℕ} {p : Plan} (g : RunIn actions plan entering p) where
-  pub run-few : actions ≤ 2048
-  run-few = omega (arith, g .all, total-range p (g .planned .rules))
-
   module _ (n : ℕ) (choices schedule : List ℕ) where
     refuses : (cause : Refusal) → admitted (accepted p) n choices ≡ refused (numberOf cause)
         → Answered n choices schedule (RefusedRun cause) schedule p
@@ -108,10 +104,7 @@ module _ {actions : ℕ} {plan entering : List ℕ} {p : Plan} (g : RunIn action
         pub run-asked : RunGiven n actions choices plan entering p
         run-asked =
             record {
-              planned = g .planned;
-              all = g .all;
-              entered = g .entered;
-              whole = g .whole;
+              given = g;
               some = some;
               most = most;
               fit = of-true (choicesFit n choices) fit;
@@ -135,7 +128,8 @@ module _ {actions : ℕ} {plan entering : List ℕ} {p : Plan} (g : RunIn action
           -- what writing the rows is given
           pub rows-asked : (actions ≤ 2048) × (2 * actions ≤ length (take rest (drop 4 headed))) × Words actions words
           rows-asked =
-              (run-few, rw (part, length-drop) (omega arith), λ k h. run-words p n choices going words (left .rowed) k (omega (arith, g .all)))
+              let words-fit : Words actions words = λ k h. run-words p n choices going words (left .rowed) k (omega (arith, g .all)) in
+              (in-few g, rw (part, length-drop) (omega arith), words-fit)
 
           pub run-answers : (out : List ℕ) → RowsWritten actions words (take rest (drop 4 headed)) out
               → Answered n choices schedule (Done t) (take 4 headed ++ (out ++ drop rest (drop 4 headed))) p

@@ -16,7 +16,7 @@ use Rattle.courses.specs.Row.{Row, noRow}
 use Rattle.runs.specs.Setting.{setting}
 use Rattle.runs.specs.Run.{run}
 use Rattle.courses.specs.Schedule.{scheduleBytes}
-use Rattle.turns.specs.Moments.{Rowed}
+use Rattle.turns.specs.Rows.{Rowed}
 use Rattle.scheduler.specs.Written.{headerBytes, Words, RowsWritten}
 use Rattle.runs.proofs.Laws.Fit.{Fit}
 use Rattle.runs.proofs.Laws.Coursed.{rows-length, round-most, run-row}
@@ -47,7 +47,7 @@ module _ (p : Plan) (n : ℕ) (choices : List ℕ) (fit : Fit (setting p n choic
   abbrev rows : List Row
   rows = run (setting p n choices) .rows
 
-  pub run-long : length rows ≡ total p
+  run-long : length rows ≡ total p
   run-long = let (r, b, t, e, q) = run-trace fit in rows-length fit t
 
   run-narrow : Narrow rows
@@ -56,7 +56,7 @@ module _ (p : Plan) (n : ℕ) (choices : List ℕ) (fit : Fit (setting p n choic
       let d = run-row fit t e k (omega (arith, run-long)) in
       (omega (arith, d .latest, round-most fit t, work-range p (fit .plan)), omega (arith, d .known))
 
-  pub run-bytes : scheduleBytes n rows ≡ headerBytes n (total p) ++ rowBytes rows
+  run-bytes : scheduleBytes n rows ≡ headerBytes n (total p) ++ rowBytes rows
   run-bytes =
       rw (← run-long) (schedule-bytes n rows (fit .most) (omega (arith, run-long, total-range p (fit .plan))) run-narrow)
 

@@ -1,6 +1,7 @@
 -- The bytes of a schedule, one by one: four of the header and two of each row.
---   rowBytes rows == the bytes of the rows
---   Narrow rows   == each row has a round below 4096 and a worker below 16
+--   rowBytes rows  == the bytes of the rows
+--   Narrow rows    == each row has a round below 4096 and a worker below 16
+--   schedule-bytes == the bytes of a schedule of such rows are those of the header and of the rows
 use Prim.Native.Nat.{ℕ, zero, suc, _+_, _*_, _/_, _%_, _^_, _≤_, _<_}
 use mathlib.Core.Path.{_≡_, refl, sym, ap, ap₂, _∙_}
 use mathlib.Core.List.{List, [], _∷_, _++_, append-assoc}
@@ -19,7 +20,7 @@ rowBytes (a ∷ rows) = (a .round / 16) ∷ ((a .round % 16 * 16 + a .worker) �
 abbrev pub Narrow : List Row → Type 0
 Narrow rows = (k : ℕ) → k < length rows → (getD rows k noRow .round ≤ 4095) × (getD rows k noRow .worker < 16)
 
-pub rowBytes-length : (rows : List Row) → length (rowBytes rows) ≡ 2 * length rows
+rowBytes-length : (rows : List Row) → length (rowBytes rows) ≡ 2 * length rows
 rowBytes-length [] = refl
 rowBytes-length (a ∷ rows) = omega (arith, rowBytes-length rows)
 
@@ -107,7 +108,6 @@ module _ (n : ℕ) (rows : List Row) (most : n ≤ 16) (few : length rows ≤ 20
       simp append-assoc at (ap (λ l. l ++ bits (rowBytes rows)) (header-bits n a most few)) in
       ap (λ l. bitsOf 8 1 ++ l) (e ∙ ap (λ l. bitsOf 5 n ++ (bitsOf 12 a ++ (bitsOf 7 0 ++ l))) (rows-bits rows narrow))
 
-  -- the schedule's bytes
   pub schedule-bytes : scheduleBytes n rows ≡ headerBytes n (length rows) ++ rowBytes rows
   unfolding scheduleBytes
   schedule-bytes =

@@ -20,7 +20,7 @@ use Rattle.runs.proofs.Laws.Lined.{Sound}
 use Rattle.runs.proofs.Laws.TurnSound.{acted, others}
 use Rattle.turns.proofs.Laws.Running.{run-sound}
 
-module _ {k j w weighs : ℕ} {plan : List ℕ} {m : Moment} (a : Held k j w weighs plan m) where
+module _ {k j w : ℕ} {plan : List ℕ} {m : Moment} (a : Held k j w plan m) where
   abbrev p : Plan
   p = m .setting .plan
 

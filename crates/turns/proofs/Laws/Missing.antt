@@ -1,6 +1,6 @@
 -- How many joins into an action are not sent yet: a job is ready when its next action misses none, and an action that is done
 -- takes one from the action that its join goes to, and from no other.
---   missing-few, missing-start    == at most 8, and as a run begins all that enter it
+--   missing-start                 == as a run begins, all that enter it
 --   missing-none, missing-no      == none are missing exactly where each action that sends one is done
 --   missing-ready, ready-missing  == so a job that has begun is ready
 --   missing-sent, missing-kept    == what an action that is done changes
@@ -20,7 +20,7 @@ use Rattle.plan.specs.Rules.{Accepted}
 use Rattle.plan.proofs.Laws.Lists.{both-intro, both-left, both-right, false-of, zeros-at}
 use Rattle.plan.proofs.Laws.Counts.{decT, equal-tests, count-hit, count-miss, count-none}
 use Rattle.plan.proofs.Laws.Placed.{start, placed-length, placed-at, placed-of, place-below}
-use Rattle.plan.proofs.Laws.Valid.{few-enter, join-target}
+use Rattle.plan.proofs.Laws.Valid.{join-target}
 use Rattle.courses.specs.Ready.{ready}
 use Rattle.turns.specs.Progress.{missingTo}
 use Rattle.plan.proofs.Laws.Enters.{enters-by, enters-is}
@@ -51,16 +51,6 @@ module _ {A : Type 0} (f g : A → Bool) (d : A) where
       go (yes y) e r = omega (arith, count-hit f x l (rw e y), count-hit g x l y)
       go (no m) e r = omega (arith, count-miss f x l (rw e m), count-miss g x l m)
 
-  fewer : (l : List A) → ((x : A) → T (f x) → T (g x)) → count f l ≤ count g l
-  fewer [] h = omega arith
-  fewer (x ∷ l) h = go (decT (f x)) (decT (g x)) (fewer l h)
-    where
-      go : Dec (T (f x)) → Dec (T (g x)) → count f l ≤ count g l → count f (x ∷ l) ≤ count g (x ∷ l)
-      go (yes t) (yes y) r = omega (arith, count-hit f x l t, count-hit g x l y)
-      go (yes t) (no m) r = absurd (m (h x t))
-      go (no n) (yes y) r = omega (arith, count-miss f x l n, count-hit g x l y)
-      go (no n) (no m) r = omega (arith, count-miss f x l n, count-miss g x l m)
-
 none-counted : {A : Type 0} (f : A → Bool) (d : A) (l : List A) → ((k : ℕ) → k < length l → T (f (getD l k d)) → ⊥) → count f l ≡ 0
 none-counted f d [] h = refl
 none-counted f d (x ∷ l) h = count-miss f x l (h 0 (omega arith)) ∙ none-counted f d l (λ k b. h (suc k) (omega arith))
@@ -70,15 +60,6 @@ abbrev unsent : Plan → List ℕ → ℕ → ℕ → Placed → Bool
 unsent p done j i a = both (enters p j i a) (leb (getD done (a .job) 0) (a .position))
 
 module _ (p : Plan) where
-  -- no more than enter it at all
-  missing-most : (done : List ℕ) (j i : ℕ) → missingTo p done j i ≤ entering p j i
-  unfolding entering
-  missing-most done j i =
-      fewer (unsent p done j i) (enters p j i) noPlaced (placed p) (λ a t. both-left (enters p j i a) _ t)
-
-  pub missing-few : Accepted p → (done : List ℕ) (j i : ℕ) → j < length p → i < size p j → missingTo p done j i ≤ 8
-  missing-few ok done j i h b = omega (arith, missing-most done j i, few-enter p ok j i h b)
-
   -- as a run begins every join is missing
   pub missing-start : (j i : ℕ) → missingTo p (replicate (length p) 0) j i ≡ entering p j i
   unfolding entering
@@ -92,14 +73,14 @@ module _ (p : Plan) where
 
   module _ (ok : Accepted p) (done : List ℕ) (j i : ℕ) where
     -- where none is missing, each action that sends one is done
-    pub missing-none : missingTo p done j i ≡ 0 → (k : ℕ) → k < length p → (a : ℕ) → a < size p k → parent p k ≡ j → action p k a .join ≡ suc i
-        → a < getD done k 0
+    pub missing-none : missingTo p done j i ≡ 0 → (k : ℕ) → k < length p → (a : ℕ) → a < size p k → parent p k ≡ j
+        → action p k a .join ≡ suc i → a < getD done k 0
     missing-none e k b a h q s =
         let here : Placed = record { job = k; position = a; spawn = action p k a .spawn; join = action p k a .join } in
         let n : T (unsent p done j i here) → ⊥ = rw (placed-at p k a b h) at
         (count-none (unsent p done j i) (placed p) e noPlaced (start p k + a) (omega (arith, placed-length p, place-below p k a b h))) in
-        let f : ¬ (getD done k 0 ≤ a) = λ l. n (both-intro (enters p j i here) _ (enters-by p j i here (join-target p ok k a i b h s .0) q s)
-        (le→leb (getD done k 0) a l)) in
+        let goes : T (enters p j i here) = enters-by p j i here (join-target p ok k a i b h s .0) q s in
+        let f : ¬ (getD done k 0 ≤ a) = λ l. n (both-intro (enters p j i here) _ goes (le→leb (getD done k 0) a l)) in
         omega arith
 
     pub missing-no : ((k : ℕ) → k < length p → (a : ℕ) → a < size p k → parent p k ≡ j → action p k a .join ≡ suc i → a < getD done k 0)
@@ -127,8 +108,8 @@ module _ (p : Plan) where
     ready-missing t = missing-no ok done j (getD done j 0) (ready-is p done ok j t)
 
   -- action i of job j is done
-  module _ (ok : Accepted p) (before after : List ℕ) (j i : ℕ) (b : j < length p) (h : i < size p j) (was : getD before j 0 ≡ i) (is : getD after j 0 ≡ suc i)
-      (rest : (k : ℕ) → k ≢ j → getD after k 0 ≡ getD before k 0) where
+  module _ (ok : Accepted p) (before after : List ℕ) (j i : ℕ) (b : j < length p) (h : i < size p j)
+      (was : getD before j 0 ≡ i) (is : getD after j 0 ≡ suc i) (rest : (k : ℕ) → k ≢ j → getD after k 0 ≡ getD before k 0) where
     -- any other action is done after it exactly if it was before
     same-test : (q t : ℕ) (a : Placed) → ((a .job ≡ j) × (a .position ≡ i) → ⊥) → unsent p before q t a ≡ unsent p after q t a
     same-test q t a other =
@@ -156,8 +137,8 @@ module _ (p : Plan) where
     missing-sent t e =
         one-less (unsent p before (parent p j) t) (unsent p after (parent p j) t) noPlaced (placed p) (start p j + i)
         (omega (arith, placed-length p, place-below p j i b h))
-        (rw (placed-at p j i b h) (both-intro (enters p (parent p j) t here) _ (enters-by p (parent p j) t here (join-target p ok j i t b h e .0) refl e)
-        (le→leb _ i (omega arith))))
+        (rw (placed-at p j i b h) (both-intro (enters p (parent p j) t here) _
+        (enters-by p (parent p j) t here (join-target p ok j i t b h e .0) refl e) (le→leb _ i (omega arith))))
         (rw (placed-at p j i b h) (λ x. omega (arith, leb→le (getD after j 0) i (both-right (enters p (parent p j) t here) _ x))))
         (λ m l f. same-test (parent p j) t (getD (placed p) m noPlaced) (apart m l f))
       where
@@ -177,7 +158,8 @@ module _ (p : Plan) where
             let (o, e, z) = enters-is p q t a n in
             other (sym e ∙ ap (parent p) x, sym (s ∙ ap₂ (λ k m. action p k m .join) x y) ∙ z)
 
-        each : (m : ℕ) → m < length (placed p) → unsent p after q t (getD (placed p) m noPlaced) ≡ unsent p before q t (getD (placed p) m noPlaced)
+        each : (m : ℕ) → m < length (placed p)
+            → unsent p after q t (getD (placed p) m noPlaced) ≡ unsent p before q t (getD (placed p) m noPlaced)
         each m l = go (ℕ-discrete (a .job) j) (ℕ-discrete (a .position) i)
           where
             a : Placed

@@ -1,6 +1,6 @@
 -- What a turn makes of the rows, and what is known of the arrays before it.
 --   rowed-still                  == where no action is done and no row written, the rows stand as they stood
---   turning-tag, turning-word    == the worker's tag is that of one that holds a job, and the word of its row fits
+--   turning-tag, turning-small   == the worker's tag is that of one that holds a job; round and worker are small
 --   turning-acting, turning-room == that job's next action stands where the arrays say, within the rows
 --   turning-taken                == the row is written and the action done
 use Prim.Native.Nat.{ℕ, _+_, _*_, _≤_, _<_}
@@ -21,8 +21,10 @@ use Rattle.runs.specs.declared.worker.Worker.the-variants.{Idle, Holding, Waiti
 use Rattle.runs.specs.State.{State, nextOf}
 use Rattle.runs.specs.Turn.{turnOf}
 use Rattle.turns.specs.declared.turn.Turned.{Turned}
+use Rattle.turns.specs.Worker.{holds}
 use Rattle.turns.specs.Progress.{doneOf}
-use Rattle.turns.specs.Moments.{Moment, Rowed, Acting, Acted, holds, Turning, TurnTaken}
+use Rattle.turns.specs.Rows.{withRow, Rowed}
+use Rattle.turns.specs.Moments.{Moment, Acting, Acted, Turning, TurnTaken}
 use Rattle.courses.proofs.Laws.Course.{place-apart, Acts, acted}
 use Rattle.runs.proofs.Laws.Coursed.{core, turn-ends}
 use Rattle.turns.proofs.Laws.Running.{run-counts}
@@ -37,7 +39,7 @@ rowed-still e f h = record {
 -- the rows after an action
 acts-rowed : {p : Plan} {r w j : ℕ} {s s′ : State} {rows : List ℕ} → Acts p r w j (core s) (core s′)
     → ((h : ℕ) → h < length p → nextOf s h ≤ size p h) → place p j (nextOf s j) < 2048 → Rowed p s rows
-    → Rowed p s′ (set rows (place p j (nextOf s j)) (16 * r + w))
+    → Rowed p s′ (withRow rows (place p j (nextOf s j)) r w)
 acts-rowed {p} {r} {w} {j} {s} {s′} {rows} a bound within rowed = record {
   long = length-set rows k (16 * r + w) ∙ rowed .long;
   each = λ h i l b.
@@ -66,45 +68,48 @@ module _ {x : Worker} {r w weighs : ℕ} {plan progress deques rows : List ℕ} 
   pub turning-tag : tagOf the-type x ≡ 1
   turning-tag = held-tag x (t .holding)
 
-  pub turning-word : 16 * r + w < 4294967296
-  turning-word = omega (arith, run-counts (t .run) .0, t .now-in, t .known, t .run .most)
+  pub turning-small : (r < 65536) × (w < 16)
+  turning-small = omega (arith, run-counts (t .run) .0, t .now-in, t .known, t .run .most)
 
   -- the worker holds job j, whose number is read as y
   module _ {j y : ℕ} (is : x ≡ Holding j) (e : y ≡ j) where
     acting-at : {k : ℕ} → k ≡ place (m .setting .plan) y (nextOf (m .state) y) → Acting k y w weighs plan progress deques m
     acting-at here = record {
-      held = record {
-        run = t .run;
-        known = t .known;
-        holding = sym (t .here) ∙ (is ∙ ap Holding (sym e));
-        planned = t .planned;
-        here = here;
-        weighed = t .weighed;
+      sending = record {
+        held = record {
+          run = t .run;
+          known = t .known;
+          holding = sym (t .here) ∙ (is ∙ ap Holding (sym e));
+          planned = t .planned;
+          here = here;
+        };
+        progressed = t .progressed;
+        dequed = t .dequed;
       };
-      progressed = t .progressed;
-      dequed = t .dequed;
+      weighed = t .weighed;
     }
 
     module _ {f d : ℕ} (first : f ≡ firstOf plan y) (done : d ≡ doneOf progress y) where
       here : f + d ≡ place (m .setting .plan) y (nextOf (m .state) y)
       here =
-          let known = held-job (acting-at refl .held) .0 in
+          let known = held-job (acting-at refl .sending .held) .0 in
           omega (arith, t .planned .laid .firsts y (omega arith), t .progressed .counts y known)
 
       pub turning-acting : Acting (f + d) y w weighs plan progress deques m
       turning-acting = acting-at here
 
       pub turning-room : f + d < 2048
-      turning-room = held-room (turning-acting .held) .2
+      turning-room = held-room (turning-acting .sending .held) .2
 
       pub turning-taken : {after : Turned} {progress′ deques′ : List ℕ} → Acted y w after progress′ deques′ m
-          → TurnTaken x w after progress′ deques′ (set rows (f + d) (16 * r + w)) m
+          → TurnTaken x w after progress′ deques′ (withRow rows (f + d) r w) m
       unfolding turnOf
       turning-taken left =
-          let h = turning-acting .held in
+          let h = turning-acting .sending .held in
           let sound = held-sound h in
           let z : x ≡ Holding y = is ∙ ap Holding (sym e) in
+          let acts = turn-ends sound (m .round) w (h .holding) .acts in
           rw (z, here, t .now-in) (record {
             left = left;
-            rowed = acts-rowed (turn-ends sound (m .round) w (h .holding) .acts) (sound .good .closed .bound) (rw here at turning-room) (t .rowed);
+            rowed = acts-rowed acts (sound .good .closed .bound) (rw here at turning-room) (t .rowed);
           })

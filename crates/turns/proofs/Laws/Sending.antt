@@ -23,8 +23,8 @@ use Rattle.runs.specs.State.{State, nextOf, dequeOf}
 use Rattle.courses.specs.Row.{place}
 use Rattle.runs.specs.Turn.{wakes}
 use Rattle.deques.specs.Dequed.{Dequed, Pushing, Pushed}
-use Rattle.turns.specs.Progress.{doneOf, missingAt, withMissing, missingTo, Progressed}
-use Rattle.turns.specs.Moments.{Moment, Held, Acting, Sent, afterOf, aboveOf}
+use Rattle.turns.specs.Progress.{doneOf, withDone, missingAt, withMissing, missingTo, Progressed}
+use Rattle.turns.specs.Moments.{Moment, Held, Sending, Sent, afterOf, aboveOf}
 use Rattle.lines.proofs.Laws.Act.{Wakes}
 use Rattle.courses.proofs.Laws.PlanShape.{shape}
 use Rattle.courses.proofs.Laws.Course.{place-apart}
@@ -32,14 +32,14 @@ use Rattle.runs.proofs.Laws.TurnSound.{wakes-is, wakes-by, wakes-empty}
 use Rattle.turns.proofs.Laws.Missing.{missing-none, missing-no, missing-sent, missing-kept}
 use Rattle.turns.proofs.Laws.Held.{held-sound, held-job, held-room, held-target, held-next, held-others}
 
-module _ {k j w weighs : ℕ} {plan progress deques : List ℕ} {m : Moment} (g : Acting k j w weighs plan progress deques m) where
+module _ {k j w : ℕ} {plan progress deques : List ℕ} {m : Moment} (g : Sending k j w plan progress deques m) where
   abbrev p : Plan
   p = m .setting .plan
 
   abbrev s : State
   s = m .state
 
-  abbrev a : Held k j w weighs plan m
+  abbrev a : Held k j w plan m
   a = g .held
 
   ok : Accepted p
@@ -51,7 +51,8 @@ module _ {k j w weighs : ℕ} {plan progress deques : List ℕ} {m : Moment} (g 
   Woken : Type 0
   Woken = Wakes (shape p) (nextOf s) (λ h. getD (afterOf s j) h 0) j
 
-  kept : (h x : ℕ) → ((h ≡ parent p j) × (action p j (nextOf s j) .join ≡ suc x) → ⊥) → missingTo p (afterOf s j) h x ≡ missingTo p (s .next) h x
+  kept : (h x : ℕ) → ((h ≡ parent p j) × (action p j (nextOf s j) .join ≡ suc x) → ⊥)
+      → missingTo p (afterOf s j) h x ≡ missingTo p (s .next) h x
   kept = missing-kept p ok (s .next) (afterOf s j) j (nextOf s j) (held-job a .0) (held-job a .1) refl (held-next a) (held-others a)
 
   -- the deque of a worker that wakes no parent
@@ -63,7 +64,7 @@ module _ {k j w weighs : ℕ} {plan progress deques : List ℕ} {m : Moment} (g 
       rw (e, set-getD (s .deques) w []) (g .dequed)
 
   -- the action is counted
-  module _ {counted : List ℕ} (is : counted ≡ set progress j (doneOf progress j + 1)) where
+  module _ {counted : List ℕ} (is : counted ≡ withDone progress j) where
     long : length counted ≡ 2560
     long = rw is (length-set progress j _ ∙ g .progressed .long)
 
@@ -75,7 +76,8 @@ module _ {k j w weighs : ℕ} {plan progress deques : List ℕ} {m : Moment} (g 
         (λ f. getD-set-other progress j h _ 0 f ∙ (g .progressed .counts h l ∙ sym (held-others a h f))))
 
     misses : (h x : ℕ) → h < length p → x < size p h → missingAt counted (place p h x) ≡ missingTo p (s .next) h x
-    misses h x l b = rw is (getD-set-other progress j (512 + place p h x) _ 0 (λ e. omega (arith, held-room a)) ∙ g .progressed .misses h x l b)
+    misses h x l b =
+        rw is (getD-set-other progress j (512 + place p h x) _ 0 (λ e. omega (arith, held-room a)) ∙ g .progressed .misses h x l b)
 
     -- the action sends no join
     pub send-skips : targetAt plan k ≡ 0 → Sent j w counted deques m
@@ -119,7 +121,8 @@ module _ {k j w weighs : ℕ} {plan progress deques : List ℕ} {m : Moment} (g 
         send-misses : missingAt counted at ≡ suc (missingTo p (afterOf s j) (parent p j) (sent - 1))
         send-misses =
             rw is-place (misses (parent p j) (sent - 1) (target .3) (target .1)
-            ∙ missing-sent p ok (s .next) (afterOf s j) j (nextOf s j) (held-job a .0) (held-job a .1) refl (held-next a) (held-others a) (sent - 1) sends)
+            ∙ missing-sent p ok (s .next) (afterOf s j) j (nextOf s j) (held-job a .0) (held-job a .1) refl (held-next a) (held-others a)
+            (sent - 1) sends)
 
         pub send-place : (at < 2048) × (missingAt counted at ≢ 0)
         send-place = (
@@ -194,7 +197,8 @@ module _ {k j w weighs : ℕ} {plan progress deques : List ℕ} {m : Moment} (g 
                   below = λ y d c. let z : _≡_ {A = ℕ} 0 1 = cc in absurd (omega arith);
                 }
 
-            pub send-wakes : {deques′ : List ℕ} {x : ℕ} → x ≡ q → (Pushing w x deques (s .deques) → Pushed w x deques′ (s .deques)) → Sent j w after deques′ m
+            pub send-wakes : {deques′ : List ℕ} {x : ℕ} → x ≡ q → (Pushing w x deques (s .deques) → Pushed w x deques′ (s .deques))
+                → Sent j w after deques′ m
             send-wakes h d =
                 let c : wakes p (s .next) (afterOf s j) j (nextOf s j) ≡ _ = true-of _ wakes-it in
                 record { progressed = sent-progress; dequed = rw (c, ← is-parent, ← h) (d (send-pushing h)) }

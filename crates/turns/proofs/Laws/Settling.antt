@@ -1,7 +1,7 @@
 -- Rules 2 and 3 of a turn over the arrays: what is left of the worker, its deque and the weight of the living frames.
 --   aboves                                              == the deques after rule 1
---   held-settles                                        == the action spawns none, and rule 3 comes next
---   held-child, held-pushing, held-heavier, held-spawns == rule 2: the child, the spawner's push, the child's weight, and what is left
+--   act-settles                                         == the action spawns none, and rule 3 comes next
+--   act-child, act-pushing, act-heavier, act-spawns     == rule 2: the child, the spawner's push, the child's weight, and what is left
 --   settle-lighter, settle-ends                         == rule 3 where the job ended
 --   settle-room, settle-goes, settle-stalls             == where it goes on, and where it stalls
 use Prim.Native.Nat.{ℕ, suc, _+_, _*_, _-_, _≤_, _<_}
@@ -29,7 +29,7 @@ use Rattle.runs.specs.Turn.{wakes, woken, Seat, takeBottom, turn}
 use Rattle.turns.specs.declared.turn.Turned.{Turned}
 use Rattle.deques.specs.Dequed.{Dequed, Pushing, Pushed, TookBottom}
 use Rattle.turns.specs.Progress.{missingAt, missingTo, Progressed}
-use Rattle.turns.specs.Moments.{Moment, Held, Sent, Settling, Acted, afterOf, aboveOf}
+use Rattle.turns.specs.Moments.{Moment, Held, Acting, Sent, Settling, Acted, afterOf, aboveOf}
 use Rattle.lines.proofs.Laws.Shape.{Chain}
 use Rattle.courses.proofs.Laws.PlanShape.{shape}
 use Rattle.runs.proofs.Laws.Deques.{sound-chain}
@@ -42,7 +42,7 @@ use Rattle.turns.proofs.Laws.Held.{held-sound, held-job, held-room, hel
 abbrev pub aboves : ℕ → ℕ → Moment → List (List ℕ)
 aboves j w m = set (m .state .deques) w (aboveOf (m .setting .plan) (m .state) w j)
 
-module _ {k j w weighs : ℕ} {plan : List ℕ} {m : Moment} (a : Held k j w weighs plan m) where
+module _ {k j w : ℕ} {plan : List ℕ} {m : Moment} (a : Held k j w plan m) where
   abbrev p : Plan
   p = m .setting .plan
 
@@ -77,7 +77,8 @@ module _ {k j w weighs : ℕ} {plan : List ℕ} {m : Moment} (a : Held k j w wei
 
   -- and after rule 1 too
   above-low : (x : ℕ) (d : List ℕ) → getD (aboves j w m) w [] ≡ x ∷ d → x < j
-  above-low x d e = go (wakes p (s .next) (afterOf s j) j (nextOf s j)) refl (sym (getD-set-same (s .deques) w (aboveOf p s w j) [] stored) ∙ e)
+  above-low x d e =
+      go (wakes p (s .next) (afterOf s j) j (nextOf s j)) refl (sym (getD-set-same (s .deques) w (aboveOf p s w j) [] stored) ∙ e)
     where
       go : (v : Bool) → wakes p (s .next) (afterOf s j) j (nextOf s j) ≡ v → woken v (parent p j) (dequeOf s w) ≡ x ∷ d → x < j
       go true y q =
@@ -87,43 +88,49 @@ module _ {k j w weighs : ℕ} {plan : List ℕ} {m : Moment} (a : Held k j w wei
           omega (arith, older p ok j o (held-job a .0))
       go false y q = found-low x d q
 
+-- the worker is about to act
+module _ {k j w weighs : ℕ} {plan progress deques : List ℕ} {m : Moment} (g : Acting k j w weighs plan progress deques m) where
+  abbrev a : Held k j w plan m
+  a = g .sending .held
+
   -- rule 3 comes next
-  pub held-settles : {progress deques : List ℕ} (x : ℕ) → x ≡ childAt plan k → x ≡ 0 → Sent j w progress deques m
-      → Settling k j w weighs plan progress deques m
-  held-settles x e z sent = record { held = a; sent = sent; none = sym (held-spawn a) ∙ (sym e ∙ z) }
+  pub act-settles : {progress′ deques′ : List ℕ} (x : ℕ) → x ≡ childAt plan k → x ≡ 0 → Sent j w progress′ deques′ m
+      → Settling k j w weighs plan progress′ deques′ m
+  act-settles x e z sent = record { held = a; weighed = g .weighed; sent = sent; none = sym (held-spawn a) ∙ (sym e ∙ z) }
 
   -- 2. the action spawns job c
   module _ (x c : ℕ) (i : x ≡ childAt plan k) (f : x ≢ 0) (y : c ≡ x - 1) where
-    spawns : action p j (nextOf s j) .spawn ≡ suc c
+    spawns : action (p a) j (nextOf (s a) j) .spawn ≡ suc c
     spawns = omega (arith, held-spawn a)
 
-    pub held-child : (c < length p) × (c < 256) × (j < c)
-    held-child =
-        let (o, b, e, t) = spawned-once p ok j (nextOf s j) c (held-job a .0) (held-job a .1) spawns in
-        omega (arith, jobs-range p ok, older p ok c o b)
+    pub act-child : (c < length (p a)) × (c < 256) × (j < c)
+    act-child =
+        let (o, b, e, t) = spawned-once (p a) (ok a) j (nextOf (s a) j) c (held-job a .0) (held-job a .1) spawns in
+        omega (arith, jobs-range (p a) (ok a), older (p a) (ok a) c o b)
 
     -- the spawner goes on the bottom
-    pub held-pushing : {progress deques : List ℕ} → Sent j w progress deques m → (v : ℕ) → v ≡ j → Pushing w v deques (aboves j w m)
-    held-pushing sent v e = record {
+    pub act-pushing : {progress′ deques′ : List ℕ} → Sent j w progress′ deques′ m → (v : ℕ) → v ≡ j → Pushing w v deques′ (aboves j w m)
+    act-pushing sent v e = record {
       dequed = sent .dequed;
       known = held-room a .4;
-      small = omega (arith, held-child);
-      below = λ x d q. omega (arith, above-low x d q);
+      small = omega (arith, act-child);
+      below = λ x d q. omega (arith, above-low a x d q);
     }
 
     -- the weight has room for the child's frame
-    pub held-heavier : (frameOf plan c ≤ 65535) × (weighs ≤ 256 * 65535)
-    held-heavier =
-        let z = held-child .0 in
-        omega (arith, a .weighed, weight-small p ok (s .next), a .planned .laid .frames c z, frame-range p ok c z)
+    pub act-heavier : (frameOf plan c ≤ 65535) × (weighs ≤ 256 * 65535)
+    act-heavier =
+        let z = act-child .0 in
+        omega (arith, g .weighed, weight-small (p a) (ok a) (s a .next), a .planned .laid .frames c z, frame-range (p a) (ok a) c z)
 
-    pub held-spawns : (t : Turned) {progress deques deques′ : List ℕ} → t .worker ≡ Holding c → t .weight ≡ weighs + frameOf plan c
-        → Sent j w progress deques m → (v : ℕ) → v ≡ j → Pushed w v deques′ (aboves j w m) → Acted j w t progress deques′ m
-    held-spawns t h z sent v e d =
-        seated (record { worker = Holding c; deque = j ∷ aboveOf p s w j })
-        (seat-spawn p (afterOf s j) j (nextOf s j) (aboveOf p s w j) spawns) t h
-        (omega (arith, a .weighed, a .planned .laid .frames c (held-child .0), weight-spawn (a .run) w j (a .holding) c spawns))
-        (sent .progressed) (rw (e, set-set, getD-set-same (s .deques) w (aboveOf p s w j) [] stored) at d)
+    pub act-spawns : (t : Turned) {progress′ deques′ deques″ : List ℕ} → t .worker ≡ Holding c → t .weight ≡ weighs + frameOf plan c
+        → Sent j w progress′ deques′ m → (v : ℕ) → v ≡ j → Pushed w v deques″ (aboves j w m) → Acted j w t progress′ deques″ m
+    act-spawns t h z sent v e d =
+        let above = aboveOf (p a) (s a) w j in
+        seated a (record { worker = Holding c; deque = j ∷ above })
+        (seat-spawn (p a) (afterOf (s a) j) j (nextOf (s a) j) above spawns) t h
+        (omega (arith, g .weighed, a .planned .laid .frames c (act-child .0), weight-spawn (a .run) w j (a .holding) c spawns))
+        (sent .progressed) (rw (e, set-set, getD-set-same (s a .deques) w above [] (stored a)) at d)
 
 -- 3. it spawns none
 module _ {k j w weighs : ℕ} {plan progress deques : List ℕ} {m : Moment} (g : Settling k j w weighs plan progress deques m) where
@@ -160,13 +167,13 @@ module _ {k j w weighs : ℕ} {plan progress deques : List ℕ} {m : Moment} (g 
 
     lighter : weighs ≡ weight p′ (afterOf s′ j) + frameOf plan j
     lighter =
-        g .held .weighed ∙ omega (arith, weight-end (g .held .run) w j (g .held .holding) last, g .held .planned .laid .frames j (known .0))
+        g .weighed ∙ omega (arith, weight-end (g .held .run) w j (g .held .holding) last, g .held .planned .laid .frames j (known .0))
 
     pub settle-lighter : frameOf plan j ≤ weighs
     settle-lighter = omega (arith, lighter)
 
-    pub settle-ends : (x : Turned) {deques′ : List ℕ} → x .weight ≡ weighs - frameOf plan j → TookBottom w (x .worker) deques′ (aboves j w m)
-        → Acted j w x progress deques′ m
+    pub settle-ends : (x : Turned) {deques′ : List ℕ} → x .weight ≡ weighs - frameOf plan j
+        → TookBottom w (x .worker) deques′ (aboves j w m) → Acted j w x progress deques′ m
     settle-ends x z =
         takes (λ t. omega (arith, last, ltb→lt (suc (nextOf s′ j)) (size p′ j) (both-left (ltb (suc (nextOf s′ j)) (size p′ j)) _ t))) x
         (omega (arith, lighter))
@@ -186,16 +193,17 @@ module _ {k j w weighs : ℕ} {plan progress deques : List ℕ} {m : Moment} (g 
         rw e (g .sent .progressed .misses j (suc (nextOf s′ j)) (known .0) more)
 
     same-weight : weighs ≡ weight p′ (afterOf s′ j)
-    same-weight = g .held .weighed ∙ sym (weight-same (g .held .run) w j (g .held .holding) (g .none) (λ e. omega (arith, more)))
+    same-weight = g .weighed ∙ sym (weight-same (g .held .run) w j (g .held .holding) (g .none) (λ e. omega (arith, more)))
 
     -- which is ready
-    pub settle-goes : missingAt progress (k + 1) ≡ 0 → (x : Turned) → x .worker ≡ Holding j → x .weight ≡ weighs → Acted j w x progress deques m
+    pub settle-goes : missingAt progress (k + 1) ≡ 0 → (x : Turned) → x .worker ≡ Holding j → x .weight ≡ weighs
+        → Acted j w x progress deques m
     settle-goes e x v z =
         let d = held-next (g .held) in
         let t = both-intro (ltb (suc (nextOf s′ j)) (size p′ j)) (ready p′ (afterOf s′ j) j) (lt→ltb (suc (nextOf s′ j)) (size p′ j) more)
         (missing-ready p′ (g .held .planned .rules) (afterOf s′ j) j (rw d (sym misses ∙ e)) (λ y. absurd (omega arith))) in
-        seated (g .held) (record { worker = Holding j; deque = aboveOf p′ s′ w j }) (stays ∙ ap (λ c. stay c j (aboveOf p′ s′ w j)) (true-of goes t))
-        x v (z ∙ same-weight) (g .sent .progressed) (g .sent .dequed)
+        seated (g .held) (record { worker = Holding j; deque = aboveOf p′ s′ w j })
+        (stays ∙ ap (λ c. stay c j (aboveOf p′ s′ w j)) (true-of goes t)) x v (z ∙ same-weight) (g .sent .progressed) (g .sent .dequed)
 
     -- or not
     pub settle-stalls : missingAt progress (k + 1) ≢ 0 → (x : Turned) {deques′ : List ℕ} → x .weight ≡ weighs

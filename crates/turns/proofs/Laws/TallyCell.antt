@@ -4,6 +4,7 @@
 --   Small t       == t may stand in memory: each of its counts is below 2^32
 --   typed         == the machine value of a small tally has the tally's type
 --   lent t l δ    == the reference to t in the local at l, under the name δ
+--   Back, Answer  == what a callee that was lent the tally gives back, and what one that returns a tally gives
 --   opens-tally   == a tally behind a `&mut` is a cell, and is small
 --   closes-tally  == the borrow is closed at another tally
 --   calls-update  == a call that takes the tally by value, and returns it as its contract says

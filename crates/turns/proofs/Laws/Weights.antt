@@ -1,7 +1,6 @@
 -- How a turn changes the weight of the living frames: an action that spawns adds the child's frame, a job's last action takes its
 -- own away, and any other leaves it as it is.
 --   weight-small                          == the living frames of any state fit
---   last-spawns-none                      == a job's last action spawns none
 --   weight-spawn, weight-end, weight-same == the weight after an action, in this order
 use Prim.Native.Nat.{ℕ, zero, suc, _+_, _-_, _*_, _≤_, _<_}
 use mathlib.Core.Path.{_≡_, refl, ap, sym, _∙_}
@@ -10,7 +9,7 @@ use mathlib.Core.List.{List}
 use native.Mathlib.Omega.{arith}
 use native.Mathlib.Nat.{not-suc-le-zero, le-of-suc-le-suc, eq-or-lt-of-le, le-refl, le-trans}
 use native.Mathlib.Decide.{ℕ-discrete}
-use lib.ListN.{length, getD, set}
+use lib.ListN.{length, getD}
 use lib.Seq.{getD-set-same, getD-set-other}
 use Rattle.plan.specs.Plan.{Plan, job, size, action, parent, spawnAt}
 use Rattle.plan.specs.Rules.{Accepted}
@@ -21,7 +20,7 @@ use Rattle.runs.specs.Setting.{Setting}
 use Rattle.runs.specs.State.{State, nextOf, workerOf}
 use Rattle.courses.specs.Ready.{weight}
 use Rattle.runs.specs.Trace.{Stage}
-use Rattle.turns.specs.Moments.{InRun}
+use Rattle.turns.specs.Moments.{InRun, afterOf}
 use Rattle.lines.proofs.Laws.Shape.{Living, living?}
 use Rattle.lines.proofs.Laws.Sum.{sum, only, only-yes, only-no, sum-same, sum-bound}
 use Rattle.lines.proofs.Laws.Weight.{held}
@@ -56,10 +55,11 @@ module _ (p : Plan) (ok : Accepted p) where
   weight-small next =
       rw (weight-held p next)
       (le-trans (sum-bound (length p) (λ k. only (living? (shape p) (λ i. getD next i 0) k) (job p k .frame)) 65535
-      (λ k h. only-most (living? (shape p) (λ i. getD next i 0) k) (job p k .frame) 65535 (frame-range p ok k h .1))) (omega (arith, jobs-range p ok)))
+      (λ k h. only-most (living? (shape p) (λ i. getD next i 0) k) (job p k .frame) 65535 (frame-range p ok k h .1)))
+      (omega (arith, jobs-range p ok)))
 
-  -- a child's last action joins a later action than its spawn
-  pub last-spawns-none : (j i : ℕ) → j < length p → suc i ≡ size p j → action p j i .spawn ≡ 0
+  -- a job's last action spawns none: a child's last action joins a later action of its parent than its spawn
+  last-spawns-none : (j i : ℕ) → j < length p → suc i ≡ size p j → action p j i .spawn ≡ 0
   last-spawns-none j i h e = go (action p j i .spawn) refl
     where
       child : (c : ℕ) → action p j i .spawn ≡ suc c → (x : ℕ) → action p c (size p c - 1) .join ≡ x → ⊥
@@ -87,7 +87,7 @@ module _ {S : Setting} {r : ℕ} {began : List Worker} {g : Stage} {s : State} (
   known = held-job sound w holding
 
   after : ℕ → ℕ
-  after k = getD (set (s .next) j (suc (nextOf s j))) k 0
+  after k = getD (afterOf s j) k 0
 
   here : after j ≡ suc (nextOf s j)
   unfolding after
@@ -126,22 +126,24 @@ module _ {S : Setting} {r : ℕ} {began : List Worker} {g : Stage} {s : State} (
 
   same : (k : ℕ) → action p j (nextOf s j) .spawn ≢ suc k → (k ≡ j → suc (nextOf s j) ≢ size p j) → weighs′ k ≡ weighs k
   unfolding weighs weighs′
-  same k none goes = only-same (living? (shape p) after k) (living? (shape p) (nextOf s) k) (job p k .frame) (lived k none) (lives-on k goes)
+  same k none goes =
+      only-same (living? (shape p) after k) (living? (shape p) (nextOf s) k) (job p k .frame) (lived k none) (lives-on k goes)
 
   weighed : weight p (s .next) ≡ sum (length p) weighs
   unfolding weighs held
   weighed = weight-held p (s .next)
 
-  weighed′ : weight p (set (s .next) j (suc (nextOf s j))) ≡ sum (length p) weighs′
+  weighed′ : weight p (afterOf s j) ≡ sum (length p) weighs′
   unfolding weighs′ after held
-  weighed′ = weight-held p (set (s .next) j (suc (nextOf s j)))
+  weighed′ = weight-held p (afterOf s j)
 
-  pub weight-spawn : (c : ℕ) → action p j (nextOf s j) .spawn ≡ suc c → weight p (set (s .next) j (suc (nextOf s j))) ≡ weight p (s .next) + job p c .frame
+  pub weight-spawn : (c : ℕ) → action p j (nextOf s j) .spawn ≡ suc c → weight p (afterOf s j) ≡ weight p (s .next) + job p c .frame
   unfolding weighs weighs′
   weight-spawn c e =
       let (o, b, m, a) = spawned-once p (run .accepted) j (nextOf s j) c (known .0) (known .1) e in
       let last : suc (nextOf s j) ≢ size p j = λ q. omega (arith, last-spawns-none p (run .accepted) j (nextOf s j) (known .0) q) in
-      let none : weighs c ≡ 0 = only-no (living? (shape p) (nextOf s) c) (job p c .frame) (λ l. omega (arith, l .begun o, ap (nextOf s) m)) in
+      let none : weighs c ≡ 0 = only-no (living? (shape p) (nextOf s) c) (job p c .frame)
+      (λ l. omega (arith, l .begun o, ap (nextOf s) m)) in
       let fresh : ¬ (0 < nextOf s c) = λ l. omega (arith, sound .good .closed .started c o b l, ap (nextOf s) m) in
       let f : c ≢ j = λ q. omega (arith, older p (run .accepted) c o b) in
       let born : weighs′ c ≡ job p c .frame = only-yes (living? (shape p) after c) (job p c .frame) (record {
@@ -151,14 +153,15 @@ module _ {S : Setting} {r : ℕ} {began : List Worker} {g : Stage} {s : State} (
       }) in
       omega (arith, weighed, weighed′, sum-change (length p) weighs weighs′ c b (λ k h d. same k (λ q. d (omega arith)) (λ x. last)))
 
-  pub weight-end : suc (nextOf s j) ≡ size p j → weight p (s .next) ≡ weight p (set (s .next) j (suc (nextOf s j))) + job p j .frame
+  pub weight-end : suc (nextOf s j) ≡ size p j → weight p (s .next) ≡ weight p (afterOf s j) + job p j .frame
   unfolding weighs weighs′
   weight-end e =
       let z = last-spawns-none p (run .accepted) j (nextOf s j) (known .0) e in
       let held : weighs j ≡ job p j .frame = only-yes (living? (shape p) (nextOf s) j) (job p j .frame)
       (record { below = known .0; begun = known .2; left = known .1 }) in
       let ended : weighs′ j ≡ 0 = only-no (living? (shape p) after j) (job p j .frame) (λ l. omega (arith, l .left, here)) in
-      omega (arith, weighed, weighed′, sum-change (length p) weighs weighs′ j (known .0) (λ k h d. same k (λ q. omega arith) (λ x. absurd (d x))))
+      let change = sum-change (length p) weighs weighs′ j (known .0) (λ k h d. same k (λ q. omega arith) (λ x. absurd (d x))) in
+      omega (arith, weighed, weighed′)
 
-  pub weight-same : action p j (nextOf s j) .spawn ≡ 0 → suc (nextOf s j) ≢ size p j → weight p (set (s .next) j (suc (nextOf s j))) ≡ weight p (s .next)
+  pub weight-same : action p j (nextOf s j) .spawn ≡ 0 → suc (nextOf s j) ≢ size p j → weight p (afterOf s j) ≡ weight p (s .next)
   weight-same e f = weighed′ ∙ sum-same (length p) weighs′ weighs (λ k h. same k (λ q. omega arith) (λ x. f)) ∙ sym weighed

@@ -12,7 +12,7 @@ shr-result : tie.Need-shr-result
 shr-result c = search needs
 
 returns : tie.Need-returns
-returns c = (omega arith, λ q len d. picked d _)
+returns c = (omega arith, λ len q d. picked d _)
 
 pub at-spec : {M : Type 1} → statement M
 at-spec = tie.close (tie.spec mul-result shr-result returns)

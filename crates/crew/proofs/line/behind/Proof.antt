@@ -1,5 +1,6 @@
 -- `line::behind` meets its contract.
 use mathlib.Core.Path.{refl}
+use native.Mathlib.Omega.{arith}
 use borrow.Author.Needs.{needs}
 use Rattle.crew.proofs.Laws.Shifting.{lined-fits, lined-behind}
 use Rattle.crew.proofs.line.behind.Statement.{statement}
@@ -13,7 +14,7 @@ shl-result c = search needs
 
 add-result : tie.Need-add-result
 add-result c =
-    record { fits = lined-fits (lined-behind (c .pre .0 .1) _ (c .pre .1) (c .pre .2) _ refl) }
+    omega (arith, lined-fits (lined-behind (c .pre .0 .1) (c .args .w) (c .pre .1) (c .pre .2) _ refl), c .pre .2)
 
 returns : tie.Need-returns
 returns c = λ q d. lined-behind d _ (c .pre .1) (c .pre .2) _ refl

@@ -5,8 +5,8 @@ use Rattle.crew.proofs.Laws.Lines.{line-lined, line-put, beside-put}
 use Rattle.crew.proofs.line.line_up.Statement.{statement}
 use Rattle.crew.proofs.line.line_up.Tie as tie
 
-len-of-requires : tie.Need-len-of-requires
-len-of-requires c κs = search needs
+waiting-at-requires : tie.Need-waiting-at-requires
+waiting-at-requires c κs = search needs
 
 mul-behind : tie.Need-mul-behind
 mul-behind c = search needs
@@ -17,7 +17,7 @@ element-copy-out-behind c = search needs
 behind-requires : tie.Need-behind-requires
 behind-requires c κs =
     let j = c .before .before .before .pre .1 in
-    let d = line-lined (j .line) (c .before .len-of .ensures) in
+    let d = line-lined (j .line) (c .before .waiting-at .ensures) in
     ((_, d), omega (arith, j .room, d .count), j .known)
 
 mul-lines : tie.Need-mul-lines
@@ -40,7 +40,7 @@ element-write-lines-2 c = search needs
 
 returns : tie.Need-returns
 returns c =
-    let len = c .before .before .len-of .ensures in (
+    let len = c .before .before .waiting-at .ensures in (
       λ q j. line-put (j .line) (c .behind .ensures q (line-lined (j .line) len)),
       beside-put _ _ _ _ (c .before .before .before .before .pre .1 .line .known),
     )
@@ -49,7 +49,7 @@ pub line-up-spec : {M : Type 1} → statement M
 line-up-spec =
     tie.close
     (tie.spec
-    len-of-requires
+    waiting-at-requires
     mul-behind
     element-copy-out-behind
     behind-requires

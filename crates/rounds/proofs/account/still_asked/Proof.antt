@@ -2,7 +2,7 @@
 use native.Mathlib.Omega.{arith}
 use borrow.Author.Needs.{needs}
 use borrow.Author.Tests.{lt-ltb, le-ltb}
-use Rattle.rounds.proofs.Laws.Accounts.{marked-as-was}
+use Rattle.crew.proofs.Laws.Crews.{marked-as-was}
 use Rattle.rounds.proofs.account.still_asked.Statement.{statement}
 use Rattle.rounds.proofs.account.still_asked.Tie as tie
 

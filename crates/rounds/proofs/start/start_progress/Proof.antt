@@ -3,7 +3,7 @@ use Prim.Native.Nat.{_-_, _≤_}
 use mathlib.Core.Path.{_≡_, sym}
 use native.Mathlib.Omega.{arith}
 use Rattle.rounds.specs.Rounds.{Started}
-use Rattle.rounds.proofs.Laws.Starts.{started-none, started-next}
+use Rattle.rounds.proofs.Laws.Beginning.{started-none, started-next}
 use Rattle.rounds.proofs.start.start_progress.Statement.{statement}
 use Rattle.rounds.proofs.start.start_progress.Tie as tie
 

@@ -3,7 +3,7 @@ use Prim.Native.Nat.{_≤_, _-_, max}
 use mathlib.Core.Path.{_≡_, refl, ap, _∙_}
 use native.Mathlib.Omega.{arith}
 use lib.ListN.{length, getD, take}
-use Rattle.scheduler.specs.Written.{largestOf}
+use Rattle.scheduler.specs.Choices.{largestOf}
 use Rattle.scheduler.proofs.Laws.Choices.{largest-step, largest-all}
 use Rattle.scheduler.proofs.run.largest.Statement.{statement}
 use Rattle.scheduler.proofs.run.largest.Tie as tie

@@ -4,7 +4,8 @@ use mathlib.Core.Bool.{true}
 use native.Mathlib.Omega.{arith}
 use borrow.Author.Tests.{not-true, not-false}
 use Rattle.runs.specs.Run.{choicesFit}
-use Rattle.scheduler.proofs.Laws.RunAnswers.{run-few, refuses-workers, refuses-choices, refuses-short, run-asked, rows-asked, run-answers}
+use Rattle.rounds.proofs.Laws.FirstHalf.{in-few}
+use Rattle.scheduler.proofs.Laws.RunAnswers.{refuses-workers, refuses-choices, refuses-short, run-asked, rows-asked, run-answers}
 use borrow.Author.Needs.{needs}
 use Rattle.scheduler.proofs.run.run_read.Statement.{statement}
 use Rattle.scheduler.proofs.run.run_read.Tie as tie
@@ -26,10 +27,10 @@ fit : (c : tie.Else3) → let a = c .before .before .before .before .before .bef
 fit c = sym (c .before .choices-fit .ensures) ∙ not-false _ (c .if3 .left)
 
 mul-if4 : tie.Need-mul-if4
-mul-if4 c = let (p, g) = c .before .before .before .before .before .before .pre in omega (arith, run-few g)
+mul-if4 c = let (p, g) = c .before .before .before .before .before .before .pre in omega (arith, in-few g)
 
 add-if4 : tie.Need-add-if4
-add-if4 c = let (p, g) = c .before .before .before .before .before .before .pre in omega (arith, run-few g)
+add-if4 c = let (p, g) = c .before .before .before .before .before .before .pre in omega (arith, in-few g)
 
 returns-4 : tie.Need-returns-4
 returns-4 c = λ p g. refuses-short g _ _ _ (omega arith) (omega arith) (fit (c .before)) (omega arith)
@@ -45,7 +46,7 @@ run-rounds-requires c κs =
 write-header-requires : tie.Need-write-header-requires
 write-header-requires c κs =
     let (p, g) = c .before .before .before .before .before .before .before .before .before .before .pre in
-    (omega arith, run-few g, omega arith)
+    (omega arith, in-few g, omega arith)
 
 sub-write-rows : tie.Need-sub-write-rows
 sub-write-rows c = search needs

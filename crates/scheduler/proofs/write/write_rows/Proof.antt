@@ -2,7 +2,7 @@
 use Prim.Native.Nat.{_*_, _≤_, _<_, _-_}
 use mathlib.Core.Path.{_≡_}
 use native.Mathlib.Omega.{arith}
-use lib.ListN.{length, getD, length-set}
+use lib.ListN.{length, length-set}
 use Rattle.scheduler.specs.Written.{Words, RowsWritten}
 use Rattle.scheduler.proofs.Laws.RowBytes.{none-written, rows-step}
 use Rattle.scheduler.proofs.write.write_rows.Statement.{statement}
@@ -16,17 +16,14 @@ abbrev μ-loop : tie.MeasureT-loop
 μ-loop out₀ actions rows k₀ out k = actions - k
 
 loop-holds : tie.Need-loop-holds Inv-loop μ-loop
-loop-holds c = (omega arith, c .pre .0, c .pre .1, c .pre .2, none-written)
+loop-holds c = let p = c .before .pre in (omega arith, p .0, p .1, p .2, none-written)
 
-mul-x : tie.Need-mul-x Inv-loop μ-loop
-mul-x c = omega arith
-
-element-copy-out-x : tie.Need-element-copy-out-x Inv-loop μ-loop
-element-copy-out-x c = omega arith
+row-at-requires : tie.Need-row-at-requires Inv-loop μ-loop
+row-at-requires c κs = omega arith
 
 -- the word is that of a row
-word : (c : tie.After-x Inv-loop μ-loop) → getD (c .before .before .before .args .rows .now) (c .before .before .loop .k) 0 < 65536
-word c = c .before .before .loop .inv .3 (c .before .before .loop .k) (omega arith)
+word : (c : tie.After-row-at Inv-loop μ-loop) → c .row-at .result < 65536
+word c = rw (c .row-at .ensures) (c .before .before .loop .inv .3 (c .before .before .loop .k) (omega arith))
 
 cast-out : tie.Need-cast-out Inv-loop μ-loop
 cast-out c = omega (arith, word c)
@@ -58,13 +55,13 @@ loop-less c = omega arith
 loop-again : tie.Need-loop-again Inv-loop μ-loop
 loop-again c =
     let i = c .before .before .loop .inv in
-    (omega arith, i .1, i .2, i .3, rows-step (i .4) (omega arith))
+    (omega arith, i .1, i .2, i .3, rw (c .row-at .ensures) (rows-step (i .4) (omega arith)))
 
 same-length : tie.Need-same-length Inv-loop μ-loop
 same-length c = c .before .loop .inv .4 .long
 
 returns : tie.Need-returns Inv-loop μ-loop
-returns c = let e : c .before .loop .k ≡ c .before .before .args .actions = omega arith in rw e at (c .before .loop .inv .4)
+returns c = let e : c .before .loop .k ≡ c .before .before .before .args .actions = omega arith in rw e at (c .before .loop .inv .4)
 
 pub write-rows-spec : {M : Type 1} → statement M
 write-rows-spec =
@@ -73,8 +70,7 @@ write-rows-spec =
     Inv-loop
     μ-loop
     loop-holds
-    mul-x
-    element-copy-out-x
+    row-at-requires
     cast-out
     mul-out
     slice-write-out

@@ -6,7 +6,7 @@ use Rattle.turns.proofs.count.with_action.Statement.{statement}
 use Rattle.turns.proofs.count.with_action.Tie as tie
 
 add-u : tie.Need-add-u
-add-u c = omega (arith, c .before .pre .actions)
+add-u c = omega (arith, c .before .pre)
 
 larger-requires : tie.Need-larger-requires
 larger-requires c κs = tt

@@ -6,7 +6,7 @@ use Rattle.turns.proofs.count.with_miss.Statement.{statement}
 use Rattle.turns.proofs.count.with_miss.Tie as tie
 
 add-u : tie.Need-add-u
-add-u c = omega (arith, c .before .pre .misses)
+add-u c = omega (arith, c .before .pre)
 
 returns : tie.Need-returns
 returns c = rw add-one refl

@@ -6,7 +6,7 @@ use Rattle.turns.proofs.count.with_request.Statement.{statement}
 use Rattle.turns.proofs.count.with_request.Tie as tie
 
 add-u : tie.Need-add-u
-add-u c = omega (arith, c .before .pre .requests)
+add-u c = omega (arith, c .before .pre)
 
 returns : tie.Need-returns
 returns c = rw add-one refl

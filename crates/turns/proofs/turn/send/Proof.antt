@@ -3,7 +3,8 @@ use Prim.Native.Nat.{_<_}
 use mathlib.Core.Path.{sym, _∙_}
 use native.Mathlib.Omega.{arith}
 use Rattle.turns.proofs.Laws.Held.{held-room}
-use Rattle.turns.proofs.Laws.Sending.{send-counts, send-skips, send-parent, send-place, send-stalls, send-later, send-pushing, send-wakes}
+use Rattle.turns.proofs.Laws.Sending.{send-counts, send-skips, send-parent, send-place}
+use Rattle.turns.proofs.Laws.Sending.{send-stalls, send-later, send-pushing, send-wakes}
 use borrow.Author.Needs.{needs}
 use Rattle.turns.proofs.turn.send.Statement.{statement}
 use Rattle.turns.proofs.turn.send.Tie as tie

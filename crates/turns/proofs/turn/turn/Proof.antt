@@ -1,7 +1,7 @@
 -- `turn::turn` meets its contract: the row is the one of the action that the worker does, and `act` does the rest.
 use native.Mathlib.Omega.{arith}
 use mathlib.Core.Logic.{⊎-elim}
-use Rattle.turns.proofs.Laws.Rows.{turning-tag, turning-word, turning-room, turning-acting, turning-taken}
+use Rattle.turns.proofs.Laws.Rows.{turning-tag, turning-small, turning-room, turning-acting, turning-taken}
 use borrow.Author.Needs.{needs}
 use Rattle.turns.proofs.turn.turn.Statement.{statement}
 use Rattle.turns.proofs.turn.turn.Tie as tie
@@ -25,41 +25,31 @@ done-of-requires c κs = search needs
 add-k : tie.Need-add-k
 add-k c = search needs
 
-mul-rows : tie.Need-mul-rows
-mul-rows c = omega (arith, turning-word (c .before .before .before .before .before .before .before .pre .1))
-
-add-rows : tie.Need-add-rows
-add-rows c = omega (arith, turning-word (c .before .before .before .before .before .before .before .pre .1))
-
-cast-rows : tie.Need-cast-rows
-cast-rows c = omega (arith, turning-word (c .before .before .before .before .before .before .before .pre .1))
-
-mul-rows-2 : tie.Need-mul-rows-2
-mul-rows-2 c = search needs
-
-element-write-rows : tie.Need-element-write-rows
-element-write-rows c =
-    let l = c .before .before in
+set-row-requires : tie.Need-set-row-requires
+set-row-requires c κs =
+    let l = c .before .before .before in
     let held = l .before .before .before in
-    turning-room (held .before .before .pre .1) (held .worker .given .1) (l .before .wide8 .ensures .0) (l .first-of .ensures .0) (c .done-of .ensures .0)
+    let t = held .before .before .pre .1 in
+    let job = l .before .wide8 .ensures .0 in
+    let room = turning-room t (held .worker .given .1) job (l .first-of .ensures .0) (c .before .done-of .ensures .0) in
+    omega (arith, turning-small t)
 
 act-requires : tie.Need-act-requires
 act-requires c κs =
-    let d = c .before .before in
+    let d = c .before .before .before .before in
     let l = d .before .before in
-    let held = l .before .before .before in (
-      _,
-      turning-acting (held .before .before .pre .1) (held .worker .given .1) (l .before .wide8 .ensures .0) (l .first-of .ensures .0) (d .done-of .ensures .0),
-    )
+    let held = l .before .before .before in
+    let job = l .before .wide8 .ensures .0 in
+    (_, turning-acting (held .before .before .pre .1) (held .worker .given .1) job (l .first-of .ensures .0) (d .done-of .ensures .0))
 
 returns-2 : tie.Need-returns-2
 returns-2 c m t =
-    let d = c .before .before .before in
+    let d = c .before .before .before .before .before in
     let l = d .before .before in
     let is = l .before .before .before .worker .given .1 in
     let job = l .before .wide8 .ensures .0 in
-    turning-taken t is job (l .first-of .ensures .0) (d .done-of .ensures .0)
-    (c .act .ensures m (turning-acting t is job (l .first-of .ensures .0) (d .done-of .ensures .0)))
+    let act = c .act .ensures m (turning-acting t is job (l .first-of .ensures .0) (d .done-of .ensures .0)) in
+    rw (c .before .before .before .set-row .ensures) (turning-taken t is job (l .first-of .ensures .0) (d .done-of .ensures .0) act)
 
 pub turn-spec : {M : Type 1} → statement M
 turn-spec =
@@ -71,10 +61,6 @@ turn-spec =
     first-of-requires
     done-of-requires
     add-k
-    mul-rows
-    add-rows
-    cast-rows
-    mul-rows-2
-    element-write-rows
+    set-row-requires
     act-requires
     returns-2)

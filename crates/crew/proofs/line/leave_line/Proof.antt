@@ -1,9 +1,9 @@
--- `line::step_up` meets its contract.
+-- `line::leave_line` meets its contract.
 use native.Mathlib.Omega.{arith}
 use borrow.Author.Needs.{needs}
 use Rattle.crew.proofs.Laws.Lines.{line-lined, line-put, beside-put}
-use Rattle.crew.proofs.line.step_up.Statement.{statement}
-use Rattle.crew.proofs.line.step_up.Tie as tie
+use Rattle.crew.proofs.line.leave_line.Statement.{statement}
+use Rattle.crew.proofs.line.leave_line.Tie as tie
 
 mul-line : tie.Need-mul-line
 mul-line c = search needs
@@ -11,13 +11,13 @@ mul-line c = search needs
 element-copy-out-line : tie.Need-element-copy-out-line
 element-copy-out-line c = search needs
 
-len-of-requires : tie.Need-len-of-requires
-len-of-requires c κs = search needs
+waiting-at-requires : tie.Need-waiting-at-requires
+waiting-at-requires c κs = search needs
 
 closed-up-requires : tie.Need-closed-up-requires
 closed-up-requires c κs =
     let j = c .before .before .before .pre .1 in
-    let d = line-lined (j .line) (c .len-of .ensures) in
+    let d = line-lined (j .line) (c .waiting-at .ensures) in
     ((_, d), omega (arith, j .there, d .count))
 
 mul-lines : tie.Need-mul-lines
@@ -43,22 +43,22 @@ at-requires c κs = search needs
 
 returns : tie.Need-returns
 returns c =
-    let len = c .before .before .len-of .ensures in (
+    let len = c .before .before .waiting-at .ensures in (
       λ q j. let d = line-lined (j .line) len in record {
-        who = c .at .ensures .1 q _ d;
+        who = c .at .ensures .1 _ q d;
         known = c .at .ensures .0;
         line = line-put (j .line) (c .before .closed-up .ensures q d);
       },
       beside-put _ _ _ _ (c .before .before .before .before .before .pre .1 .line .known),
     )
 
-pub step-up-spec : {M : Type 1} → statement M
-step-up-spec =
+pub leave-line-spec : {M : Type 1} → statement M
+leave-line-spec =
     tie.close
     (tie.spec
     mul-line
     element-copy-out-line
-    len-of-requires
+    waiting-at-requires
     closed-up-requires
     mul-lines
     element-write-lines
