@@ -1,7 +1,8 @@
 -- A run begins: the progress as it is made, action by action, and all objects as they are made, which stand for the run's start.
 --   started-none, started-next == the progress before the first action, where every place is 0, and with one action more
---   first-manned, first-asking, first-done, first-deques == the workers and the account; the lines; what is done; the deques
-use Prim.Native.Nat.{ℕ, suc, _+_, _<_}
+--   in-few        == an accepted plan has at most 2,048 actions
+--   first-between == the objects as they are made: no round is done
+use Prim.Native.Nat.{ℕ, suc, _+_, _≤_, _<_}
 use mathlib.Core.Path.{_≡_, refl, sym, ap, _∙_}
 use mathlib.Core.Logic.{by-cases}
 use mathlib.Core.List.{List, []}
@@ -15,12 +16,18 @@ use Rattle.plan.specs.Plan.{Plan, size, total, placed, noPlaced, entering as en
 use Rattle.plan.specs.Sheet.{frameOf}
 use Rattle.plan.proofs.Laws.Lists.{array-at, zeros-at}
 use Rattle.plan.proofs.Laws.Placed.{placed-length, placed-at, place-below}
-use Rattle.plan.proofs.Laws.Valid.{jobs-range}
+use Rattle.plan.proofs.Laws.Valid.{jobs-range, total-range}
+use Rattle.plan_measure.specs.Measure.{work}
 use Rattle.courses.specs.Row.{place}
 use Rattle.runs.specs.declared.worker.Worker.the-variants.{Idle, Holding}
+use Rattle.runs.specs.Setting.{setting}
 use Rattle.runs.specs.State.{workerOf, start}
 use Rattle.runs.specs.Steal.{waits}
+use Rattle.runs.specs.Run.{run}
+use Rattle.runs.specs.Trace.{begins}
+use Rattle.runs.proofs.Laws.Fit.{Fit}
 use Rattle.runs.proofs.Laws.Start.{none-done, start-idle, start-calm}
+use Rattle.runs.proofs.Laws.Rounds.{not-ended}
 use Rattle.runs.proofs.Laws.Coursed.{start-weight}
 use Rattle.crew.proofs.Laws.Crews.{crewed-none, crewed-first, crewed-others}
 use Rattle.crew.proofs.Laws.Lines.{line-first-zero}
@@ -29,8 +36,8 @@ use Rattle.turns.specs.Worker.{holds, isIdle}
 use Rattle.turns.specs.Progress.{withMissing, missingAt, missingTo}
 use Rattle.turns.proofs.Laws.Missing.{missing-start}
 use Rattle.rounds.specs.Account.{opened}
-use Rattle.rounds.specs.Rounds.{Started, RunGiven}
-use Rattle.rounds.proofs.Laws.Standing.{Queued, Manned, Asking, Done}
+use Rattle.rounds.specs.Rounds.{Started, RunIn, RunGiven}
+use Rattle.rounds.proofs.Laws.Standing.{Queued, Manned, Asking, Done, Between}
 
 module _ {entering progress : List ℕ} where
   pub started-none : progress ≡ replicate 2560 0 → Started 0 entering progress
@@ -65,7 +72,7 @@ module _ {n actions : ℕ} {choices plan entering : List ℕ} {p : Plan} (g : Ru
   others : (u : ℕ) → workerOf (start p) (suc u) ≡ Idle
   others u = start-idle p (suc u) (λ e. omega arith)
 
-  pub first-manned : {weighs : ℕ} → weighs ≡ frameOf plan 0 → Manned n (opened n weighs) (set (replicate 16 Idle) 0 (Holding 0)) p (start p)
+  first-manned : {weighs : ℕ} → weighs ≡ frameOf plan 0 → Manned n (opened n weighs) (set (replicate 16 Idle) 0 (Holding 0)) p (start p)
   unfolding start
   first-manned e =
       let ok = g .given .planned .rules in
@@ -78,7 +85,7 @@ module _ {n actions : ℕ} {choices plan entering : List ℕ} {p : Plan} (g : Ru
         idlers = crewed-others (g .some) refl (λ u h. ap isIdle (others u));
       }
 
-  pub first-asking : (hi : ℕ) → Asking n hi 0 choices 0 (replicate 32 0) (start p)
+  first-asking : (hi : ℕ) → Asking n hi 0 choices 0 (replicate 32 0) (start p)
   unfolding start
   first-asking hi = record {
     pointed = sym (zero-mod (length choices));
@@ -96,7 +103,7 @@ module _ {n actions : ℕ} {choices plan entering : List ℕ} {p : Plan} (g : Ru
         ∙ array-at (λ a. enteringOf p (a .job) (a .position)) entering (placed p) noPlaced (total p) (g .given .entered) e (place p j i) b
         ∙ ap (λ a. enteringOf p (a .job) (a .position)) (placed-at p j i h k) ∙ sym (missing-start p j i)
 
-    pub first-done : {rows : List ℕ} → length rows ≡ 2048 → Done p progress rows (start p)
+    first-done : {rows : List ℕ} → length rows ≡ 2048 → Done p progress rows (start p)
     first-done long = record {
       progressed = record {
         long = s .long;
@@ -106,7 +113,7 @@ module _ {n actions : ℕ} {choices plan entering : List ℕ} {p : Plan} (g : Ru
       rowed = record { long = long; each = λ j i h k. absurd (omega (arith, none-done p j)) };
     }
 
-pub first-deques : (p : Plan) → Dequed (replicate 4128 0) (start p .deques)
+first-deques : (p : Plan) → Dequed (replicate 4128 0) (start p .deques)
 unfolding start
 first-deques p = record {
   sixteen = refl;
@@ -121,3 +128,23 @@ first-deques p = record {
 
     none : (w : ℕ) → lenAt (replicate 4128 0) w ≡ 0
     none w = zeros-at 4128 (4112 + w)
+
+pub in-few : {actions : ℕ} {plan entering : List ℕ} {q : Plan} → RunIn actions plan entering q → actions ≤ 2048
+in-few {q = q} g = omega (arith, g .all, total-range q (g .planned .rules))
+
+-- as a run begins; `weighs` is job 0's frame
+pub first-between : {m actions : ℕ} {choices plan entering rows : List ℕ} {q : Plan} → RunGiven m actions choices plan entering q
+    → length rows ≡ 2048 → {progress : List ℕ} → Started actions entering progress → {weighs : ℕ} → weighs ≡ frameOf plan 0
+    → Between (setting q m choices) 0 (opened m weighs) (set (replicate 16 Idle) 0 (Holding 0)) 0 (replicate 32 0) progress
+    (replicate 4128 0) rows
+unfolding run
+first-between {m} {choices = choices} {q = q} g long s e =
+    let fit : Fit (setting q m choices) = record { plan = g .given .planned .rules; some = g .some; most = g .most } in
+    record {
+      state = start q;
+      begun = record { on = not-ended fit begins; trace = begins; fuel = work q; left = refl; enough = omega arith };
+      manned = first-manned g e;
+      asking = first-asking g 16;
+      done = first-done g s long;
+      dequed = first-deques q;
+    }

@@ -1,6 +1,4 @@
 -- The first half of a round over the runner's objects: the turns of those who hold a job, with the idle turns as gaps between them.
---   in-few        == an accepted plan has at most 2,048 actions
---   first-between == the objects as they are made: no round is done
 --   begun-run     == the run as a round begins
 --   turns-begin   == .. and the objects
 --   between-early, turns-early == a round is one of at most 2,048
@@ -17,25 +15,25 @@ use mathlib.Core.List.{List}
 use native.Mathlib.Nat.{le-refl, zero-add, add-zero}
 use native.Mathlib.Numerals.{add-one}
 use native.Mathlib.Omega.{arith}
-use lib.ListN.{length, getD, set, replicate}
+use lib.ListN.{length, getD, set}
 use borrow.Author.Tests.{le-leb, lt-leb}
 use Rattle.plan.specs.Plan.{Plan, size}
-use Rattle.plan.specs.Sheet.{frameOf, firstOf}
-use Rattle.plan.proofs.Laws.Valid.{jobs-range, total-range}
+use Rattle.plan.specs.Sheet.{firstOf}
+use Rattle.plan.proofs.Laws.Valid.{jobs-range}
 use Rattle.plan.proofs.Laws.Laid.{laid-end}
 use Rattle.plan_measure.specs.Measure.{work}
 use Rattle.courses.specs.Ready.{weight}
 use Rattle.runs.specs.declared.worker.Worker.{Worker}
-use Rattle.runs.specs.declared.worker.Worker.the-variants.{Idle, Holding}
+use Rattle.runs.specs.declared.worker.Worker.the-variants.{Idle}
 use Rattle.runs.specs.Setting.{Setting, setting, countIn}
-use Rattle.runs.specs.State.{State, nextOf, start}
+use Rattle.runs.specs.State.{State, nextOf}
 use Rattle.runs.specs.Turn.{turnOf, turns}
 use Rattle.runs.specs.Steal.{lays}
 use Rattle.runs.specs.Run.{ended, rounds, run}
-use Rattle.runs.specs.Trace.{turning, begins}
+use Rattle.runs.specs.Trace.{turning}
 use Rattle.runs.proofs.Laws.Fit.{Fit}
 use Rattle.runs.proofs.Laws.Began.{trace-began}
-use Rattle.runs.proofs.Laws.Rounds.{rounds-known, numbered-late, not-ended}
+use Rattle.runs.proofs.Laws.Rounds.{rounds-known, numbered-late}
 use Rattle.runs.proofs.Laws.Coursed.{round-most}
 use Rattle.runs.proofs.Laws.Whole.{round-last, rounds-stop, rounds-on}
 use Rattle.crew.specs.Crew.{Lowest, Rest}
@@ -47,34 +45,13 @@ use Rattle.turns.specs.Progress.{doneOf}
 use Rattle.turns.specs.Moments.{InRun, Moment, Turning, TurnTaken}
 use Rattle.turns.proofs.Laws.Running.{run-fit, run-sound, run-counts, run-countable, run-restable, run-turns}
 use Rattle.rounds.specs.declared.account.Account.{Account}
-use Rattle.rounds.specs.Account.{opened, rested, Turnable, TurnNoted}
-use Rattle.rounds.specs.Rounds.{Started, RunIn, RunGiven, RunLeft}
+use Rattle.rounds.specs.Account.{rested, Turnable, TurnNoted}
+use Rattle.rounds.specs.Rounds.{RunLeft}
 use Rattle.rounds.proofs.Laws.Standing.{Fitted, Manned, Done, Begun, Between, InTurns, InLays, afterTurns}
 use Rattle.rounds.proofs.Laws.Halves.{turns-requests, done-kept}
 use Rattle.rounds.proofs.Laws.Idling.{Idled, turns-gap, turns-rest}
 use Rattle.rounds.proofs.Laws.Queues.{turns-queued}
-use Rattle.rounds.proofs.Laws.Beginning.{first-manned, first-asking, first-done, first-deques}
 use Rattle.rounds.proofs.Laws.Manning.{held-busy, manned-turned, manned-rested}
-
-pub in-few : {actions : ℕ} {plan entering : List ℕ} {q : Plan} → RunIn actions plan entering q → actions ≤ 2048
-in-few {q = q} g = omega (arith, g .all, total-range q (g .planned .rules))
-
--- as a run begins; `weighs` is job 0's frame
-pub first-between : {m actions : ℕ} {choices plan entering rows : List ℕ} {q : Plan} → RunGiven m actions choices plan entering q
-    → length rows ≡ 2048 → {progress : List ℕ} → Started actions entering progress → {weighs : ℕ} → weighs ≡ frameOf plan 0
-    → Between (setting q m choices) 0 (opened m weighs) (set (replicate 16 Idle) 0 (Holding 0)) 0 (replicate 32 0) progress
-    (replicate 4128 0) rows
-unfolding run
-first-between {m} {choices = choices} {q = q} g long s e =
-    let fit : Fit (setting q m choices) = record { plan = g .given .planned .rules; some = g .some; most = g .most } in
-    record {
-      state = start q;
-      begun = record { on = not-ended fit begins; trace = begins; fuel = work q; left = refl; enough = omega arith };
-      manned = first-manned g e;
-      asking = first-asking g 16;
-      done = first-done g s long;
-      dequed = first-deques q;
-    }
 
 module _ {S : Setting} {plan : List ℕ} (g : Fitted S plan) where
   abbrev n : ℕ
@@ -123,8 +100,8 @@ module _ {S : Setting} {plan : List ℕ} (g : Fitted S plan) where
       → Between S r a workers cursor lines progress deques rows → r < 2048
   between-early z = run-counts (begun-run (z .begun)) .0
 
-  module _ {r began left past : ℕ} {a : Account} {workers : List Worker} {cursor : ℕ} {lines progress deques rows : List ℕ}
-      (z : InTurns S r began left past a workers cursor lines progress deques rows) where
+  module _ {r idle left past : ℕ} {a : Account} {workers : List Worker} {cursor : ℕ} {lines progress deques rows : List ℕ}
+      (z : InTurns S r idle left past a workers cursor lines progress deques rows) where
     pub turns-early : r ≤ 2048
     turns-early = run-counts (begun-run (z .begun)) .0
 
@@ -199,7 +176,7 @@ module _ {S : Setting} {plan : List ℕ} (g : Fitted S plan) where
       pub turns-next : {after : Turned} {progress′ deques′ rows′ : List ℕ}
           → TurnTaken (getD workers w Idle) w after progress′ deques′ rows′ turns-moment
           → {a′ : Account} → TurnNoted a r w (w - past) (after .worker) (after .weight) a′ → {left′ : ℕ} → Rest left left′
-          → InTurns S r began left′ (w + 1) a′ (set workers w (after .worker)) cursor lines progress′ deques′ rows′
+          → InTurns S r idle left′ (w + 1) a′ (set workers w (after .worker)) cursor lines progress′ deques′ rows′
       turns-next t e l =
           let (ahead, k, h) = turns-known in
           let long : w < length (at past .workers) = omega (arith, run-sound run-now .workers) in
@@ -255,7 +232,7 @@ module _ {S : Setting} {plan : List ℕ} (g : Fitted S plan) where
           record { counts = rw last (all-manned .counts); rowed = rw last (all-done .rowed) }
 
       pub turns-lays : doneOf progress 0 ≢ firstOf plan 1
-          → InLays S r began (rested a r (n - past)) workers cursor lines progress deques rows
+          → InLays S r idle (rested a r (n - past)) workers cursor lines progress deques rows
       unfolding lays
       turns-lays e =
           let (d, f, l) = last-place in

@@ -134,13 +134,13 @@ module _ (S : Setting) where
   abbrev pub half : ℕ → State → State
   half r s = afterTurns r n s
 
-  -- `began` is the set of those who were idle as round r began; the workers below `past` have had their turns, and `left` is the set
+  -- `idle` is the set of those who were idle as round r began; the workers below `past` have had their turns, and `left` is the set
   -- of those of the others who held a job as it began
-  pub record InTurns (r began left past : ℕ) (a : Account) (workers : List Worker) (cursor : ℕ) (lines progress deques rows : List ℕ)
+  pub record InTurns (r idle left past : ℕ) (a : Account) (workers : List Worker) (cursor : ℕ) (lines progress deques rows : List ℕ)
       : Type 0 where
     pub state : State
     pub begun : Begun S r state
-    pub were-idle : Crewed (idleIn (state .workers)) n began
+    pub were-idle : Crewed (idleIn (state .workers)) n idle
     pub ahead : past ≤ n
     pub walk : Left (holdingIn (state .workers)) n past left
     pub manned : Manned n a workers p (afterTurns r past state)

@@ -99,6 +99,6 @@ module _ {v : ℕ} {lines lines′ : List ℕ} (long : length lines ≡ 32) (bes
       (λ f. List·getD-eq-default lines′ 0 {n = 16 + u} (omega (arith, f, beside .long))
       ∙ sym (List·getD-eq-default lines 0 {n = 16 + u} (omega (arith, f))))
 
-  pub asked-marked : {n victims asked′ : ℕ} {b : Bool} → Crewed (askedIn lines) n victims → v < n → Marked v b victims asked′
-      → ltb 0 (waitingAt lines′ v) ≡ b → Crewed (askedIn lines′) n asked′
+  pub asked-marked : {n victims victims′ : ℕ} {b : Bool} → Crewed (askedIn lines) n victims → v < n → Marked v b victims victims′
+      → ltb 0 (waitingAt lines′ v) ≡ b → Crewed (askedIn lines′) n victims′
   asked-marked q h m e = crewed-at q m h e (λ u d. ap (ltb 0) (lens-kept u d))

@@ -28,7 +28,7 @@ use Rattle.runs.specs.Run.{run, workersFit, choicesFit, admitted, runOf}
 use Rattle.courses.specs.Schedule.{scheduleBytes}
 use Rattle.scheduler.specs.Entry.{Result, resulted, runInto, ranOf, Claimed}
 use Rattle.rounds.specs.Rounds.{RunGiven, RunLeft}
-use Rattle.rounds.proofs.Laws.FirstHalf.{in-few}
+use Rattle.rounds.proofs.Laws.Beginning.{in-few}
 use Rattle.scheduler.specs.RunRead.{RunIn, Answered}
 use Rattle.scheduler.specs.Written.{headerBytes, Words, RowsWritten}
 use Rattle.runs.proofs.Laws.Fit.{Fit}

@@ -6,7 +6,8 @@ use mathlib.Core.Path.{refl, sym, _∙_}
 use native.Mathlib.Omega.{arith}
 use borrow.Author.Needs.{needs}
 use Rattle.rounds.proofs.Laws.Standing.{fitted, Throughout, one-of, go-on, Between, InTurns, InLays, InServes}
-use Rattle.rounds.proofs.Laws.FirstHalf.{in-few, first-between, between-early, turns-begin, turns-early, turns-known}
+use Rattle.rounds.proofs.Laws.Beginning.{in-few, first-between}
+use Rattle.rounds.proofs.Laws.FirstHalf.{between-early, turns-begin, turns-early, turns-known}
 use Rattle.rounds.proofs.Laws.FirstHalf.{turns-turning, turns-notable, turns-next, turns-restable, turns-over, turns-lays}
 use Rattle.rounds.proofs.Laws.SecondHalf.{lays-known, lays-lining, lays-countable, lays-next, lays-serves}
 use Rattle.rounds.proofs.Laws.SecondHalf.{serves-serving, serves-dequed, serves-next, serves-round}

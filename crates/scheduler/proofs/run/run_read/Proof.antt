@@ -4,7 +4,7 @@ use mathlib.Core.Bool.{true}
 use native.Mathlib.Omega.{arith}
 use borrow.Author.Tests.{not-true, not-false}
 use Rattle.runs.specs.Run.{choicesFit}
-use Rattle.rounds.proofs.Laws.FirstHalf.{in-few}
+use Rattle.rounds.proofs.Laws.Beginning.{in-few}
 use Rattle.scheduler.proofs.Laws.RunAnswers.{refuses-workers, refuses-choices, refuses-short, run-asked, rows-asked, run-answers}
 use borrow.Author.Needs.{needs}
 use Rattle.scheduler.proofs.run.run_read.Statement.{statement}
