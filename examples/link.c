@@ -19,8 +19,8 @@ int main(void) {
     }
     printf("rounds %u\nactions %u\nlongest %u\npath %u\npeak %u\n", (unsigned)t.rounds, (unsigned)t.actions,
            (unsigned)m.longest, (unsigned)m.path, (unsigned)t.peak);
-    printf("idle %u\nrequests %u\nsteals %u\nmisses %u\n", (unsigned)t.idle, (unsigned)t.requests, (unsigned)t.steals,
-           (unsigned)t.misses);
+    printf("idle %u\nrequests %u\nsteals %u\nbare %u\nidle-victim %u\n", (unsigned)t.idle, (unsigned)t.requests,
+           (unsigned)t.steals, (unsigned)t.bare, (unsigned)t.idle_victim);
     for (uint32_t k = 0; k < t.actions; k++) {
         const uint8_t *row = schedule + 4 + 2 * k;
         printf("action %u: round %d, worker %d\n", (unsigned)k, row[0] * 16 + row[1] / 16, row[1] % 16);

@@ -79,13 +79,14 @@ typedef struct {
    and peak is path. */
 typedef struct {
     uint32_t refused;
-    uint32_t rounds;   /* the last round */
-    uint32_t actions;  /* actions done, all of the plan's */
-    uint32_t idle;     /* turns of workers that held nothing when the round began: workers x rounds - actions */
-    uint32_t requests; /* requests laid by workers that hold nothing */
-    uint32_t steals;   /* requests answered with a job */
-    uint32_t misses;   /* requests answered with none */
-    uint32_t peak;     /* the largest weight of living frames at the start or after any turn, in units of 64 KiB */
+    uint32_t rounds;      /* the last round */
+    uint32_t actions;     /* actions done, all of the plan's */
+    uint32_t idle;        /* turns of workers that held nothing when the round began: workers x rounds - actions */
+    uint32_t requests;    /* requests laid by workers that hold nothing */
+    uint32_t steals;      /* requests answered with a job */
+    uint32_t bare;        /* misses, requests answered with none, whose victim held a job as it answered */
+    uint32_t idle_victim; /* misses whose victim held none */
+    uint32_t peak;        /* the largest weight of living frames at the start or after any turn, in units of 64 KiB */
 } dw_tally;
 
 /* Writes the open table of a plan. `plan` is the whole plan and nothing more. The table has one row an action, in job

@@ -1,6 +1,6 @@
-//! A second runner, written from document 01 alone, and inputs of `buildrun` with what they must give. It also carries out each
-//! tempting error of document 01 and sees to it that some case tells it apart.
-use crate::plans::{e, f, input, join, one, plan, Job};
+//! A second runner, written from documents 01 and 02 alone, and inputs of `buildrun` with what they must give. It also carries out each
+//! tempting error and sees to it that some case tells it apart.
+use crate::plans::{chain, e, f, input, join, one, plan, Job};
 use crate::Cases;
 
 /// An action: the child's number plus 1 or 0, the join's target plus 1 or 0.
@@ -32,9 +32,12 @@ enum Slip {
     LowestWorkerFirst,
     RequestsCountedByWorker,
     LaysAtOnce,
+    MissesSwapped,
+    BareAsTheRoundBegan,
+    BareAsTheServicesBegan,
 }
 
-const SLIPS: [Slip; 9] = [
+const SLIPS: [Slip; 12] = [
     Slip::PeakOnceARound,
     Slip::StealsTheBottom,
     Slip::ActsInTheRoundOfItsSteal,
@@ -44,6 +47,9 @@ const SLIPS: [Slip; 9] = [
     Slip::LowestWorkerFirst,
     Slip::RequestsCountedByWorker,
     Slip::LaysAtOnce,
+    Slip::MissesSwapped,
+    Slip::BareAsTheRoundBegan,
+    Slip::BareAsTheServicesBegan,
 ];
 
 #[derive(Default, Clone, PartialEq, Debug)]
@@ -53,7 +59,8 @@ struct Tally {
     idle: usize,
     requests: usize,
     steals: usize,
-    misses: usize,
+    bare: usize,
+    idle_victim: usize,
     peak: u32,
 }
 
@@ -238,6 +245,7 @@ impl Plan {
                 }
             }
             let mut stolen = vec![];
+            let asked = s.workers.clone();
             for v in 0..n {
                 let waiting = (0..n).filter_map(|w| match s.workers[w] {
                     Worker::Waiting(u, laid) if u == v => Some((laid, w)),
@@ -259,8 +267,18 @@ impl Plan {
                         stolen.push((w, j));
                     }
                     None => {
+                        let victim = match slip {
+                            Slip::BareAsTheRoundBegan => began[v],
+                            Slip::BareAsTheServicesBegan => asked[v],
+                            _ => s.workers[v],
+                        };
+                        let holds = matches!(victim, Worker::Holding(_));
+                        if holds != (slip == Slip::MissesSwapped) {
+                            s.t.bare += 1;
+                        } else {
+                            s.t.idle_victim += 1;
+                        }
                         s.workers[w] = Worker::Idle;
-                        s.t.misses += 1;
                     }
                 }
             }
@@ -355,7 +373,7 @@ impl Run {
     fn answer(&self) -> String {
         let t = self.tally(Slip::None);
         format!(
-            "rounds {} actions {} longest {} path {} peak {} idle {} requests {} steals {} misses {}",
+            "rounds {} actions {} longest {} path {} peak {} idle {} requests {} steals {} bare {} idle-victim {}",
             t.rounds,
             t.actions,
             self.plan.longest(),
@@ -364,7 +382,8 @@ impl Run {
             t.idle,
             t.requests,
             t.steals,
-            t.misses
+            t.bare,
+            t.idle_victim
         )
     }
 }
@@ -378,6 +397,23 @@ fn papers() -> Vec<Run> {
         Run::new("case_4", &e(), 2, &[0, 1]),
         Run::new("case_5", &f(), 2, &[0]),
         Run::new("case_6", &f(), 3, &[0]),
+    ]
+}
+
+/// Where the kind of a miss is easy to mistake (document 02, L2): in the first, worker 0 loses its job in round 2 and then serves; in the
+/// second, worker 1 is given job 0 in round 1 and then serves, and is asked again in round 2; in the third, worker 1 asks itself in
+/// rounds 1, 2 and 3.
+fn kinds_of_miss() -> Vec<Run> {
+    let case = |name: &str, workers: usize, choices: &[u8], kinds: (usize, usize)| {
+        let run = Run::new(name, &chain(2), workers, choices);
+        let t = run.tally(Slip::None);
+        assert_eq!((t.bare, t.idle_victim), kinds, "{name}");
+        run
+    };
+    vec![
+        case("victim_lost_its_job", 3, &[0], (0, 1)),
+        case("victim_was_given_a_job", 3, &[0, 1, 1], (2, 0)),
+        case("worker_asks_itself", 2, &[1], (0, 3)),
     ]
 }
 
@@ -421,6 +457,7 @@ fn refusals(c: &mut Cases) {
 
 pub fn all(c: &mut Cases) {
     let mut runs = papers();
+    runs.extend(kinds_of_miss());
     runs.extend(drawn());
     for slip in SLIPS {
         let told = runs.iter().filter(|run| run.tally(slip) != run.tally(Slip::None)).count();

@@ -94,7 +94,7 @@ impl Facts {
             }
         }
         let rounds = u32::from(turns[turns.len() - 1].0 >> 4);
-        let waiting = tally.requests as i64 - tally.steals as i64 - tally.misses as i64;
+        let waiting = tally.requests as i64 - tally.steals as i64 - tally.bare as i64 - tally.idle_victim as i64;
         [
             (
                 rows.iter()

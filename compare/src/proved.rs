@@ -25,7 +25,8 @@ struct RawTally {
     idle: u32,
     requests: u32,
     steals: u32,
-    misses: u32,
+    bare: u32,
+    idle_victim: u32,
     peak: u32,
 }
 
@@ -115,7 +116,8 @@ pub fn run(plan: &[u8], workers: u32, choices: &[u8], schedule: &mut [u8]) -> Re
             idle: raw.idle,
             requests: raw.requests,
             steals: raw.steals,
-            misses: raw.misses,
+            bare: raw.bare,
+            idle_victim: raw.idle_victim,
             peak: raw.peak,
         },
         Tally::default(),

@@ -20,7 +20,8 @@ pub struct Counts {
     pub idle: u32,
     pub requests: u32,
     pub steals: u32,
-    pub misses: u32,
+    pub bare: u32,
+    pub idle_victim: u32,
 }
 
 impl Counts {
@@ -35,12 +36,13 @@ impl Counts {
             idle: tally.idle,
             requests: tally.requests,
             steals: tally.steals,
-            misses: tally.misses,
+            bare: tally.bare,
+            idle_victim: tally.idle_victim,
         }
     }
 
     /// Names and values, in the printed order.
-    pub fn named(&self) -> [(&'static str, u32); 9] {
+    pub fn named(&self) -> [(&'static str, u32); 10] {
         [
             ("rounds", self.rounds),
             ("actions", self.actions),
@@ -50,7 +52,8 @@ impl Counts {
             ("idle", self.idle),
             ("requests", self.requests),
             ("steals", self.steals),
-            ("misses", self.misses),
+            ("bare", self.bare),
+            ("idle-victim", self.idle_victim),
         ]
     }
 }

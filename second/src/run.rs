@@ -19,8 +19,10 @@ pub struct Tally {
     pub requests: u32,
     /// Requests that got a job.
     pub steals: u32,
-    /// Requests that got none.
-    pub misses: u32,
+    /// Requests that got none, from a victim that held a job right then.
+    pub bare: u32,
+    /// Requests that got none, from a victim that held none.
+    pub idle_victim: u32,
     /// The largest weight of living frames at the start or after a turn.
     pub peak: u32,
 }
@@ -73,6 +75,10 @@ impl Crew {
 
     fn without(&mut self, worker: usize) {
         self.0 &= !(1 << worker);
+    }
+
+    fn has(self, worker: usize) -> bool {
+        self.0 >> worker & 1 == 1
     }
 
     fn len(self) -> u32 {
@@ -295,7 +301,9 @@ impl<'a> State<'a> {
                 self.holding.with(worker);
             }
             None => {
-                self.tally.misses += 1;
+                let bare = u32::from(self.holding.has(victim));
+                self.tally.bare += bare;
+                self.tally.idle_victim += 1 - bare;
                 self.idle.with(worker);
             }
         }

@@ -1,4 +1,4 @@
-//! The twelve starred cases.
+//! The twelve starred cases, and misses by their kind.
 
 use second::{build, check, measure, plan_to_table, run, table_to_plan, Measures, Tally};
 
@@ -48,6 +48,11 @@ fn tally_of(plan: &[u8], workers: u32, choices: &[u8]) -> Result<Tally, u32> {
     run(plan, workers, choices, &mut [0; 64])
 }
 
+/// Both kinds together, as the starred cases give them.
+fn misses(tally: &Tally) -> u32 {
+    tally.bare + tally.idle_victim
+}
+
 const CASE_4_ROWS: [(u16, u16); 8] = [
     (1, 0),
     (2, 1),
@@ -85,19 +90,9 @@ fn case_3() {
 #[test]
 fn case_4() {
     let mut schedule = [0xA5; 24];
-    let tally = run(&E, 2, &[0, 1], &mut schedule).unwrap();
-    assert_eq!(
-        tally,
-        Tally {
-            rounds: 6,
-            actions: 8,
-            idle: 4,
-            requests: 3,
-            steals: 1,
-            misses: 2,
-            peak: 7
-        }
-    );
+    let t = run(&E, 2, &[0, 1], &mut schedule).unwrap();
+    assert_eq!((t.rounds, t.actions, t.idle, t.peak), (6, 8, 4, 7));
+    assert_eq!((t.requests, t.steals, misses(&t)), (3, 1, 2));
     assert_eq!(schedule[..20], CASE_4);
     assert_eq!(schedule[20..], [0xA5; 4]);
     let rows: Vec<(u16, u16)> = schedule[4..20]
@@ -114,7 +109,8 @@ fn case_4_printed() {
     let input = [&[2, 0, 2, 0, 1], &E[..]].concat();
     assert_eq!(
         build(&input).unwrap().to_string(),
-        "rounds 6\nactions 8\nlongest 5\npath 7\npeak 7\nidle 4\nrequests 3\nsteals 1\nmisses 2\n"
+        "rounds 6\nactions 8\nlongest 5\npath 7\npeak 7\nidle 4\nrequests 3\nsteals 1\n\
+         bare 1\nidle-victim 1\n"
     );
 }
 
@@ -122,7 +118,7 @@ fn case_4_printed() {
 fn case_5() {
     let t = tally_of(&plan_of(&F_ROWS), 2, &[0]).unwrap();
     assert_eq!(
-        (t.rounds, t.idle, t.requests, t.steals, t.misses),
+        (t.rounds, t.idle, t.requests, t.steals, misses(&t)),
         (6, 5, 4, 1, 3)
     );
 }
@@ -131,7 +127,7 @@ fn case_5() {
 fn case_6() {
     let t = tally_of(&plan_of(&F_ROWS), 3, &[0]).unwrap();
     assert_eq!(
-        (t.rounds, t.idle, t.requests, t.steals, t.misses),
+        (t.rounds, t.idle, t.requests, t.steals, misses(&t)),
         (6, 11, 6, 1, 4)
     );
 }
@@ -190,5 +186,133 @@ fn measures_of_e() {
             longest: 5,
             path: 7
         })
+    );
+}
+
+/// Worker 1 takes job 0 in round 1, and does 0.1 and 0.2 in rounds 2 and 3;
+/// worker 0 does 1.0 and 1.1 then, and holds nothing. Job 2, spawned by 0.2,
+/// ends in round 4, and worker 1 takes job 0 again: the request that worker 0
+/// lays on it then is bare. The next one it lays on itself, in round 5.
+#[test]
+fn kinds_in_case_4() {
+    let t = tally_of(&E, 2, &[0, 1]).unwrap();
+    assert_eq!((t.bare, t.idle_victim), (1, 1));
+}
+
+/// Worker 0, whom all ask, holds job 1 up to round 5 and then job 0, which it
+/// enables itself.
+#[test]
+fn kinds_in_cases_5_and_6() {
+    let t = tally_of(&plan_of(&F_ROWS), 2, &[0]).unwrap();
+    assert_eq!((t.bare, t.idle_victim), (3, 0));
+    let t = tally_of(&plan_of(&F_ROWS), 3, &[0]).unwrap();
+    assert_eq!((t.bare, t.idle_victim), (4, 0));
+}
+
+/// Job 0 spawns job 1 at 0 and waits for its only action at 2.
+const G_ROWS: [u16; 16] = [
+    0, 1, 2, 0, //
+    0, 1, 0, 0, //
+    0, 1, 0, 0, //
+    1, 1, 0, 3, //
+];
+
+/// Round 1: worker 0 spawns. Worker 1 asks worker 0, worker 2 asks worker 1.
+/// Worker 0 serves first and gives job 0 to worker 1, which so holds a job
+/// when it serves worker 2: bare. Round 2: worker 1 does 0.1 and keeps job 0,
+/// since 1.0 came before; worker 2 asks it again: bare. Round 3: 0.2.
+#[test]
+fn a_victim_given_a_job_in_this_half_is_bare() {
+    let tally = tally_of(&plan_of(&G_ROWS), 3, &[0, 1, 1]).unwrap();
+    assert_eq!(
+        tally,
+        Tally {
+            rounds: 3,
+            actions: 4,
+            idle: 5,
+            requests: 3,
+            steals: 1,
+            bare: 2,
+            idle_victim: 0,
+            peak: 2
+        }
+    );
+}
+
+/// Round 1: workers 1 and 2 ask worker 0, which gives job 0 to worker 1; the
+/// other request waits. Round 2: worker 0 does 1.0, job 1 ends, and its deque
+/// is empty. It held a job when the request was laid and when the round began,
+/// but holds none as it serves: idle-victim. Round 3: worker 1 does 0.2.
+#[test]
+fn a_victim_that_lost_its_job_in_this_round_is_idle() {
+    let tally = tally_of(&plan_of(&G_ROWS), 3, &[0]).unwrap();
+    assert_eq!(
+        tally,
+        Tally {
+            rounds: 3,
+            actions: 4,
+            idle: 5,
+            requests: 2,
+            steals: 1,
+            bare: 0,
+            idle_victim: 1,
+            peak: 2
+        }
+    );
+}
+
+/// Worker 0 does 0.0, 1.0, 0.1 and 0.2, one a round. In each round but the
+/// last worker 1 asks itself.
+#[test]
+fn a_worker_that_asks_itself_finds_an_idle_victim() {
+    let tally = tally_of(&plan_of(&G_ROWS), 2, &[1]).unwrap();
+    assert_eq!(
+        tally,
+        Tally {
+            rounds: 4,
+            actions: 4,
+            idle: 4,
+            requests: 3,
+            steals: 0,
+            bare: 0,
+            idle_victim: 3,
+            peak: 2
+        }
+    );
+}
+
+/// Job 0 spawns job 1 at 0 and job 2 at 1, and waits for both at 3.
+const H_ROWS: [u16; 28] = [
+    0, 1, 2, 0, //
+    0, 1, 3, 0, //
+    0, 1, 0, 0, //
+    0, 1, 0, 0, //
+    1, 1, 0, 4, //
+    2, 1, 0, 0, //
+    2, 1, 0, 4, //
+];
+
+/// Round 1: workers 1 and 2 ask worker 0, which gives job 0 to worker 1.
+/// Round 2: job 1 ends and leaves worker 0 with none: worker 2's request, which
+/// waited, finds an idle victim. Worker 1 does 0.1, holds job 2 and has job 0
+/// on its deque. Round 3: worker 1 does 2.0. Worker 0 asks worker 1, worker 2
+/// asks worker 0. Worker 0 serves first and still holds nothing: idle-victim.
+/// Then worker 1 gives it job 0. Round 4: 0.2 stalls job 0; 2.1 enables it and
+/// ends job 2, so worker 1 takes it. Worker 2 asks worker 1: bare. Round 5: 0.3.
+#[test]
+fn a_victim_given_a_job_later_in_this_half_is_idle() {
+    let tally = tally_of(&plan_of(&H_ROWS), 3, &[0, 0, 1, 0, 1]).unwrap();
+    assert_eq!(
+        tally,
+        Tally {
+            rounds: 5,
+            actions: 7,
+            idle: 8,
+            requests: 5,
+            steals: 2,
+            bare: 1,
+            idle_victim: 2,
+            peak: 2
+        }
     );
 }

@@ -1,11 +1,11 @@
 -- What `buildrun` prints (document 01, "Cases"): "reads P (one byte), the choice count (two bytes, high first), the choices,
 -- and the plan that begins in the middle of its input".
---   ranWith plan n choices  == the nine counts of a run, or the refusal: 1 to 6, then 7, 8
+--   ranWith plan n choices  == the ten counts of a run, or the refusal: 1 to 6, then 7, 8
 --   buildOf input           == "Before the plan is looked at, in this order: P or the count missing prints `refused 1`, a count
 --                              above 4,096 `refused 8` even if choices are missing too, missing choices `refused 1`."
 --   builtOf r               == the outcome that an answer stands for
 --   planIn, choicesIn input == the plan and the choices of an input
---   CountBounds S c         == demand 3's claim, as far as counts can tell, and the two sums, of the run of S
+--   CountBounds S c         == demand 3's claim, as far as counts can tell, and the sums, of the run of S
 --   Claimed input r         == so it is of the counts that were answered
 use Prim.Native.Nat.{ℕ, _+_, _*_, _≤_}
 use mathlib.Core.Path.{_≡_}
@@ -24,6 +24,7 @@ use Rattle.runs.specs.State.{State, nextOf}
 use Rattle.runs.specs.Setting.{Setting, setting}
 use Rattle.runs.specs.Steal.{waiting}
 use Rattle.runs.specs.Run.{run, runOf}
+use Rattle.runs.specs.Misses.{misses}
 
 unfoldable pub countsOf : Outcome Plan → Outcome State → Outcome Counts
 unfolding longest heaviest
@@ -40,7 +41,8 @@ countsOf (accepted p) (accepted s) =
       idle = t .idle;
       requests = t .requests;
       steals = t .steals;
-      misses = t .misses;
+      bare = t .bare;
+      «idle_victim» = t .«idle_victim»;
     })
 
 unfoldable pub ranWith : List ℕ → ℕ → List ℕ → Outcome Counts
@@ -93,9 +95,11 @@ module _ (S : Setting) where
     -- with one worker the peak is S1 and the rounds are T1
     pub lone-peak : workers ≡ 1 → c .peak ≡ c .path
     pub lone-rounds : workers ≡ 1 → c .rounds ≡ c .actions
-    -- "P × rounds = actions + idle turns", "requests = steals + misses + requests still waiting"
+    -- "P × rounds = actions + idle turns", "requests = steals + misses + requests still waiting"; of the two kinds of miss "Their sum
+    -- is the old count."
     pub turns : workers * c .rounds ≡ c .actions + c .idle
-    pub requests : c .requests ≡ c .steals + c .misses + waiting workers (run S .workers)
+    pub requests : c .requests ≡ c .steals + c .bare + c .«idle_victim» + waiting workers (run S .workers)
+    pub misses-split : c .bare + c .«idle_victim» ≡ misses S
 
 -- where counts are answered, the plan was accepted, and the claim holds of them
 abbrev pub Claimed : List ℕ → Built → Type 0

@@ -14,7 +14,7 @@ use plan_measure::measure_read;
 use scheduler::run::Ran;
 use scheduler::run::run_read;
 
-// The nine counts that are printed.
+// The ten counts that are printed.
 pub struct Counts {
     pub rounds: u32,
     pub actions: u32,
@@ -24,7 +24,8 @@ pub struct Counts {
     pub idle: u32,
     pub requests: u32,
     pub steals: u32,
-    pub misses: u32,
+    pub bare: u32,
+    pub idle_victim: u32,
 }
 
 pub enum Built {
@@ -58,7 +59,8 @@ fn build_read(
                 idle: t.idle,
                 requests: t.requests,
                 steals: t.steals,
-                misses: t.misses,
+                bare: t.bare,
+                idle_victim: t.idle_victim,
             })
         }
     }

@@ -27,7 +27,8 @@ fn counts(c: Counts) {
     line(b"idle", c.idle);
     line(b"requests", c.requests);
     line(b"steals", c.steals);
-    line(b"misses", c.misses);
+    line(b"bare", c.bare);
+    line(b"idle-victim", c.idle_victim);
 }
 
 fn line(name: &[u8], value: u32) {

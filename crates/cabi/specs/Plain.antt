@@ -1,7 +1,7 @@
 -- What the exported functions answer, as plain numbers: the refusal's number, 0 for none, then what was asked for, or 0s.
 --   countOf, measuresOf, tallyOf      == the numbers of an outcome
 --   checkOf                           == the number of a judgement
---   Claimed plan n choices r schedule == demand 3's claim and the two sums, of what was returned and written
+--   Claimed plan n choices r schedule == demand 3's claim and the sums, of what was returned and written
 use Prim.Native.Nat.{ℕ}
 use mathlib.Core.Path.{_≡_}
 use mathlib.Core.List.{List}
@@ -25,7 +25,7 @@ measuresOf (refused k) = record { refused = k; actions = 0; longest = 0; path = 
 measuresOf (accepted m) = record { refused = 0; actions = m .actions; longest = m .longest; path = m .path }
 
 abbrev pub tallyOf : Outcome Tally → DwTally
-tallyOf (refused k) = record { refused = k; rounds = 0; actions = 0; idle = 0; requests = 0; steals = 0; misses = 0; peak = 0 }
+tallyOf (refused k) = record { refused = k; rounds = 0; actions = 0; idle = 0; requests = 0; steals = 0; bare = 0; «idle_victim» = 0; peak = 0 }
 tallyOf (accepted t) =
     record {
       refused = 0;
@@ -34,7 +34,8 @@ tallyOf (accepted t) =
       idle = t .idle;
       requests = t .requests;
       steals = t .steals;
-      misses = t .misses;
+      bare = t .bare;
+      «idle_victim» = t .«idle_victim»;
       peak = t .peak;
     }
 

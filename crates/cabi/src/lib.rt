@@ -42,7 +42,8 @@ pub struct DwTally {
     pub idle: u32,
     pub requests: u32,
     pub steals: u32,
-    pub misses: u32,
+    pub bare: u32,
+    pub idle_victim: u32,
     pub peak: u32,
 }
 
@@ -120,7 +121,8 @@ pub extern "C" fn dw_run(plan: &[u8], workers: u32, choices: &[u8], schedule: &m
             idle: 0,
             requests: 0,
             steals: 0,
-            misses: 0,
+            bare: 0,
+            idle_victim: 0,
             peak: 0,
         },
         Ran::Done(t) => DwTally {
@@ -130,7 +132,8 @@ pub extern "C" fn dw_run(plan: &[u8], workers: u32, choices: &[u8], schedule: &m
             idle: t.idle,
             requests: t.requests,
             steals: t.steals,
-            misses: t.misses,
+            bare: t.bare,
+            idle_victim: t.idle_victim,
             peak: t.peak,
         },
     }

@@ -21,5 +21,6 @@ fn counts(c: Counts) {
     count(b" idle ", c.idle);
     count(b" requests ", c.requests);
     count(b" steals ", c.steals);
-    count(b" misses ", c.misses);
+    count(b" bare ", c.bare);
+    count(b" idle-victim ", c.idle_victim);
 }

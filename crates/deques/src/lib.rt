@@ -2,10 +2,13 @@
 // jobs each has. A deque has its top job first and its bottom job last.
 ghost use mathlib.Core.Path.{_≡_};
 ghost use Prim.Native.Nat.{_+_, _*_, _<_};
+ghost use mathlib.Core.List.{[]};
 ghost use lib.ListN.{set};
 ghost use Rattle.plan.specs.Contract.{Some, _⇒_, before, after};
+ghost use Rattle.runs.specs.Steal.{takeTop};
 ghost use Rattle.deques.specs.Dequed.{topAt, lenAt, jobAt, Dequed, Pushing, Pushed, TookBottom, TookTop};
 use numbers::wide8;
+use runs::taken::Taken;
 use runs::worker::Worker;
 
 pub type Deques = [u8; 4128];
@@ -91,18 +94,29 @@ pub fn take_bottom(deques: &mut Deques, w: usize) -> Worker
     Worker::Holding(j)
 }
 
-// Takes the top job of deque v: the worker that then holds it, or has none.
-pub fn take_top(deques: &mut Deques, v: usize) -> Worker
+// Which miss it is where the victim's deque is empty.
+fn miss_of(victim: Worker) -> Taken
+    ensures { λ r. ⌜ r ≡ takeTop [] victim ⌝ }
+{
+    match victim {
+        Worker::Holding(_) => Taken::Bare,
+        Worker::Idle => Taken::IdleVictim,
+        Worker::Waiting { victim: _, laid: _ } => Taken::IdleVictim,
+    }
+}
+
+// Takes the top of deque v, which is that of the victim as it stands now: its top job, or which of the two misses it is.
+pub fn take_top(deques: &mut Deques, v: usize, victim: Worker) -> Taken
     requires { ⌜ Some (Dequed (now deques)) × (v < 16) ⌝ }
-    ensures { λ r. ⌜ Dequed (before deques) ⇒ TookTop v r (after deques) ⌝ }
+    ensures { λ r. ⌜ Dequed (before deques) ⇒ TookTop v victim r (after deques) ⌝ }
 {
     let n = len_of(deques, v);
     if n == 0 {
-        return Worker::Idle;
+        return miss_of(victim);
     }
     let at = top_of(deques, v);
     let j = job_at(deques, v, at);
     set_top(deques, v, at + 1);
     set_len(deques, v, n - 1);
-    Worker::Holding(j)
+    Taken::Job(j)
 }

@@ -3,9 +3,8 @@
 --   rested a r turns    == the account a after so many idle turns of round r, one of whose turns has been taken
 --   Turnable, TurnNoted == worker w is about to be noted after its turn in round r, and `gap` idle turns before it; a′ has noted it
 --   Layable, LayNoted   == the same of a request of worker w at victim v
---   Servable, ServiceNoted == the same of a service of victim v, which gave worker w what it now has and has so many requests left
+--   Servable, ServiceNoted == the same of a service of victim v, which gave worker w what was taken and has so many requests left
 --   Serving a v lines q == .. of the oldest request of the line q at victim v
---   serviceCounted x t  == the counts t after a service that left its worker as x
 use Prim.Native.Nat.{ℕ, _-_, _^_, _≤_, _<_}
 use mathlib.Core.Path.{_≡_}
 use mathlib.Core.Bool.{true, false}
@@ -14,10 +13,10 @@ use lib.Dec.{ltb}
 use lib.ListN.{getD}
 use Rattle.crew.specs.Crew.{member, Marked}
 use Rattle.crew.specs.Line.{Leaving}
-use Rattle.runs.specs.declared.tally.Tally.{Tally}
+use Rattle.runs.specs.declared.taken.Taken.{Taken}
 use Rattle.runs.specs.declared.worker.Worker.{Worker}
-use Rattle.runs.specs.declared.worker.Worker.the-variants.{Idle, Holding, Waiting}
-use Rattle.runs.specs.Tally.{noCounts, withAction, withRequest, withSteal, withMiss}
+use Rattle.runs.specs.Tally.{noCounts, withAction, withRequest}
+use Rattle.runs.specs.Steal.{thief, withService}
 use Rattle.turns.specs.Worker.{holds, isIdle}
 use Rattle.turns.specs.Count.{Countable, Restable, withIdles}
 use Rattle.rounds.specs.declared.account.Account.{Account}
@@ -73,14 +72,9 @@ pub record Serving (a : Account) (v : ℕ) (lines q : List ℕ) : Type 0 where
   pub leaving : Leaving v 0 lines q
   pub servable : Servable a v (getD q 0 0)
 
-abbrev pub serviceCounted : Worker → Tally → Tally
-serviceCounted Idle t = withMiss t
-serviceCounted (Holding j) t = withSteal t
-serviceCounted (Waiting v l) t = withMiss t
-
-pub record ServiceNoted (a : Account) (v left w : ℕ) (x : Worker) (a′ : Account) : Type 0 where
+pub record ServiceNoted (a : Account) (v left w : ℕ) (x : Taken) (a′ : Account) : Type 0 where
   pub weighed : a′ .weight ≡ a .weight
-  pub counts : a′ .tally ≡ serviceCounted x (a .tally)
-  pub holders : Marked w (holds x) (a .holders) (a′ .holders)
-  pub idlers : Marked w (isIdle x) (a .idlers) (a′ .idlers)
+  pub counts : a′ .tally ≡ withService (a .tally) x
+  pub holders : Marked w (holds (thief x)) (a .holders) (a′ .holders)
+  pub idlers : Marked w (isIdle (thief x)) (a .idlers) (a′ .idlers)
   pub victims : Marked v (ltb 0 left) (a .victims) (a′ .victims)

@@ -12,12 +12,14 @@ use crew::set::others;
 use crew::set::with;
 use crew::set::without;
 use numbers::units;
+use runs::taken::Taken;
 use runs::tally::Tally;
 use runs::worker::Worker;
 use turns::count::acted;
 use turns::count::idled;
 use turns::count::no_counts;
-use turns::count::with_miss;
+use turns::count::with_bare;
+use turns::count::with_idle_victim;
 use turns::count::with_request;
 use turns::count::with_steal;
 
@@ -121,33 +123,33 @@ fn still_asked(victims: u32, v: usize, left: u64) -> u32
     victims
 }
 
-// After victim v served worker w, which stands as given now; so many requests are left there.
-pub fn served(account: Account, v: usize, left: u64, w: usize, worker: Worker) -> Account
+// After victim v served worker w with what was taken from its deque; so many requests are left there.
+pub fn served(account: Account, v: usize, left: u64, w: usize, taken: Taken) -> Account
     requires { ⌜ Servable account v w ⌝ }
-    ensures { λ a. ⌜ ServiceNoted account v left w worker a ⌝ }
+    ensures { λ a. ⌜ ServiceNoted account v left w taken a ⌝ }
 {
     let victims = still_asked(account.victims, v, left);
-    match worker {
-        Worker::Holding(_) => Account {
+    match taken {
+        Taken::Job(_) => Account {
             weight: account.weight,
             holders: with(account.holders, w),
             idlers: account.idlers,
             victims,
             tally: with_steal(account.tally),
         },
-        Worker::Idle => Account {
+        Taken::Bare => Account {
             weight: account.weight,
             holders: account.holders,
             idlers: with(account.idlers, w),
             victims,
-            tally: with_miss(account.tally),
+            tally: with_bare(account.tally),
         },
-        Worker::Waiting { victim: _, laid: _ } => Account {
+        Taken::IdleVictim => Account {
             weight: account.weight,
             holders: account.holders,
-            idlers: account.idlers,
+            idlers: with(account.idlers, w),
             victims,
-            tally: with_miss(account.tally),
+            tally: with_idle_victim(account.tally),
         },
     }
 }

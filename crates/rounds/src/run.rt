@@ -10,6 +10,7 @@ use crate::account::turned;
 use crate::start::start_progress;
 use crate::steal::lay;
 use crate::steal::serve;
+use crate::steal::thief;
 use crew::set::lowest;
 use crew::set::rest;
 use numbers::wide8;
@@ -95,10 +96,11 @@ pub fn run_rounds(
         left = a.victims;
         while left != 0 {
             let v = lowest(left);
-            let after = serve(a, v, &mut lines, &mut deques);
+            let victim = workers[v];
+            let after = serve(a, v, victim, &mut lines, &mut deques);
             let who = after.who;
-            let worker = after.worker;
-            workers[who] = worker;
+            let taken = after.taken;
+            workers[who] = thief(taken);
             a = after.account;
             left = rest(left);
         }

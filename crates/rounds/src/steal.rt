@@ -1,6 +1,8 @@
 // Requests and services, the second half of a round (document 01, "Worker and round").
+ghost use mathlib.Core.Path.{_≡_};
 ghost use Rattle.plan.specs.Contract.{Some, _⇒_, before, after};
 ghost use Rattle.crew.specs.Line.{waitingAt, LiningUp, LinedUp, Gone, Beside};
+ghost use Rattle.runs.specs.Steal.{thief as thiefOf};
 ghost use Rattle.deques.specs.Dequed.{Dequed, TookTop};
 ghost use Rattle.turns.specs.Count.{Countable};
 ghost use Rattle.rounds.specs.Account.{LayNoted, Serving, ServiceNoted};
@@ -13,6 +15,7 @@ use crew::line::line_up;
 use crew::line::waiting_at;
 use deques::Deques;
 use deques::take_top;
+use runs::taken::Taken;
 use runs::worker::Worker;
 
 // Worker w lays a request at victim v.
@@ -25,26 +28,43 @@ pub fn lay(account: Account, w: usize, v: usize, lines: &mut Lines) -> Account
     laid(account, w, v)
 }
 
-// What a service leaves: the worker that was served, how it stands now, and the account.
+// What a service leaves: the worker that was served, what was taken for it, and the account.
 pub struct Served {
     pub who: usize,
-    pub worker: Worker,
+    pub taken: Taken,
     pub account: Account,
 }
 
-// Victim v, which has requests, serves the oldest.
-pub fn serve(account: Account, v: usize, lines: &mut Lines, deques: &mut Deques) -> Served
+// Victim v, which has requests and stands as given, serves the oldest.
+pub fn serve(
+    account: Account,
+    v: usize,
+    victim: Worker,
+    lines: &mut Lines,
+    deques: &mut Deques,
+) -> Served
     requires { ⌜ Some (Serving account v (now lines)) × Some (Dequed (now deques)) ⌝ }
     ensures { λ s. ⌜ (Serving account v (before lines) ⇒ Gone v 0 (s .who) (after lines)) × Beside v (before lines) (after lines)
-        × (Dequed (before deques) ⇒ TookTop v (s .worker) (after deques))
-        × ServiceNoted account v (waitingAt (after lines) v) (s .who) (s .worker) (s .account) ⌝ }
+        × (Dequed (before deques) ⇒ TookTop v victim (s .taken) (after deques))
+        × ServiceNoted account v (waitingAt (after lines) v) (s .who) (s .taken) (s .account) ⌝ }
 {
     let who = leave_line(lines, v, 0);
-    let worker = take_top(deques, v);
-    let account = served(account, v, waiting_at(lines, v), who, worker);
+    let taken = take_top(deques, v, victim);
+    let account = served(account, v, waiting_at(lines, v), who, taken);
     Served {
         who,
-        worker,
+        taken,
         account,
+    }
+}
+
+// The worker that was served: it holds the job that was taken, or is idle.
+pub fn thief(taken: Taken) -> Worker
+    ensures { λ r. ⌜ r ≡ thiefOf taken ⌝ }
+{
+    match taken {
+        Taken::Job(j) => Worker::Holding(j),
+        Taken::Bare => Worker::Idle,
+        Taken::IdleVictim => Worker::Idle,
     }
 }

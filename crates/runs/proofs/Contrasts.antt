@@ -65,6 +65,12 @@ K-run = run (setting K 2 (0 ∷ []))
 abbrev L-run : State
 L-run = run (setting L 3 (0 ∷ []))
 
+abbrev G-missed : State
+G-missed = run (setting G 3 (0 ∷ []))
+
+abbrev G-given : State
+G-given = run (setting G 3 (0 ∷ 1 ∷ 1 ∷ []))
+
 abbrev done : Plan → State → ℕ → ℕ → Row
 done p s j i = getD (s .rows) (place p j i) noRow
 
@@ -117,3 +123,15 @@ parent-above-spawner = refl
 pub oldest-served : done L L-run 0 2 ≡ row 3 2
 unfolding run countIn work
 oldest-served = refl
+
+-- workers 1 and 2 ask worker 0 in round 1, and worker 1 gets job 0. In round 2 job 1 ends on worker 0, which then serves worker 2: it
+-- held a job when the round began, and holds none now
+pub idle-when-served : G-missed .tally .«idle_victim» ≡ 1
+unfolding run countIn work
+idle-when-served = refl
+
+-- worker 1 is given job 0 in round 1 and then serves worker 2: it held none when the round began, and holds one now. In round 2 worker 2
+-- asks it again
+pub bare-when-served : G-given .tally .bare ≡ 2
+unfolding run countIn work
+bare-when-served = refl

@@ -21,6 +21,7 @@ pub mod Whole
 pub mod Served
 pub mod InTime
 pub mod OwnSchedule
+pub mod Misses
 pub mod Demand3
 pub mod Starred
 pub mod Plain

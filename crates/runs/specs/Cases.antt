@@ -1,7 +1,8 @@
--- The twelve starred cases of document 01 as one table: plan bytes, P, choices and the answer. Laws/Starred.antt has the theorem.
---   Count, valueOf == a count by the name that `buildrun` prints, and its value
+-- The twelve starred cases of document 01 as one table: plan bytes, P, choices and the answer; beside them worked examples of document 02.
+-- Laws/Starred.antt has the theorems.
+--   Count, valueOf == a count by the name that `buildrun` prints, and its value; `misses` is the sum of the two that it prints
 --   Case           == a row of the table; passes c == the meanings give the row's answer
-use Prim.Native.Nat.{ℕ}
+use Prim.Native.Nat.{ℕ, _+_}
 use mathlib.Core.Bool.{Bool, true, false}
 use mathlib.Core.List.{List, [], _∷_}
 use lib.Dec.{eqb}
@@ -16,7 +17,7 @@ use Rattle.runs.specs.Run.{runOf}
 use Rattle.courses.specs.Schedule.{checked}
 
 pub data Count : Type 0 where
-  rounds actions longest′ path peak idle requests steals misses : Count
+  rounds actions longest′ path peak idle requests steals misses bare idle-victim : Count
 
 unfoldable pub valueOf : Count → Plan → State → ℕ
 unfolding longest heaviest
@@ -28,7 +29,9 @@ valueOf peak p s = s .tally .peak
 valueOf idle p s = s .tally .idle
 valueOf requests p s = s .tally .requests
 valueOf steals p s = s .tally .steals
-valueOf misses p s = s .tally .misses
+valueOf misses p s = s .tally .bare + s .tally .«idle_victim»
+valueOf bare p s = s .tally .bare
+valueOf idle-victim p s = s .tally .«idle_victim»
 
 pub record Told : Type 0 where
   pub count : Count
@@ -140,4 +143,14 @@ starred =
     ∷ record { plan = E; workers = 2; choices = []; answer = number 8 }
     ∷ record { plan = E; workers = 0; choices = []; answer = number 7 }
     ∷ record { plan = E; workers = 2; choices = 0 ∷ 1 ∷ []; answer = schedule E-schedule-clash 12 }
+    ∷ []
+
+-- document 02, L2: the misses of cases 4, 5 and 6 by their kind. In case 4 worker 0 asks worker 1, which holds job 0, and then itself;
+-- in the others worker 0, whom all ask, holds a job to the end
+unfoldable pub worked : List Case
+unfolding E F
+worked =
+    record { plan = E; workers = 2; choices = 0 ∷ 1 ∷ []; answer = counts (is steals 1 ∷ is bare 1 ∷ is idle-victim 1 ∷ []) }
+    ∷ record { plan = F; workers = 2; choices = 0 ∷ []; answer = counts (is steals 1 ∷ is bare 3 ∷ is idle-victim 0 ∷ []) }
+    ∷ record { plan = F; workers = 3; choices = 0 ∷ []; answer = counts (is steals 1 ∷ is bare 4 ∷ is idle-victim 0 ∷ []) }
     ∷ []

@@ -20,6 +20,7 @@ use Rattle.runs.specs.Setting.{Setting, setting}
 use Rattle.runs.specs.State.{nextOf}
 use Rattle.runs.specs.Steal.{waiting}
 use Rattle.runs.specs.Run.{run, workersFit, choicesFit}
+use Rattle.runs.specs.Misses.{misses}
 use Rattle.courses.specs.Schedule.{readSchedule}
 use Rattle.courses.specs.Living.{weightAfter, peakOf, lastRound}
 
@@ -48,8 +49,9 @@ module _ (S : Setting) where
     -- T1 turns did an action, and "P × rounds = actions + idle turns"
     pub actions : t .actions ≡ work plan
     pub turns : workers * t .rounds ≡ t .actions + t .idle
-    -- "requests = steals + misses + requests still waiting", as the run ends
-    pub requests : t .requests ≡ t .steals + t .misses + waiting workers (run S .workers)
+    -- "requests = steals + misses + requests still waiting", as the run ends, and of bare and idle-victim "Their sum is the old count."
+    pub requests : t .requests ≡ t .steals + t .bare + t .«idle_victim» + waiting workers (run S .workers)
+    pub misses-split : t .bare + t .«idle_victim» ≡ misses S
 
   -- the first 4 + 2 × actions bytes are a schedule of P workers for the plan, and the bounds hold of its rows with the tally
   pub record Bounded (schedule : List ℕ) (t : Tally) : Type 0 where

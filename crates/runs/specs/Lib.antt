@@ -5,6 +5,7 @@ pub mod State
 pub mod Turn
 pub mod Steal
 pub mod Run
+pub mod Misses
 pub mod Claim
 pub mod Trace
 pub mod Cases

@@ -1,6 +1,8 @@
--- Requests and services, the second half of a round (document 01, "Worker and round").
+-- Requests and services, the second half of a round (document 01, "Worker and round"; document 02, L2).
 --   lay S r w x s  == in round r worker w, which was x when it began, lays a request if x is idle; lays S r k b s == those below k
 --   oldest v k ws  == which of the workers below k has the request that victim v serves: the worker's number plus 1, or 0
+--   takeTop d x    == what taking the top of the deque d of the victim x gives: a job, or which of the two misses it is
+--   thief, withService == the worker that was served and the counts, by what was taken; given v w .. s == the state, of victim v and worker w
 --   serve v q s    == victim v serves the worker of number q - 1, or none if q is 0; serves S r k s == the victims below k
 --   waits x        == 1 where the worker x waits with a request, or 0
 --   waiting k ws   == how many requests wait, of the workers below k
@@ -9,11 +11,14 @@ use mathlib.Core.Bool.{true, false}
 use mathlib.Core.List.{List, [], _∷_}
 use lib.ListN.{length, getD, set}
 use lib.Dec.{eqb, ltb}
+use Rattle.runs.specs.declared.taken.Taken.{Taken}
+use Rattle.runs.specs.declared.taken.Taken.the-variants.{Job, Bare, IdleVictim}
+use Rattle.runs.specs.declared.tally.Tally.{Tally}
 use Rattle.runs.specs.declared.worker.Worker.{Worker}
 use Rattle.runs.specs.declared.worker.Worker.the-variants.{Idle, Holding, Waiting}
 use Rattle.runs.specs.Setting.{Setting, countIn}
-use Rattle.runs.specs.Tally.{withRequest, withSteal, withMiss}
-use Rattle.runs.specs.State.{State, dequeOf}
+use Rattle.runs.specs.Tally.{withRequest, withSteal, withBare, withIdleVictim}
+use Rattle.runs.specs.State.{State, workerOf, dequeOf}
 
 -- "request number k (from 0) reads entry k modulo the length"
 unfoldable pub laid : Setting → ℕ → ℕ → State → State
@@ -72,31 +77,38 @@ abbrev pub topOf : ℕ → List ℕ → ℕ
 topOf x [] = x
 topOf x (y ∷ d) = topOf y d
 
--- "The top job of the victim's deque goes to that worker, or it is a miss."
-unfoldable pub given : ℕ → ℕ → List ℕ → State → State
-given v w [] s =
-    let t = s .tally in
+-- "Taking the top of a deque now tells which": "`bare` (the victim holds a job at that moment) and `idle-victim`"
+abbrev pub takeTop : List ℕ → Worker → Taken
+takeTop (x ∷ d) victim = Job (topOf x d)
+takeTop [] (Holding j) = Bare
+takeTop [] Idle = IdleVictim
+takeTop [] (Waiting v l) = IdleVictim
+
+abbrev pub thief : Taken → Worker
+thief (Job j) = Holding j
+thief Bare = Idle
+thief IdleVictim = Idle
+
+abbrev pub withService : Tally → Taken → Tally
+withService t (Job j) = withSteal t
+withService t Bare = withBare t
+withService t IdleVictim = withIdleVictim t
+
+-- "The top job of the victim's deque goes to that worker, or it is a miss." An empty deque stays empty.
+unfoldable pub given : ℕ → ℕ → Taken → State → State
+given v w taken s =
     record {
       next = s .next;
-      workers = set (s .workers) w Idle;
-      deques = s .deques;
+      workers = set (s .workers) w (thief taken);
+      deques = set (s .deques) v (dropTop (dequeOf s v));
       rows = s .rows;
-      tally = withMiss t;
-    }
-given v w (x ∷ d) s =
-    let t = s .tally in
-    record {
-      next = s .next;
-      workers = set (s .workers) w (Holding (topOf x d));
-      deques = set (s .deques) v (dropTop (x ∷ d));
-      rows = s .rows;
-      tally = withSteal t;
+      tally = withService (s .tally) taken;
     }
 
 unfoldable pub serve : ℕ → ℕ → State → State
 unfolding given
 serve v zero s = s
-serve v (suc w) s = given v w (dequeOf s v) s
+serve v (suc w) s = given v w (takeTop (dequeOf s v) (workerOf s v)) s
 
 -- "every victim, in rising number, serves one request"
 unfoldable pub serves : Setting → ℕ → ℕ → State → State

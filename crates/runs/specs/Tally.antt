@@ -1,16 +1,17 @@
--- What each event makes of the counts (document 01, "Worker and round"). A count stands in the record `Tally` of src/, in `noCounts`
+-- What each event makes of the counts (document 01, "Worker and round"; document 02, L2). A count stands in the record `Tally` of src/, in `noCounts`
 -- and in the updates below; beside them a tally is written out in `recounted` (`turns` S/Count) alone, for several idle turns at once.
 --   noCounts frame        == the counts as a run begins, where job 0 has that frame
 --   withAction t r weight == after a turn of round r that did an action, after which the living frames weigh `weight`
 --   withIdle t r          == after a turn of round r of a worker that held nothing when the round began
 --   withRequest t         == after a request
 --   withSteal t           == after a service that gave the top job of the victim's deque
---   withMiss t            == after a service that gave none
+--   withBare t            == after a service that gave none, of a victim that holds a job
+--   withIdleVictim t      == after a service that gave none, of a victim that holds none
 use Prim.Native.Nat.{ℕ, suc, max}
 use Rattle.runs.specs.declared.tally.Tally.{Tally}
 
 abbrev pub noCounts : ℕ → Tally
-noCounts frame = record { rounds = 0; actions = 0; idle = 0; requests = 0; steals = 0; misses = 0; peak = frame }
+noCounts frame = record { rounds = 0; actions = 0; idle = 0; requests = 0; steals = 0; bare = 0; «idle_victim» = 0; peak = frame }
 
 abbrev pub withAction : Tally → ℕ → ℕ → Tally
 withAction t r weight = record {
@@ -19,7 +20,8 @@ withAction t r weight = record {
   idle = t .idle;
   requests = t .requests;
   steals = t .steals;
-  misses = t .misses;
+  bare = t .bare;
+  «idle_victim» = t .«idle_victim»;
   peak = max (t .peak) weight;
 }
 
@@ -30,7 +32,8 @@ withIdle t r = record {
   idle = suc (t .idle);
   requests = t .requests;
   steals = t .steals;
-  misses = t .misses;
+  bare = t .bare;
+  «idle_victim» = t .«idle_victim»;
   peak = t .peak;
 }
 
@@ -41,7 +44,8 @@ withRequest t = record {
   idle = t .idle;
   requests = suc (t .requests);
   steals = t .steals;
-  misses = t .misses;
+  bare = t .bare;
+  «idle_victim» = t .«idle_victim»;
   peak = t .peak;
 }
 
@@ -52,17 +56,31 @@ withSteal t = record {
   idle = t .idle;
   requests = t .requests;
   steals = suc (t .steals);
-  misses = t .misses;
+  bare = t .bare;
+  «idle_victim» = t .«idle_victim»;
   peak = t .peak;
 }
 
-abbrev pub withMiss : Tally → Tally
-withMiss t = record {
+abbrev pub withBare : Tally → Tally
+withBare t = record {
   rounds = t .rounds;
   actions = t .actions;
   idle = t .idle;
   requests = t .requests;
   steals = t .steals;
-  misses = suc (t .misses);
+  bare = suc (t .bare);
+  «idle_victim» = t .«idle_victim»;
+  peak = t .peak;
+}
+
+abbrev pub withIdleVictim : Tally → Tally
+withIdleVictim t = record {
+  rounds = t .rounds;
+  actions = t .actions;
+  idle = t .idle;
+  requests = t .requests;
+  steals = t .steals;
+  bare = t .bare;
+  «idle_victim» = suc (t .«idle_victim»);
   peak = t .peak;
 }

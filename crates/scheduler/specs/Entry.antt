@@ -1,6 +1,6 @@
 -- What the entry `run` answers and leaves in the lent schedule (document 01, "Turned down").
 --   runInto plan n choices schedule   == the tally and the schedule's bytes, or the refusal: 1 to 6, then 7, 8, 9
---   Claimed plan n choices r schedule == demand 3's claim and the two sums, of what was returned and written
+--   Claimed plan n choices r schedule == demand 3's claim and the sums, of what was returned and written
 --   ranOf r                           == the outcome that an answer stands for
 use Prim.Native.Nat.{ℕ}
 use mathlib.Core.Path.{_≡_}

@@ -11,7 +11,8 @@ pub record Countable (t : Tally) : Type 0 where
   pub actions : t .actions < 4294967295
   pub requests : t .requests < 4294967295
   pub steals : t .steals < 4294967295
-  pub misses : t .misses < 4294967295
+  pub bare : t .bare < 4294967295
+  pub idle-victim : t .«idle_victim» < 4294967295
 
 abbrev pub Restable : Tally → ℕ → Type 0
 Restable t turns = t .idle + turns < 4294967296
@@ -23,7 +24,8 @@ recounted t r idle = record {
   idle = idle;
   requests = t .requests;
   steals = t .steals;
-  misses = t .misses;
+  bare = t .bare;
+  «idle_victim» = t .«idle_victim»;
   peak = t .peak;
 }
 

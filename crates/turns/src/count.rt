@@ -7,7 +7,7 @@ ghost use mathlib.Core.Path.{_≡_};
 ghost use Prim.Native.Nat.{_<_};
 ghost use Rattle.plan.specs.Contract.{before, after};
 ghost use Rattle.turns.specs.Count.{Countable, Restable, withIdles};
-ghost use Rattle.runs.specs.Tally.{noCounts, withAction, withRequest, withSteal, withMiss};
+ghost use Rattle.runs.specs.Tally.{noCounts, withAction, withRequest, withSteal, withBare, withIdleVictim};
 use numbers::larger;
 use runs::tally::Tally;
 
@@ -21,7 +21,8 @@ pub fn no_counts(frame: u32) -> Tally
         idle: 0,
         requests: 0,
         steals: 0,
-        misses: 0,
+        bare: 0,
+        idle_victim: 0,
         peak: frame,
     }
 }
@@ -69,13 +70,23 @@ pub fn with_steal(t: Tally) -> Tally
     u
 }
 
-// A service that gave none.
-pub fn with_miss(t: Tally) -> Tally
+// A service that gave none, of a victim that holds a job.
+pub fn with_bare(t: Tally) -> Tally
     requires { ⌜ Countable t ⌝ }
-    ensures { λ r. ⌜ r ≡ withMiss t ⌝ }
+    ensures { λ r. ⌜ r ≡ withBare t ⌝ }
 {
     let mut u = t;
-    u.misses = t.misses + 1;
+    u.bare = t.bare + 1;
+    u
+}
+
+// A service that gave none, of a victim that holds none.
+pub fn with_idle_victim(t: Tally) -> Tally
+    requires { ⌜ Countable t ⌝ }
+    ensures { λ r. ⌜ r ≡ withIdleVictim t ⌝ }
+{
+    let mut u = t;
+    u.idle_victim = t.idle_victim + 1;
     u
 }
 

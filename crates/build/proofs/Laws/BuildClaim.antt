@@ -1,4 +1,4 @@
--- Demand 3's claim and the two sums, of the counts that a build answers.
+-- Demand 3's claim and the sums, of the counts that a build answers.
 --   counts-bounded == they hold of the counts of a run
 --   build-claimed  == so of what `build` answers, whatever its input
 use Prim.Native.Nat.{ℕ, _+_}
@@ -45,6 +45,7 @@ counts-bounded {S} fit =
       lone-rounds = λ l. b .lone-rounds l ∙ sym (b .actions);
       turns = b .turns;
       requests = b .requests;
+      misses-split = b .misses-split;
     }
 
 module _ (plan : List ℕ) (n : ℕ) (choices : List ℕ) (c : Counts) where

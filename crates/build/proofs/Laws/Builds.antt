@@ -40,7 +40,8 @@ counted t m =
       idle = t .idle;
       requests = t .requests;
       steals = t .steals;
-      misses = t .misses;
+      bare = t .bare;
+      «idle_victim» = t .«idle_victim»;
     }
 
 -- a plan that was read can be built

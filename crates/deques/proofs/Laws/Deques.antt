@@ -1,6 +1,6 @@
 -- The sixteen deques in one array: what a store, a shorter deque and a top that moves on make of them.
 --   bottom-none, bottom-taken == the bottom job of deque w is taken, where it has none, and where it has n jobs
---   top-none, top-taken       == the top job is
+--   top-none, top-taken       == the top is, of a victim that stands as given
 --   push-place                == the place behind the bottom job is not above the number of a job that may go there
 --   pushed-first, pushed-next == such a job goes on the bottom, where deque w has no job, and where it has n
 use Prim.Native.Nat.{ℕ, zero, suc, _+_, _-_, _*_, _≤_, _<_}
@@ -13,8 +13,10 @@ use native.Mathlib.Omega.{arith}
 use native.Mathlib.Decide.{ℕ-discrete}
 use lib.ListN.{length, getD, set, length-set}
 use lib.Seq.{getD-set-same, getD-set-other, set-getD}
+use Rattle.runs.specs.declared.taken.Taken.the-variants.{Job}
+use Rattle.runs.specs.declared.worker.Worker.{Worker}
 use Rattle.runs.specs.declared.worker.Worker.the-variants.{Idle, Holding}
-use Rattle.runs.specs.Steal.{dropTop, topOf}
+use Rattle.runs.specs.Steal.{dropTop, topOf, takeTop}
 use Rattle.deques.specs.Dequed.{jobAt, topAt, lenAt, dequeAt, Dequed, Pushing, Pushed, TookBottom, TookTop}
 
 -- a deque is as its places are
@@ -96,19 +98,19 @@ module _ {l : List ℕ} {ds : List (List ℕ)} (q : Dequed l ds) (w : ℕ) (h : 
       rw (z, ← deque-of (suc m) e) (refl, shorter m (dequeAt l w (topAt l w) m) refl (omega arith))
 
   -- no job, or the top one
-  pub top-none : 0 ≡ lenAt l w → TookTop w Idle l ds
-  top-none e =
+  pub top-none : 0 ≡ lenAt l w → (victim : Worker) → TookTop w victim (takeTop [] victim) l ds
+  top-none e victim =
       let z : getD ds w [] ≡ [] = sym (deque-of 0 e) in
       let k : set ds w [] ≡ ds = rw z at (set-getD ds w []) in
       rw (z, k) (refl, q)
 
-  pub top-taken : (n : ℕ) → n ≡ lenAt l w → n ≢ 0
-      → TookTop w (Holding (jobAt l w (topAt l w))) (set (set l (4096 + w) (topAt l w + 1)) (4112 + w) (n - 1)) ds
-  top-taken zero e f = absurd (f refl)
-  top-taken (suc m) e f =
+  pub top-taken : (n : ℕ) → n ≡ lenAt l w → n ≢ 0 → (victim : Worker)
+      → TookTop w victim (Job (jobAt l w (topAt l w))) (set (set l (4096 + w) (topAt l w + 1)) (4112 + w) (n - 1)) ds
+  top-taken zero e f victim = absurd (f refl)
+  top-taken (suc m) e f victim =
       let z : suc m - 1 ≡ m = omega arith in
       rw (z, add-one, ← deque-of (suc m) e) (
-        ap Holding (sym (deque-top l w t m)),
+        ap Job (sym (deque-top l w t m)),
         deque-changed l′ (suc t) m (dropTop (dequeAt l w t (suc m))) (simp length-set (q .long))
             (λ x a b c. getD-set-other l₁ (4112 + w) x m 0 c ∙ getD-set-other l (4096 + w) x (suc t) 0 b)
             (getD-set-other l₁ (4112 + w) (4096 + w) m 0 (λ x. omega arith) ∙ getD-set-same l (4096 + w) (suc t) 0 (omega (arith, q .long)))

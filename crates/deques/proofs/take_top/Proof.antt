@@ -9,10 +9,15 @@ use Rattle.deques.proofs.take_top.Tie as tie
 len-of-requires : tie.Need-len-of-requires
 len-of-requires c κs = search needs
 
+miss-of-requires : tie.Need-miss-of-requires
+miss-of-requires c κs = tt
+
 returns : tie.Need-returns
 returns c ds q =
-    let a = c .before .before .before in
-    top-none q (a .args .v) (a .pre .1) (sym (c .if1 .taken) ∙ c .before .len-of .ensures .0)
+    let n = c .before .before in
+    let a = n .before .before in
+    rw (c .miss-of .ensures)
+    (top-none q (a .args .v) (a .pre .1) (sym (c .before .if1 .taken) ∙ n .len-of .ensures .0) (a .args .victim))
 
 top-of-requires : tie.Need-top-of-requires
 top-of-requires c κs = search needs
@@ -45,13 +50,14 @@ returns-2 c ds q =
     let n = t .before .before .before in
     let a = n .before .before in
     rw (c .set-len .ensures, s .set-top .ensures, j .job-at .ensures, t .top-of .ensures .0)
-    (top-taken q (a .args .v) (a .pre .1) (n .len-of .result) (n .len-of .ensures .0) (t .before .before .if1 .left))
+    (top-taken q (a .args .v) (a .pre .1) (n .len-of .result) (n .len-of .ensures .0) (t .before .before .if1 .left) (a .args .victim))
 
 pub take-top-spec : {M : Type 1} → statement M
 take-top-spec =
     tie.close
     (tie.spec
     len-of-requires
+    miss-of-requires
     returns
     top-of-requires
     job-at-requires

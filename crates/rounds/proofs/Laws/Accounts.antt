@@ -1,15 +1,18 @@
 -- What is noted of a worker that stands as given, from the sets and the counts that the account is left with.
 --   turn-noted-holding, turn-noted-idle, turn-noted-waiting == of a turn that leaves its worker holding a job, idle or waiting
---   service-noted-holding, service-noted-idle, service-noted-waiting == of a service that leaves its worker so
+--   service-noted-job, service-noted-missed == of a service that gave a job, and of a miss of either kind
 use Prim.Native.Nat.{ℕ}
 use mathlib.Core.Path.{_≡_, refl}
 use mathlib.Core.Bool.{true, false}
 use lib.Dec.{ltb}
 use Rattle.crew.specs.Crew.{Marked}
 use Rattle.crew.proofs.Laws.Crews.{marked-as-was}
+use Rattle.runs.specs.declared.taken.Taken.{Taken}
+use Rattle.runs.specs.declared.taken.Taken.the-variants.{Job}
 use Rattle.runs.specs.declared.tally.Tally.{Tally}
 use Rattle.runs.specs.declared.worker.Worker.the-variants.{Idle, Holding, Waiting}
-use Rattle.runs.specs.Tally.{withAction, withSteal, withMiss}
+use Rattle.runs.specs.Tally.{withAction, withSteal}
+use Rattle.runs.specs.Steal.{thief, withService}
 use Rattle.turns.specs.Count.{withIdles}
 use Rattle.rounds.specs.declared.account.Account.{Account}
 use Rattle.rounds.specs.Account.{Turnable, TurnNoted, Servable, ServiceNoted}
@@ -39,22 +42,17 @@ module _ {a : Account} {r w gap weighs : ℕ} (g : Turnable a r w gap) {acted t 
     turn-noted-waiting = record { weighed = refl; counts = rw (d, z) at e; holders = h; idlers = marked-as-was (g .busy); victims = refl }
 
 module _ {a : Account} {v left w victims : ℕ} (g : Servable a v w) (k : Marked v (ltb 0 left) (a .victims) victims) {t : Tally} where
-  pub service-noted-holding : {j holders : ℕ} → t ≡ withSteal (a .tally) → Marked w true (a .holders) holders
-      → ServiceNoted a v left w (Holding j)
+  pub service-noted-job : {j holders : ℕ} → t ≡ withSteal (a .tally) → Marked w true (a .holders) holders
+      → ServiceNoted a v left w (Job j)
       (record { weight = a .weight; holders = holders; idlers = a .idlers; victims = victims; tally = t })
-  service-noted-holding e h = record { weighed = refl; counts = e; holders = h; idlers = marked-as-was (g .waits .1); victims = k }
+  service-noted-job e h = record { weighed = refl; counts = e; holders = h; idlers = marked-as-was (g .waits .1); victims = k }
 
-  pub service-noted-idle : {idlers : ℕ} → t ≡ withMiss (a .tally) → Marked w true (a .idlers) idlers
-      → ServiceNoted a v left w Idle (record { weight = a .weight; holders = a .holders; idlers = idlers; victims = victims; tally = t })
-  service-noted-idle e i = record { weighed = refl; counts = e; holders = marked-as-was (g .waits .0); idlers = i; victims = k }
-
-  pub service-noted-waiting : {u l : ℕ} → t ≡ withMiss (a .tally)
-      → ServiceNoted a v left w (Waiting u l)
-      (record { weight = a .weight; holders = a .holders; idlers = a .idlers; victims = victims; tally = t })
-  service-noted-waiting e = record {
+  pub service-noted-missed : (x : Taken) → thief x ≡ Idle → {idlers : ℕ} → t ≡ withService (a .tally) x → Marked w true (a .idlers) idlers
+      → ServiceNoted a v left w x (record { weight = a .weight; holders = a .holders; idlers = idlers; victims = victims; tally = t })
+  service-noted-missed x q e i = record {
     weighed = refl;
     counts = e;
-    holders = marked-as-was (g .waits .0);
-    idlers = marked-as-was (g .waits .1);
+    holders = rw q (marked-as-was (g .waits .0));
+    idlers = rw q i;
     victims = k;
   }

@@ -5,7 +5,8 @@
 --   lays-line, lays-lining == the line that it joins, and what joining is given
 --   lays-next      == it leaves the objects so
 --   lays-serves    == nobody is left: victims serve
---   serves-line, serves-dequed, serves-serving == the line of the lowest victim that is left, its deque, and what its service is given
+--   serves-known  == the lowest victim that is left is one of sixteen
+--   serves-line, serves-dequed, serves-serving == its line, its deque, and what its service is given
 --   serves-next    == the service leaves the objects so
 --   serves-round   == nobody is left: the next round begins
 use Prim.Native.Nat.{ℕ, zero, suc, _+_, _*_, _%_, _≤_, _<_}
@@ -17,18 +18,19 @@ use native.Mathlib.Omega.{arith}
 use borrow.Author.Tests.{ltb-true, ltb-false, lt-ltb}
 use lib.Dec.{ltb}
 use lib.ListN.{length, getD, set, length-append}
+use Rattle.runs.specs.declared.taken.Taken.{Taken}
 use Rattle.runs.specs.declared.worker.Worker.{Worker}
 use Rattle.runs.specs.declared.worker.Worker.the-variants.{Idle, Waiting}
 use Rattle.runs.specs.Setting.{Setting, countIn}
 use Rattle.runs.specs.State.{State, workerOf, dequeOf}
-use Rattle.runs.specs.Steal.{laid, lay, lays, oldest, given, serve, serves, waits}
+use Rattle.runs.specs.Steal.{laid, lay, lays, oldest, takeTop, thief, given, serve, serves, waits}
 use Rattle.runs.specs.Run.{ended, rounds, run}
 use Rattle.runs.specs.Trace.{turning, laying, serving, goes-on, all-laid, next-round}
 use Rattle.runs.proofs.Laws.Least.{oldest-waits}
 use Rattle.runs.proofs.Laws.Began.{laying-idle}
 use Rattle.runs.proofs.Laws.Coursed.{round-most}
 use Rattle.runs.proofs.Laws.Rounds.{rounds-known}
-use Rattle.runs.proofs.Laws.Stores.{victimOf}
+use Rattle.runs.proofs.Laws.Stores.{victimOf, thief-waits}
 use Rattle.runs.proofs.Laws.Tallies.{serve-requests}
 use Rattle.runs.proofs.Laws.Whole.{round-on, rounds-on}
 use Rattle.plan_measure.specs.Measure.{work}
@@ -36,7 +38,7 @@ use Rattle.crew.specs.Crew.{Lowest, Rest}
 use Rattle.crew.specs.Line.{waitingAt, LiningUp, LinedUp, Leaving, Gone, Beside}
 use Rattle.crew.proofs.Laws.Walks.{left-start, left-known, left-ahead, left-test, left-next}
 use Rattle.crew.proofs.Laws.Folds.{fold-skip-to, fold-skip-next, fold-skip-end}
-use Rattle.deques.specs.Dequed.{Dequed, TookTop, topJob}
+use Rattle.deques.specs.Dequed.{Dequed, TookTop}
 use Rattle.turns.specs.Worker.{holds, isIdle}
 use Rattle.turns.specs.Count.{Countable}
 use Rattle.turns.specs.Moments.{InRun}
@@ -50,7 +52,7 @@ use Rattle.rounds.proofs.Laws.Halves.{lay-none, lays-deques, second-kep
 use Rattle.rounds.proofs.Laws.Queues.{queue-room, queue-first, queue-none, queued-later, queued-push, queued-pop}
 use Rattle.rounds.proofs.Laws.FirstHalf.{begun-run}
 use Rattle.rounds.proofs.Laws.Stealing.{idle-is, laid-manned, asked-marked}
-use Rattle.rounds.proofs.Laws.Stealing.{given-manned, given-workers, given-dequed, top-waits}
+use Rattle.rounds.proofs.Laws.Stealing.{given-manned}
 
 module _ {S : Setting} {plan : List ℕ} (g : Fitted S plan) where
   -- the run at the stages of its second half
@@ -261,7 +263,7 @@ module _ {S : Setting} {plan : List ℕ} (g : Fitted S plan) where
       serves-reached : afterServes S r v (z .state) ≡ now-served
       serves-reached = fold-skip-to (λ k. afterServes S r k (z .state)) serves-step serves-more (z .walk) serves-rests low
 
-      serves-known : v < 16
+      pub serves-known : v < 16
       serves-known = omega (arith, serves-here, g .most)
 
       asked-some : 0 < waitingAt lines v
@@ -307,27 +309,31 @@ module _ {S : Setting} {plan : List ℕ} (g : Fitted S plan) where
         waits-on : (w < S .workers) × (l : ℕ) × (workerOf now-served w ≡ Waiting v l)
         waits-on = oldest-waits v (S .workers) (now-served .workers) (g .most) picked
 
-        served : afterServes S r (suc v) (z .state) ≡ given v w (dequeOf now-served v) now-served
+        -- what is taken for it
+        abbrev top : Taken
+        top = takeTop (dequeOf now-served v) (workerOf now-served v)
+
+        served : afterServes S r (suc v) (z .state) ≡ given v w top now-served
         unfolding serve
         served = serves-more v ∙ ap (serves-step v) serves-reached ∙ ap (λ x. serve v x now-served) picked
 
-        served-asking : {more : ℕ} → more ≡ waitingAt lines′ v → {x : Worker} {a′ : Account} → ServiceNoted a v more w x a′
-            → Asking (S .workers) (suc r * 16) (a′ .victims) (S .choices) cursor lines′ (given v w (dequeOf now-served v) now-served)
-        unfolding serves-line serve
+        served-asking : {more : ℕ} → more ≡ waitingAt lines′ v → {x : Taken} {a′ : Account} → ServiceNoted a v more w x a′
+            → Asking (S .workers) (suc r * 16) (a′ .victims) (S .choices) cursor lines′ (given v w top now-served)
+        unfolding serves-line serve given
         served-asking m e = record {
           pointed = rw (serve-requests v (suc w) now-served) (z .asking .pointed);
-          queued = rw (given-workers v w now-served (dequeOf now-served v))
-              (queued-pop (z .asking .queued) serves-sixteen (gone .known) serves-known beside (topJob (dequeOf now-served v))
-              (top-waits (dequeOf now-served v)) (serves-leaving .there) gone);
+          queued = queued-pop (z .asking .queued) serves-sixteen (gone .known) serves-known beside (thief top) (thief-waits top)
+              (serves-leaving .there) gone;
           crewed = asked-marked (z .asking .queued v serves-known .lined .long) beside (z .asking .crewed) serves-here
               (e .victims) (ap (ltb 0) (sym m));
         }
 
-        pub serves-next : {x : Worker} {deques′ : List ℕ} → TookTop v x deques′ (afterServes S r v (z .state) .deques)
+        pub serves-next : {x : Taken} {deques′ : List ℕ} → TookTop v (getD workers v Idle) x deques′ (afterServes S r v (z .state) .deques)
             → {more : ℕ} → more ≡ waitingAt lines′ v → {a′ : Account} → ServiceNoted a v more w x a′ → {left′ : ℕ} → Rest left left′
-            → InServes S r left′ a′ (set workers w x) cursor lines′ progress deques′ rows
+            → InServes S r left′ a′ (set workers w (thief x)) cursor lines′ progress deques′ rows
+        unfolding given
         serves-next t m e l =
-            let (is, took) = rw serves-reached at t in
+            let (is, took) = rw (serves-reached, z .manned .seated) at t in
             record {
               state = z .state;
               begun = z .begun;
@@ -338,10 +344,10 @@ module _ {S : Setting} {plan : List ℕ} (g : Fitted S plan) where
               walk = left-next (z .walk) low l;
               same = λ u h k. beside .lens u k (λ i. omega arith) ∙ z .same u (omega (arith, left-ahead (z .walk) low)) k;
               manned = rw (served, is)
-                  (given-manned (z .manned) serves-sixteen (waits-on .0) (g .most) v _ (dequeOf now-served v) (rw is at e));
+                  (given-manned (z .manned) serves-sixteen (waits-on .0) (g .most) v _ top (rw is at e));
               asking = rw served (served-asking m e);
               done = z .done;
-              dequed = rw served (given-dequed v w now-served took);
+              dequed = rw served took;
             }
 
     -- nobody is left

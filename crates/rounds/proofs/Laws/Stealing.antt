@@ -1,33 +1,31 @@
 -- A request and a service, and what each makes of the runner's objects.
 --   idle-is       == the test of idle workers holds of no other
 --   laid-manned   == the account and the workers after a request
---   given-manned, given-dequed == the account, the workers and the deques after a service
---   given-workers == whom it changes
---   top-waits     == who has been served does not wait
+--   given-manned  == the account and the workers after a service
 --   asked-marked  == the set of the victims that have a request, where the line of one has changed
 use Prim.Native.Nat.{ℕ, _+_, _≤_, _<_}
 use mathlib.Core.Path.{_≡_, refl, sym, ap, _∙_}
 use mathlib.Core.Bool.{Bool, true, true≢false}
 use mathlib.Core.Logic.{_≢_, by-cases}
-use mathlib.Core.List.{List, [], _∷_}
+use mathlib.Core.List.{List}
 use native.Mathlib.Omega.{arith}
 use native.Mathlib.Decide.{decLt}
 use lib.Dec.{ltb}
 use lib.ListN.{length, set, List·getD-eq-default}
-use lib.Seq.{set-getD}
 use Rattle.plan.specs.Plan.{Plan}
+use Rattle.runs.specs.declared.taken.Taken.{Taken}
+use Rattle.runs.specs.declared.tally.Tally.{Tally}
 use Rattle.runs.specs.declared.worker.Worker.{Worker}
 use Rattle.runs.specs.declared.worker.Worker.the-variants.{Idle, Holding, Waiting}
 use Rattle.runs.specs.Setting.{Setting}
-use Rattle.runs.specs.State.{State, workerOf, dequeOf}
-use Rattle.runs.specs.Tally.{withRequest, withSteal, withMiss}
-use Rattle.runs.specs.Steal.{laid, given, waits, dropTop, topOf}
+use Rattle.runs.specs.State.{State, workerOf}
+use Rattle.runs.specs.Tally.{withRequest}
+use Rattle.runs.specs.Steal.{laid, thief, withService, given}
 use Rattle.runs.proofs.Laws.Stores.{victimOf}
 use Rattle.crew.specs.Crew.{Marked}
 use Rattle.crew.specs.Line.{waitingAt, Beside}
 use Rattle.crew.proofs.Laws.Walks.{Crewed}
 use Rattle.crew.proofs.Laws.Crews.{crewed-at, crewed-mark, crewed-same}
-use Rattle.deques.specs.Dequed.{Dequed, topJob}
 use Rattle.turns.specs.Worker.{holds, isIdle}
 use Rattle.rounds.specs.declared.account.Account.{Account}
 use Rattle.rounds.specs.Account.{LayNoted, ServiceNoted}
@@ -54,42 +52,16 @@ module _ {n : ℕ} {p : Plan} {s : State} {a : Account} {workers : List Worker} 
     idlers = crewed-mark isIdle (s .workers) Idle (Waiting v r) (m .idlers) inside (q .idlers) known;
   })
 
-  pub given-manned : (v more : ℕ) (d : List ℕ) {a′ : Account} → ServiceNoted a v more w (topJob d) a′
-      → Manned n a′ (set workers w (topJob d)) p (given v w d s)
+  pub given-manned : (v more : ℕ) (x : Taken) {a′ : Account} → ServiceNoted a v more w x a′
+      → Manned n a′ (set workers w (thief x)) p (given v w x s)
   unfolding given
-  given-manned v more [] q = record {
-    seated = ap (λ ws. set ws w Idle) (m .seated);
+  given-manned v more x q = record {
+    seated = ap (λ ws. set ws w (thief x)) (m .seated);
     weighs = q .weighed ∙ m .weighs;
-    counts = q .counts ∙ ap withMiss (m .counts);
-    holders = crewed-mark holds (s .workers) Idle Idle (m .holders) inside (q .holders) known;
-    idlers = crewed-mark isIdle (s .workers) Idle Idle (m .idlers) inside (q .idlers) known;
+    counts = q .counts ∙ ap (λ (t : Tally). withService t x) (m .counts);
+    holders = crewed-mark holds (s .workers) Idle (thief x) (m .holders) inside (q .holders) known;
+    idlers = crewed-mark isIdle (s .workers) Idle (thief x) (m .idlers) inside (q .idlers) known;
   }
-  given-manned v more (x ∷ d) q = record {
-    seated = ap (λ ws. set ws w (Holding (topOf x d))) (m .seated);
-    weighs = q .weighed ∙ m .weighs;
-    counts = q .counts ∙ ap withSteal (m .counts);
-    holders = crewed-mark holds (s .workers) Idle (Holding (topOf x d)) (m .holders) inside (q .holders) known;
-    idlers = crewed-mark isIdle (s .workers) Idle (Holding (topOf x d)) (m .idlers) inside (q .idlers) known;
-  }
-
-module _ (v w : ℕ) (s : State) where
-  pub given-workers : (d : List ℕ) → given v w d s .workers ≡ set (s .workers) w (topJob d)
-  unfolding given
-  given-workers [] = refl
-  given-workers (x ∷ d) = refl
-
-  pub given-dequed : {deques : List ℕ} → Dequed deques (set (s .deques) v (dropTop (dequeOf s v)))
-      → Dequed deques (given v w (dequeOf s v) s .deques)
-  unfolding given
-  given-dequed {deques} = go (dequeOf s v) refl
-    where
-      go : (d : List ℕ) → dequeOf s v ≡ d → Dequed deques (set (s .deques) v (dropTop d)) → Dequed deques (given v w d s .deques)
-      go [] e q = rw (rw e at (set-getD (s .deques) v [])) at q
-      go (x ∷ d) e q = q
-
-pub top-waits : (d : List ℕ) → waits (topJob d) ≡ 0
-top-waits [] = refl
-top-waits (x ∷ d) = refl
 
 -- the line of v alone has changed
 module _ {v : ℕ} {lines lines′ : List ℕ} (long : length lines ≡ 32) (beside : Beside v lines lines′) where

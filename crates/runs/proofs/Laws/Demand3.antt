@@ -23,6 +23,7 @@ use Rattle.plan_measure.proofs.Laws.Work.{work-range}
 use Rattle.runs.proofs.Laws.Fit.{Fit}
 use Rattle.runs.proofs.Laws.Admitted.{workers-range}
 use Rattle.runs.proofs.Laws.Whole.{run-trace, rounds-most, run-actions, run-turns, run-requests, lone-rounds}
+use Rattle.runs.proofs.Laws.Misses.{run-misses}
 use Rattle.runs.proofs.Laws.Coursed.{rows-length, run-row, round-most, job-0-ends, last-round, least-rounds}
 use Rattle.runs.proofs.Laws.Coursed.{run-space, run-peak, below-peak, lone-peak}
 use Rattle.courses.proofs.Laws.ScheduleBytes.{schedule-length}
@@ -46,6 +47,7 @@ run-bounds {S} fit =
       actions = run-actions fit;
       turns = run-turns fit;
       requests = run-requests fit;
+      misses-split = run-misses S;
     }
 
 pub run-bounded : {S : Setting} → Fit S → (rest : List ℕ) → Bounded S (scheduleBytes (S .workers) (run S .rows) ++ rest) (run S .tally)

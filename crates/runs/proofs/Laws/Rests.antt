@@ -1,20 +1,22 @@
 -- What a turn does to the counts, and what a request and a service leave as it was: all that a schedule and the counts of turns rest on.
---   Took r s t               == t has one turn more than s, of round r, and the requests, steals and misses of s
+--   Took r s t               == t has one turn more than s, of round r, and the requests, steals and misses of both kinds of s
 --   Rests s t                == t has the actions, the rows and the counts of turns of s
 --   turned-took              == `Took` of a turn of a run
 --   laid-rests, served-rests == `Rests` of a request and of a service
 use Prim.Native.Nat.{ℕ, zero, suc, _+_}
 use mathlib.Core.Path.{_≡_, refl}
-use mathlib.Core.List.{List, [], _∷_}
+use mathlib.Core.List.{List}
 use native.Mathlib.Omega.{arith}
 use lib.ListN.{getD}
+use Rattle.runs.specs.declared.taken.Taken.{Taken}
+use Rattle.runs.specs.declared.taken.Taken.the-variants.{Job, Bare, IdleVictim}
 use Rattle.runs.specs.declared.worker.Worker.{Worker}
 use Rattle.runs.specs.declared.worker.Worker.the-variants.{Idle, Holding, Waiting}
 use Rattle.plan.specs.Plan.{Plan}
 use Rattle.runs.specs.Setting.{Setting}
-use Rattle.runs.specs.State.{State, dequeOf}
+use Rattle.runs.specs.State.{State, workerOf, dequeOf}
 use Rattle.runs.specs.Turn.{turn, idled, turnOf}
-use Rattle.runs.specs.Steal.{laid, lay, given, serve}
+use Rattle.runs.specs.Steal.{laid, lay, takeTop, given, serve}
 use Rattle.runs.specs.Parts.{pickOf}
 use Rattle.runs.specs.Trace.{turning, laying, serving, Trace}
 
@@ -31,7 +33,8 @@ pub record Took (r : ℕ) (s t : State) : Type 0 where
   pub turns : t .tally .actions + t .tally .idle ≡ suc (s .tally .actions + s .tally .idle)
   pub requests : t .tally .requests ≡ s .tally .requests
   pub steals : t .tally .steals ≡ s .tally .steals
-  pub misses : t .tally .misses ≡ s .tally .misses
+  pub bare : t .tally .bare ≡ s .tally .bare
+  pub idle-victim : t .tally .«idle_victim» ≡ s .tally .«idle_victim»
 
 same-rests : (s : State) → Rests s s
 same-rests s = record { next = refl; rows = refl; rounds = refl; actions = refl; idle = refl; peak = refl }
@@ -42,21 +45,22 @@ lay-rests S r w Idle s = record { next = refl; rows = refl; rounds = refl; actio
 lay-rests S r w (Holding j) s = same-rests s
 lay-rests S r w (Waiting v l) s = same-rests s
 
-given-rests : (v w : ℕ) (d : List ℕ) (s : State) → Rests s (given v w d s)
+given-rests : (v w : ℕ) (x : Taken) (s : State) → Rests s (given v w x s)
 unfolding given
-given-rests v w [] s = record { next = refl; rows = refl; rounds = refl; actions = refl; idle = refl; peak = refl }
-given-rests v w (x ∷ d) s = record { next = refl; rows = refl; rounds = refl; actions = refl; idle = refl; peak = refl }
+given-rests v w (Job j) s = record { next = refl; rows = refl; rounds = refl; actions = refl; idle = refl; peak = refl }
+given-rests v w Bare s = record { next = refl; rows = refl; rounds = refl; actions = refl; idle = refl; peak = refl }
+given-rests v w IdleVictim s = record { next = refl; rows = refl; rounds = refl; actions = refl; idle = refl; peak = refl }
 
 pub serve-rests : (v who : ℕ) (s : State) → Rests s (serve v who s)
 unfolding serve
 serve-rests v zero s = same-rests s
-serve-rests v (suc w) s = given-rests v w (dequeOf s v) s
+serve-rests v (suc w) s = given-rests v w (takeTop (dequeOf s v) (workerOf s v)) s
 
 pub turn-took : (p : Plan) (r w : ℕ) (x : Worker) (s : State) → Took r s (turnOf p r w x s)
 unfolding turnOf turn idled
-turn-took p r w Idle s = record { rounds = refl; turns = omega arith; requests = refl; steals = refl; misses = refl }
-turn-took p r w (Holding j) s = record { rounds = refl; turns = omega arith; requests = refl; steals = refl; misses = refl }
-turn-took p r w (Waiting v l) s = record { rounds = refl; turns = omega arith; requests = refl; steals = refl; misses = refl }
+turn-took p r w Idle s = record { rounds = refl; turns = omega arith; requests = refl; steals = refl; bare = refl; idle-victim = refl }
+turn-took p r w (Holding j) s = record { rounds = refl; turns = omega arith; requests = refl; steals = refl; bare = refl; idle-victim = refl }
+turn-took p r w (Waiting v l) s = record { rounds = refl; turns = omega arith; requests = refl; steals = refl; bare = refl; idle-victim = refl }
 
 -- the steps of a run
 module _ {S : Setting} {r k : ℕ} {b : List Worker} {s : State} where

@@ -8,14 +8,15 @@ use mathlib.Core.List.{List, [], _∷_, _++_}
 use native.Mathlib.Omega.{arith}
 use native.Mathlib.Decide.{ℕ-discrete}
 use lib.ListN.{set, length-set}
-use lib.Seq.{getD-set-same, getD-set-other}
+use lib.Seq.{getD-set-same, getD-set-other, set-getD}
+use Rattle.runs.specs.declared.taken.Taken.the-variants.{Job}
 use Rattle.runs.specs.declared.tally.Tally.{Tally}
 use Rattle.runs.specs.declared.worker.Worker.{Worker}
 use Rattle.runs.specs.declared.worker.Worker.the-variants.{Idle, Holding, Waiting}
 use Rattle.plan.specs.Plan.{Plan}
 use Rattle.runs.specs.Setting.{Setting}
 use Rattle.runs.specs.State.{State, nextOf, workerOf, dequeOf}
-use Rattle.runs.specs.Steal.{laid, lay, dropTop, topOf, given, serve}
+use Rattle.runs.specs.Steal.{laid, lay, dropTop, topOf, takeTop, thief, given, serve}
 use Rattle.runs.specs.Parts.{Picks}
 use Rattle.lines.proofs.Laws.Shape.{Good}
 use Rattle.lines.proofs.Laws.Steal.{steal-good}
@@ -76,13 +77,16 @@ module _ {p : Plan} (ok : Accepted p) {n : ℕ} (most : n ≤ 16) {s : State} (s
       apart : v ≢ w
       apart e = let h = ap (workerOf s) e in let z : _≡_ {A = ℕ} 0 1 = cc in omega arith
 
-      steal-sound : Sound p n (given v w (x ∷ d) s)
+      abbrev after : State
+      after = given v w (Job (topOf x d)) s
+
+      steal-sound : Sound p n after
       unfolding given
       steal-sound =
           record {
             nexts = sound .nexts;
             workers = length-set (s .workers) w (Holding (topOf x d)) ∙ sound .workers;
-            deques = length-set (s .deques) v (dropTop (x ∷ d)) ∙ sound .deques;
+            deques = length-set (s .deques) v (dropTop (dequeOf s v)) ∙ sound .deques;
             rows = sound .rows;
             good = steal-good (shape-valid p ok) (sound .good) (record {
               victim = v;
@@ -102,34 +106,46 @@ module _ {p : Plan} (ok : Accepted p) {n : ℕ} (most : n ≤ 16) {s : State} (s
           is : lineOf s v ≡ (j ∷ dropTop (x ∷ d)) ++ (topOf x d ∷ [])
           is = line-of s v holds ∙ ap (λ r. j ∷ r) (q ∙ top-split x d)
 
-          stolen : dequeOf (given v w (x ∷ d) s) v ≡ dropTop (x ∷ d)
-          stolen = getD-set-same (s .deques) v (dropTop (x ∷ d)) [] (omega (arith, sound .deques))
+          stolen : dequeOf after v ≡ dropTop (x ∷ d)
+          stolen = getD-set-same (s .deques) v (dropTop (dequeOf s v)) [] (omega (arith, sound .deques)) ∙ ap dropTop q
 
-          kept : (u : ℕ) → u ≢ v → dequeOf (given v w (x ∷ d) s) u ≡ dequeOf s u
-          kept u f = getD-set-other (s .deques) v u (dropTop (x ∷ d)) [] f
+          kept : (u : ℕ) → u ≢ v → dequeOf after u ≡ dequeOf s u
+          kept u f = getD-set-other (s .deques) v u (dropTop (dequeOf s v)) [] f
 
-          left : lineOf (given v w (x ∷ d) s) v ≡ j ∷ dropTop (x ∷ d)
+          left : lineOf after v ≡ j ∷ dropTop (x ∷ d)
           left = ap₂ lineIn (getD-set-other (s .workers) w v (Holding (topOf x d)) Idle apart ∙ holds) stolen
 
-          got : lineOf (given v w (x ∷ d) s) w ≡ topOf x d ∷ []
+          got : lineOf after w ≡ topOf x d ∷ []
           got =
               ap₂ lineIn (getD-set-same (s .workers) w (Holding (topOf x d)) Idle (omega (arith, sound .workers)))
               (kept w (λ e. apart (sym e)) ∙ sound .empty w idle)
 
-          rest : (u : ℕ) → u ≢ v → u ≢ w → lineOf (given v w (x ∷ d) s) u ≡ lineOf s u
+          rest : (u : ℕ) → u ≢ v → u ≢ w → lineOf after u ≡ lineOf s u
           rest u f g = ap₂ lineIn (getD-set-other (s .workers) w u (Holding (topOf x d)) Idle g) (kept u f)
 
-          none : (u : ℕ) → lineOf (given v w (x ∷ d) s) u ≡ [] → dequeOf (given v w (x ∷ d) s) u ≡ []
+          none : (u : ℕ) → lineOf after u ≡ [] → dequeOf after u ≡ []
           none u e = go (ℕ-discrete u v) (ℕ-discrete u w)
             where
-              go : Dec (u ≡ v) → Dec (u ≡ w) → dequeOf (given v w (x ∷ d) s) u ≡ []
+              go : Dec (u ≡ v) → Dec (u ≡ w) → dequeOf after u ≡ []
               go (yes f) g = let h = rw f at e in let z : _≡_ {A = ℕ} 0 1 = cc left in absurd (omega arith)
               go (no f) (yes g) = let h = rw g at e in let z : _≡_ {A = ℕ} 0 1 = cc got in absurd (omega arith)
               go (no f) (no g) = kept u f ∙ sound .empty u (sym (rest u f g) ∙ e)
 
-    given-sound : (d : List ℕ) → dequeOf s v ≡ d → Sound p n (given v w d s)
+    -- an empty deque stays as it was, whichever miss it is
+    missed-sound : dequeOf s v ≡ [] → (x : Worker) → Sound p n (given v w (takeTop [] x) s)
     unfolding given
-    given-sound [] q = free-sound most sound c idle Idle (λ d. refl) (given v w [] s .tally)
+    missed-sound q x =
+        let same : set (s .deques) v (dropTop (dequeOf s v)) ≡ s .deques =
+        ap (λ d. set (s .deques) v (dropTop d)) q ∙ ap (set (s .deques) v) (sym q) ∙ set-getD (s .deques) v [] in
+        rw (same, nothing x) (free-sound most sound c idle Idle (λ d. refl) (given v w (takeTop [] x) s .tally))
+      where
+        nothing : (x : Worker) → thief (takeTop [] x) ≡ Idle
+        nothing Idle = refl
+        nothing (Holding j) = refl
+        nothing (Waiting u l) = refl
+
+    given-sound : (d : List ℕ) → dequeOf s v ≡ d → Sound p n (given v w (takeTop d (workerOf s v)) s)
+    given-sound [] q = missed-sound q (workerOf s v)
     given-sound (x ∷ d) q = let (j, h) = victim-holds q in steal-sound q h
 
   pub serve-sound : (who : ℕ) → Picks v n (s .workers) who → Sound p n (serve v who s)

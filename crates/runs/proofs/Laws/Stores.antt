@@ -5,6 +5,7 @@
 --                     the round began, holds after k's turn
 --   laid-workers   == what holds of the workers, and of those with one that waits in place of a worker k that was idle as the round
 --                     began, holds after k's request
+--   thief-waits    == who was served does not wait
 --   served-workers == what holds of the workers if none is served, and of those with one that does not wait in place of the one that
 --                     is, holds after the service
 use Prim.Native.Nat.{ℕ, zero, suc, _%_}
@@ -16,15 +17,17 @@ use lib.ListN.{length, getD, set}
 use Rattle.plan.specs.Test.{both}
 use Rattle.plan.specs.Plan.{Plan, size, action}
 use Rattle.courses.specs.Ready.{ready}
+use Rattle.runs.specs.declared.taken.Taken.{Taken}
+use Rattle.runs.specs.declared.taken.Taken.the-variants.{Job, Bare, IdleVictim}
 use Rattle.runs.specs.declared.worker.Worker.{Worker}
 use Rattle.runs.specs.declared.worker.Worker.the-variants.{Idle, Holding, Waiting}
 use Rattle.runs.specs.Setting.{Setting}
-use Rattle.runs.specs.State.{State, nextOf, dequeOf}
+use Rattle.runs.specs.State.{State, nextOf, workerOf, dequeOf}
 use Rattle.runs.specs.Turn.{seatAfter, turn, idled, turnOf}
 use Rattle.runs.specs.Parts.{afterOf, aboveOf, pickOf}
 use Rattle.runs.specs.Trace.{turning, laying, serving, Trace}
 use Rattle.runs.proofs.Laws.TurnSound.{stay, seat-spawn, seat-none}
-use Rattle.runs.specs.Steal.{laid, lay, topOf, given, serve, waits}
+use Rattle.runs.specs.Steal.{laid, lay, takeTop, thief, given, serve, waits}
 
 abbrev pub victimOf : Setting → State → ℕ
 victimOf S s = getD (S .choices) (s .tally .requests % length (S .choices)) 0
@@ -41,6 +44,11 @@ seat-waits p after j i d = go (action p j i .spawn) refl
     go (suc c) e = rw (seat-spawn p after j i d e)
     go zero e = rw (seat-none p after j i d e) (stay-waits (both (ltb (suc i) (size p j)) (ready p after j)) j d)
 
+pub thief-waits : (x : Taken) → waits (thief x) ≡ 0
+thief-waits (Job j) = refl
+thief-waits Bare = refl
+thief-waits IdleVictim = refl
+
 module _ (P : List Worker → Type 0) where
   turn-workers : (p : Plan) (r k : ℕ) (x : Worker) (s : State) → P (s .workers)
       → ((j : ℕ) (y : Worker) → x ≡ Holding j → waits y ≡ 0 → P (set (s .workers) k y)) → P (turnOf p r k x s .workers)
@@ -56,17 +64,11 @@ module _ (P : List Worker → Type 0) where
   lay-workers S r k (Holding j) s i f = i
   lay-workers S r k (Waiting v l) s i f = i
 
-  pub given-workers : (v w : ℕ) (d : List ℕ) (s : State) → ((y : Worker) → waits y ≡ 0 → P (set (s .workers) w y))
-      → P (given v w d s .workers)
-  unfolding given
-  given-workers v w [] s f = f Idle refl
-  given-workers v w (x ∷ d) s f = f (Holding (topOf x d)) refl
-
   serve-workers : (v who : ℕ) (s : State) → (who ≡ 0 → P (s .workers))
       → ((w : ℕ) (y : Worker) → who ≡ suc w → waits y ≡ 0 → P (set (s .workers) w y)) → P (serve v who s .workers)
-  unfolding serve
+  unfolding serve given
   serve-workers v zero s i f = i refl
-  serve-workers v (suc w) s i f = given-workers v w (dequeOf s v) s (λ y. f w y refl)
+  serve-workers v (suc w) s i f = let x = takeTop (dequeOf s v) (workerOf s v) in f w (thief x) refl (thief-waits x)
 
   -- the same at the steps of a run
   module _ {S : Setting} {r k : ℕ} {b : List Worker} {s : State} where

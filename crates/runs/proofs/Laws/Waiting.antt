@@ -5,18 +5,20 @@
 --   requests-sum  == it holds of every state of a run
 use Prim.Native.Nat.{ℕ, zero, suc, _+_, _≤_, _<_}
 use mathlib.Core.Path.{_≡_, refl, ap, _∙_}
-use mathlib.Core.List.{List, [], _∷_}
+use mathlib.Core.List.{List}
 use mathlib.Core.Logic.{by-cases}
 use native.Mathlib.Nat.{le-refl}
 use native.Mathlib.Decide.{ℕ-discrete}
 use lib.Seq.{getD-set-same, getD-set-other}
 use native.Mathlib.Omega.{arith}
 use lib.ListN.{length, getD, set}
+use Rattle.runs.specs.declared.taken.Taken.{Taken}
+use Rattle.runs.specs.declared.taken.Taken.the-variants.{Job, Bare, IdleVictim}
 use Rattle.runs.specs.declared.worker.Worker.{Worker}
 use Rattle.runs.specs.declared.worker.Worker.the-variants.{Idle, Holding, Waiting}
 use Rattle.runs.specs.Setting.{Setting, countIn}
 use Rattle.runs.specs.State.{State, workerOf, dequeOf, start}
-use Rattle.runs.specs.Steal.{laid as laidBy, lay, topOf, given, serve, waits, waiting}
+use Rattle.runs.specs.Steal.{laid as laidBy, lay, takeTop, given, serve, waits, waiting}
 use Rattle.runs.specs.Parts.{Picks, pickOf}
 use Rattle.runs.specs.Trace.{Stage, Trace, begins, turned, goes-on, laid, all-laid, served, next-round}
 use Rattle.runs.proofs.Laws.Fit.{Fit, count-next}
@@ -50,7 +52,7 @@ module _ (ws : List Worker) (k : ℕ) (x : Worker) where
       (λ f. omega (arith, waiting-set h n (omega arith), ap waits (getD-set-other ws k n x Idle f)))
 
 abbrev pub Settled : ℕ → State → Type 0
-Settled n s = s .tally .requests ≡ s .tally .steals + s .tally .misses + waiting n (s .workers)
+Settled n s = s .tally .requests ≡ s .tally .steals + s .tally .bare + s .tally .«idle_victim» + waiting n (s .workers)
 
 module _ {n : ℕ} (s : State) (placed : n ≤ length (s .workers)) where
   -- a worker that there is gives way to another
@@ -58,16 +60,17 @@ module _ {n : ℕ} (s : State) (placed : n ≤ length (s .workers)) where
       → waiting n (set (s .workers) k x) + waits (workerOf s k) ≡ waiting n (s .workers) + waits x
   exchanged {k} h x = waiting-set (s .workers) k x (omega arith) n h
 
-  given-settled : (v w : ℕ) → w < n → waits (workerOf s w) ≡ 1 → Settled n s → (d : List ℕ) → Settled n (given v w d s)
+  given-settled : (v w : ℕ) → w < n → waits (workerOf s w) ≡ 1 → Settled n s → (x : Taken) → Settled n (given v w x s)
   unfolding given
-  given-settled v w h q i [] = omega (arith, exchanged h Idle)
-  given-settled v w h q i (x ∷ d) = omega (arith, exchanged h (Holding (topOf x d)))
+  given-settled v w h q i (Job j) = omega (arith, exchanged h (Holding j))
+  given-settled v w h q i Bare = omega (arith, exchanged h Idle)
+  given-settled v w h q i IdleVictim = omega (arith, exchanged h Idle)
 
   -- whoever is served
   serve-settled : (v who : ℕ) → Picks v n (s .workers) who → Settled n s → Settled n (serve v who s)
   unfolding serve
   serve-settled v zero picks i = i
-  serve-settled v (suc w) picks i = let (h, l, e) = picks w refl in given-settled v w h (ap waits e) i (dequeOf s v)
+  serve-settled v (suc w) picks i = let (h, l, e) = picks w refl in given-settled v w h (ap waits e) i (takeTop (dequeOf s v) (workerOf s v))
 
 module _ {S : Setting} (fit : Fit S) where
   open Setting S using (plan)

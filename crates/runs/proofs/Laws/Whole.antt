@@ -85,7 +85,7 @@ module _ {S : Setting} (fit : Fit S) where
   -- so every count but the peak stays small
   pub counts-small : {r : ℕ} {b : List Worker} {g : Stage} {s : State} → Trace S r b g s
       → (r ≤ 2048) × (s .tally .rounds ≤ r) × (s .tally .actions ≤ 2048) × (s .tally .idle ≤ 32768) × (s .tally .requests ≤ 32768)
-      × (s .tally .steals ≤ 32768) × (s .tally .misses ≤ 32768)
+      × (s .tally .steals ≤ 32768) × (s .tally .bare ≤ 32768) × (s .tally .«idle_victim» ≤ 32768)
   counts-small {r} {g = g} {s} t =
       let few : r ≤ 2048 = omega (arith, round-most fit t, work-range plan (fit .plan)) in
       let all = counts-most fit r in
@@ -96,6 +96,7 @@ module _ {S : Setting} (fit : Fit S) where
         omega (arith, actions-most fit t, work-range plan (fit .plan)),
         omega (arith, turns-most fit t),
         requests,
+        omega arith,
         omega arith,
         omega arith,
       )
@@ -150,10 +151,11 @@ module _ {S : Setting} (fit : Fit S) where
 
   -- each request was a steal or a miss, or its worker still waits
   pub run-requests : run S .tally .requests
-      ≡ run S .tally .steals + run S .tally .misses + waiting (S .workers) (run S .workers)
+      ≡ run S .tally .steals + run S .tally .bare + run S .tally .«idle_victim» + waiting (S .workers) (run S .workers)
   run-requests =
       let (r, b, t, e, q) = run-trace in
-      requests-sum fit t ∙ ap (λ k. run S .tally .steals + run S .tally .misses + waiting k (run S .workers)) (count-is S r)
+      let u = run S .tally in
+      requests-sum fit t ∙ ap (λ k. u .steals + u .bare + u .«idle_victim» + waiting k (run S .workers)) (count-is S r)
 
   -- a worker that is alone does one action in each round
   pub lone-rounds : S .workers ≡ 1 → run S .tally .rounds ≡ work plan

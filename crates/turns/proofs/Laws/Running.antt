@@ -40,7 +40,7 @@ module _ {S : Setting} {r : ℕ} {b : List Worker} {g : Stage} {s : State} (run 
   run-sound = trace-sound run-fit (run .trace)
 
   pub run-counts : (r ≤ 2048) × (s .tally .rounds ≤ r) × (s .tally .actions ≤ 2048) × (s .tally .idle ≤ 32768)
-      × (s .tally .requests ≤ 32768) × (s .tally .steals ≤ 32768) × (s .tally .misses ≤ 32768)
+      × (s .tally .requests ≤ 32768) × (s .tally .steals ≤ 32768) × (s .tally .bare ≤ 32768) × (s .tally .«idle_victim» ≤ 32768)
   run-counts = counts-small run-fit (run .trace)
 
   pub run-countable : {t : Tally} → t ≡ s .tally → Countable t
@@ -50,7 +50,8 @@ module _ {S : Setting} {r : ℕ} {b : List Worker} {g : Stage} {s : State} (run 
         actions = omega (arith, q .2);
         requests = omega (arith, q .4);
         steals = omega (arith, q .5);
-        misses = omega (arith, q .6);
+        bare = omega (arith, q .6);
+        idle-victim = omega (arith, q .7);
       })
 
   pub run-restable : {t : Tally} (k : ℕ) → k ≤ 16 → t ≡ s .tally → Restable t k

@@ -1,0 +1,15 @@
+-- `count::with_bare` meets its contract.
+use mathlib.Core.Path.{refl}
+use native.Mathlib.Numerals.{add-one}
+use native.Mathlib.Omega.{arith}
+use Rattle.turns.proofs.count.with_bare.Statement.{statement}
+use Rattle.turns.proofs.count.with_bare.Tie as tie
+
+add-u : tie.Need-add-u
+add-u c = omega (arith, c .before .pre)
+
+returns : tie.Need-returns
+returns c = rw add-one refl
+
+pub with-bare-spec : {M : Type 1} → statement M
+with-bare-spec = tie.close (tie.spec add-u returns)
