@@ -2,7 +2,7 @@
 ghost use mathlib.Core.Path.{_≡_};
 ghost use mathlib.Core.Bool.{true, false};
 ghost use Prim.Native.Nat.{_-_, _^_, _≤_, _<_};
-ghost use Rattle.crew.specs.Crew.{Marked, Lowest, Rest};
+ghost use Rattle.crew.specs.Crew.{member, Marked, Lowest, Rest};
 
 // The set of worker w alone.
 fn one(w: usize) -> u32
@@ -18,6 +18,14 @@ pub fn others(n: usize) -> u32
     ensures { λ r. ⌜ r ≡ 2 ^ n - 2 ⌝ }
 {
     (1u32 << (n as u32)) - 2
+}
+
+// Whether worker w is in the set.
+pub fn has(set: u32, w: usize) -> bool
+    requires { ⌜ w < 16 ⌝ }
+    ensures { λ r. ⌜ r ≡ member set w ⌝ }
+{
+    (set >> (w as u32)) % 2 == 1
 }
 
 // The set with worker w in it.

@@ -3,9 +3,10 @@
 --   dequeAt             == the n jobs from place `top` of deque w on, the bottom one first
 --   Dequed deques ds    == the array holds the deques ds, each within its places; a job stands at a place not above its number
 --   Pushing, Pushed     == job j goes on the bottom of deque w, whose bottom job is of smaller number; it has gone there
---   TookBottom, TookTop == what taking the bottom job of deque w, and the top of deque v of a victim, gives and leaves
+--   TookBottom, TookTop == what taking the bottom job of deque w, and the top of victim v's deque, gives and leaves
 use Prim.Native.Nat.{ℕ, zero, suc, _+_, _*_, _≤_, _<_}
 use mathlib.Core.Path.{_≡_}
+use mathlib.Core.Bool.{Bool}
 use mathlib.Core.List.{List, [], _∷_}
 use lib.ListN.{length, getD, set}
 use Rattle.runs.specs.declared.taken.Taken.{Taken}
@@ -45,5 +46,5 @@ Pushed w j deques ds = Dequed deques (set ds w (j ∷ getD ds w []))
 abbrev pub TookBottom : ℕ → Worker → List ℕ → List (List ℕ) → Type 0
 TookBottom w worker deques ds = (worker ≡ takeBottom (getD ds w []) .worker) × Dequed deques (set ds w (takeBottom (getD ds w []) .deque))
 
-abbrev pub TookTop : ℕ → Worker → Taken → List ℕ → List (List ℕ) → Type 0
-TookTop v victim taken deques ds = (taken ≡ takeTop (getD ds v []) victim) × Dequed deques (set ds v (dropTop (getD ds v [])))
+abbrev pub TookTop : ℕ → Bool → Taken → List ℕ → List (List ℕ) → Type 0
+TookTop v held taken deques ds = (taken ≡ takeTop (getD ds v []) held) × Dequed deques (set ds v (dropTop (getD ds v [])))

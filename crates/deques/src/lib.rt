@@ -94,25 +94,24 @@ pub fn take_bottom(deques: &mut Deques, w: usize) -> Worker
     Worker::Holding(j)
 }
 
-// Which miss it is where the victim's deque is empty.
-fn miss_of(victim: Worker) -> Taken
-    ensures { λ r. ⌜ r ≡ takeTop [] victim ⌝ }
+// Which miss it is where the deque of a victim is empty; `held` says whether the victim holds a job.
+fn miss_of(held: bool) -> Taken
+    ensures { λ r. ⌜ r ≡ takeTop [] held ⌝ }
 {
-    match victim {
-        Worker::Holding(_) => Taken::Bare,
-        Worker::Idle => Taken::IdleVictim,
-        Worker::Waiting { victim: _, laid: _ } => Taken::IdleVictim,
+    if held {
+        return Taken::Bare;
     }
+    Taken::IdleVictim
 }
 
-// Takes the top of deque v, which is that of the victim as it stands now: its top job, or which of the two misses it is.
-pub fn take_top(deques: &mut Deques, v: usize, victim: Worker) -> Taken
+// Takes the top of victim v's deque: its top job, or which of the two misses it is.
+pub fn take_top(deques: &mut Deques, v: usize, held: bool) -> Taken
     requires { ⌜ Some (Dequed (now deques)) × (v < 16) ⌝ }
-    ensures { λ r. ⌜ Dequed (before deques) ⇒ TookTop v victim r (after deques) ⌝ }
+    ensures { λ r. ⌜ Dequed (before deques) ⇒ TookTop v held r (after deques) ⌝ }
 {
     let n = len_of(deques, v);
     if n == 0 {
-        return miss_of(victim);
+        return miss_of(held);
     }
     let at = top_of(deques, v);
     let j = job_at(deques, v, at);

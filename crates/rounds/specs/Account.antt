@@ -15,8 +15,8 @@ use Rattle.crew.specs.Crew.{member, Marked}
 use Rattle.crew.specs.Line.{Leaving}
 use Rattle.runs.specs.declared.taken.Taken.{Taken}
 use Rattle.runs.specs.declared.worker.Worker.{Worker}
-use Rattle.runs.specs.Tally.{noCounts, withAction, withRequest}
-use Rattle.runs.specs.Steal.{thief, withService}
+use Rattle.runs.specs.Tally.{noCounts, withAction, withRequest, withService}
+use Rattle.runs.specs.Steal.{thief}
 use Rattle.turns.specs.Worker.{holds, isIdle}
 use Rattle.turns.specs.Count.{Countable, Restable, withIdles}
 use Rattle.rounds.specs.declared.account.Account.{Account}

@@ -18,10 +18,8 @@ use runs::worker::Worker;
 use turns::count::acted;
 use turns::count::idled;
 use turns::count::no_counts;
-use turns::count::with_bare;
-use turns::count::with_idle_victim;
 use turns::count::with_request;
-use turns::count::with_steal;
+use turns::count::with_service;
 
 pub struct Account {
     pub weight: u32,
@@ -129,27 +127,28 @@ pub fn served(account: Account, v: usize, left: u64, w: usize, taken: Taken) -> 
     ensures { λ a. ⌜ ServiceNoted account v left w taken a ⌝ }
 {
     let victims = still_asked(account.victims, v, left);
+    let tally = with_service(account.tally, taken);
     match taken {
         Taken::Job(_) => Account {
             weight: account.weight,
             holders: with(account.holders, w),
             idlers: account.idlers,
             victims,
-            tally: with_steal(account.tally),
+            tally,
         },
         Taken::Bare => Account {
             weight: account.weight,
             holders: account.holders,
             idlers: with(account.idlers, w),
             victims,
-            tally: with_bare(account.tally),
+            tally,
         },
         Taken::IdleVictim => Account {
             weight: account.weight,
             holders: account.holders,
             idlers: with(account.idlers, w),
             victims,
-            tally: with_idle_victim(account.tally),
+            tally,
         },
     }
 }

@@ -96,8 +96,7 @@ pub fn run_rounds(
         left = a.victims;
         while left != 0 {
             let v = lowest(left);
-            let victim = workers[v];
-            let after = serve(a, v, victim, &mut lines, &mut deques);
+            let after = serve(a, v, &mut lines, &mut deques);
             let who = after.who;
             let taken = after.taken;
             workers[who] = thief(taken);

@@ -1,6 +1,7 @@
 // Requests and services, the second half of a round (document 01, "Worker and round").
 ghost use mathlib.Core.Path.{_≡_};
 ghost use Rattle.plan.specs.Contract.{Some, _⇒_, before, after};
+ghost use Rattle.crew.specs.Crew.{member};
 ghost use Rattle.crew.specs.Line.{waitingAt, LiningUp, LinedUp, Gone, Beside};
 ghost use Rattle.runs.specs.Steal.{thief as thiefOf};
 ghost use Rattle.deques.specs.Dequed.{Dequed, TookTop};
@@ -13,6 +14,7 @@ use crew::line::Lines;
 use crew::line::leave_line;
 use crew::line::line_up;
 use crew::line::waiting_at;
+use crew::set::has;
 use deques::Deques;
 use deques::take_top;
 use runs::taken::Taken;
@@ -35,21 +37,15 @@ pub struct Served {
     pub account: Account,
 }
 
-// Victim v, which has requests and stands as given, serves the oldest.
-pub fn serve(
-    account: Account,
-    v: usize,
-    victim: Worker,
-    lines: &mut Lines,
-    deques: &mut Deques,
-) -> Served
+// Victim v, which has requests, serves the oldest.
+pub fn serve(account: Account, v: usize, lines: &mut Lines, deques: &mut Deques) -> Served
     requires { ⌜ Some (Serving account v (now lines)) × Some (Dequed (now deques)) ⌝ }
     ensures { λ s. ⌜ (Serving account v (before lines) ⇒ Gone v 0 (s .who) (after lines)) × Beside v (before lines) (after lines)
-        × (Dequed (before deques) ⇒ TookTop v victim (s .taken) (after deques))
+        × (Dequed (before deques) ⇒ TookTop v (member (account .holders) v) (s .taken) (after deques))
         × ServiceNoted account v (waitingAt (after lines) v) (s .who) (s .taken) (s .account) ⌝ }
 {
     let who = leave_line(lines, v, 0);
-    let taken = take_top(deques, v, victim);
+    let taken = take_top(deques, v, has(account.holders, v));
     let account = served(account, v, waiting_at(lines, v), who, taken);
     Served {
         who,

@@ -1,16 +1,17 @@
 -- The state of a run (document 01, "Worker and round").
---   Worker       == holds a job, waits with a request on a named victim, or is idle
+--   Worker       == holds a job, waits with a request on a named victim, or is idle; holds x == the worker x holds a job
 --   Tally        == "rounds, actions, idle turns, requests, steals, misses, peak", the misses in two counts: "`bare` .. and `idle-victim`"
 --   State        == the next position of each job, the workers, their deques from the bottom up, the rows in plan order, the tally
 --   start p      == how a run begins
 use Prim.Native.Nat.{ℕ}
+use mathlib.Core.Bool.{Bool, true, false}
 use mathlib.Core.List.{List, [], _∷_}
 use lib.ListN.{length, getD, replicate}
 use Rattle.plan.specs.Plan.{Plan, job, total}
 use Rattle.courses.specs.Row.{Row, noRow}
 use Rattle.runs.specs.declared.tally.Tally.{Tally}
 use Rattle.runs.specs.declared.worker.Worker.{Worker}
-use Rattle.runs.specs.declared.worker.Worker.the-variants.{Idle, Holding}
+use Rattle.runs.specs.declared.worker.Worker.the-variants.{Idle, Holding, Waiting}
 use Rattle.runs.specs.Tally.{noCounts}
 
 -- each deque as its jobs, the bottom one first; a job that is stolen is taken from the other end, the top
@@ -26,6 +27,11 @@ nextOf s j = getD (s .next) j 0
 
 abbrev pub workerOf : State → ℕ → Worker
 workerOf s w = getD (s .workers) w Idle
+
+abbrev pub holds : Worker → Bool
+holds Idle = false
+holds (Holding j) = true
+holds (Waiting v l) = false
 
 abbrev pub dequeOf : State → ℕ → List ℕ
 dequeOf s w = getD (s .deques) w []

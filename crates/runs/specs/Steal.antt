@@ -1,24 +1,23 @@
 -- Requests and services, the second half of a round (document 01, "Worker and round"; document 02, L2).
 --   lay S r w x s  == in round r worker w, which was x when it began, lays a request if x is idle; lays S r k b s == those below k
 --   oldest v k ws  == which of the workers below k has the request that victim v serves: the worker's number plus 1, or 0
---   takeTop d x    == what taking the top of the deque d of the victim x gives: a job, or which of the two misses it is
---   thief, withService == the worker that was served and the counts, by what was taken; given v w .. s == the state, of victim v and worker w
+--   takeTop d held == what taking the top of a victim's deque d gives: a job, or which of the two misses it is
+--   thief x        == the worker that was served, by what was taken; given v w x s == the state, of victim v and worker w
 --   serve v q s    == victim v serves the worker of number q - 1, or none if q is 0; serves S r k s == the victims below k
 --   waits x        == 1 where the worker x waits with a request, or 0
 --   waiting k ws   == how many requests wait, of the workers below k
 use Prim.Native.Nat.{ℕ, zero, suc, _+_, _%_}
-use mathlib.Core.Bool.{true, false}
+use mathlib.Core.Bool.{Bool, true, false}
 use mathlib.Core.List.{List, [], _∷_}
 use lib.ListN.{length, getD, set}
 use lib.Dec.{eqb, ltb}
 use Rattle.runs.specs.declared.taken.Taken.{Taken}
 use Rattle.runs.specs.declared.taken.Taken.the-variants.{Job, Bare, IdleVictim}
-use Rattle.runs.specs.declared.tally.Tally.{Tally}
 use Rattle.runs.specs.declared.worker.Worker.{Worker}
 use Rattle.runs.specs.declared.worker.Worker.the-variants.{Idle, Holding, Waiting}
 use Rattle.runs.specs.Setting.{Setting, countIn}
-use Rattle.runs.specs.Tally.{withRequest, withSteal, withBare, withIdleVictim}
-use Rattle.runs.specs.State.{State, workerOf, dequeOf}
+use Rattle.runs.specs.Tally.{withRequest, withService}
+use Rattle.runs.specs.State.{State, workerOf, holds, dequeOf}
 
 -- "request number k (from 0) reads entry k modulo the length"
 unfoldable pub laid : Setting → ℕ → ℕ → State → State
@@ -78,21 +77,15 @@ topOf x [] = x
 topOf x (y ∷ d) = topOf y d
 
 -- "Taking the top of a deque now tells which": "`bare` (the victim holds a job at that moment) and `idle-victim`"
-abbrev pub takeTop : List ℕ → Worker → Taken
-takeTop (x ∷ d) victim = Job (topOf x d)
-takeTop [] (Holding j) = Bare
-takeTop [] Idle = IdleVictim
-takeTop [] (Waiting v l) = IdleVictim
+abbrev pub takeTop : List ℕ → Bool → Taken
+takeTop (x ∷ d) held = Job (topOf x d)
+takeTop [] true = Bare
+takeTop [] false = IdleVictim
 
 abbrev pub thief : Taken → Worker
 thief (Job j) = Holding j
 thief Bare = Idle
 thief IdleVictim = Idle
-
-abbrev pub withService : Tally → Taken → Tally
-withService t (Job j) = withSteal t
-withService t Bare = withBare t
-withService t IdleVictim = withIdleVictim t
 
 -- "The top job of the victim's deque goes to that worker, or it is a miss." An empty deque stays empty.
 unfoldable pub given : ℕ → ℕ → Taken → State → State
@@ -108,7 +101,7 @@ given v w taken s =
 unfoldable pub serve : ℕ → ℕ → State → State
 unfolding given
 serve v zero s = s
-serve v (suc w) s = given v w (takeTop (dequeOf s v) (workerOf s v)) s
+serve v (suc w) s = given v w (takeTop (dequeOf s v) (holds (workerOf s v))) s
 
 -- "every victim, in rising number, serves one request"
 unfoldable pub serves : Setting → ℕ → ℕ → State → State

@@ -7,7 +7,10 @@
 --   withSteal t           == after a service that gave the top job of the victim's deque
 --   withBare t            == after a service that gave none, of a victim that holds a job
 --   withIdleVictim t      == after a service that gave none, of a victim that holds none
+--   withService t x       == after a service, by what was taken
 use Prim.Native.Nat.{ℕ, suc, max}
+use Rattle.runs.specs.declared.taken.Taken.{Taken}
+use Rattle.runs.specs.declared.taken.Taken.the-variants.{Job, Bare, IdleVictim}
 use Rattle.runs.specs.declared.tally.Tally.{Tally}
 
 abbrev pub noCounts : ℕ → Tally
@@ -84,3 +87,8 @@ withIdleVictim t = record {
   «idle_victim» = suc (t .«idle_victim»);
   peak = t .peak;
 }
+
+abbrev pub withService : Tally → Taken → Tally
+withService t (Job j) = withSteal t
+withService t Bare = withBare t
+withService t IdleVictim = withIdleVictim t

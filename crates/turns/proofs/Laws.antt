@@ -6,4 +6,5 @@ pub mod Held
 pub mod Sending
 pub mod Settling
 pub mod Rows
+pub mod Counting
 pub mod TallyCell

@@ -3,8 +3,12 @@
 --   Restable t turns    == so many idle turns more can be counted in 32 bits
 --   recounted t r idle  == the tally t with other counts of rounds and idle turns: the one tally written out beside runs' updates,
 --                          which count one event each
+--   jobsIn, baresIn, idleVictimsIn x == 1 where a job was taken, where a bare miss was met, where one of an idle victim was; or 0
+--   served t x          == the tally t with these added to its counts of what services met
 --   withIdles t r turns == the tally t after so many idle turns of round r, one of whose turns has been taken
 use Prim.Native.Nat.{ℕ, _+_, _<_}
+use Rattle.runs.specs.declared.taken.Taken.{Taken}
+use Rattle.runs.specs.declared.taken.Taken.the-variants.{Job, Bare, IdleVictim}
 use Rattle.runs.specs.declared.tally.Tally.{Tally}
 
 pub record Countable (t : Tally) : Type 0 where
@@ -31,3 +35,30 @@ recounted t r idle = record {
 
 abbrev pub withIdles : Tally → ℕ → ℕ → Tally
 withIdles t r turns = recounted t r (t .idle + turns)
+
+abbrev pub jobsIn : Taken → ℕ
+jobsIn (Job j) = 1
+jobsIn Bare = 0
+jobsIn IdleVictim = 0
+
+abbrev pub baresIn : Taken → ℕ
+baresIn (Job j) = 0
+baresIn Bare = 1
+baresIn IdleVictim = 0
+
+abbrev pub idleVictimsIn : Taken → ℕ
+idleVictimsIn (Job j) = 0
+idleVictimsIn Bare = 0
+idleVictimsIn IdleVictim = 1
+
+abbrev pub served : Tally → Taken → Tally
+served t x = record {
+  rounds = t .rounds;
+  actions = t .actions;
+  idle = t .idle;
+  requests = t .requests;
+  steals = t .steals + jobsIn x;
+  bare = t .bare + baresIn x;
+  «idle_victim» = t .«idle_victim» + idleVictimsIn x;
+  peak = t .peak;
+}

@@ -4,11 +4,7 @@
 use mathlib.Core.Bool.{Bool, true, false}
 use Rattle.runs.specs.declared.worker.Worker.{Worker}
 use Rattle.runs.specs.declared.worker.Worker.the-variants.{Idle, Holding, Waiting}
-
-abbrev pub holds : Worker → Bool
-holds Idle = false
-holds (Holding j) = true
-holds (Waiting v l) = false
+pub use Rattle.runs.specs.State.{holds}
 
 abbrev pub isIdle : Worker → Bool
 isIdle Idle = true

@@ -4,11 +4,12 @@
 // Their proofs, and those of the two that lend it, are walks by hand that know no count; whoever calls `acted` or `idled` passes a
 // tally by value and needs none.
 ghost use mathlib.Core.Path.{_≡_};
-ghost use Prim.Native.Nat.{_<_};
+ghost use Prim.Native.Nat.{_≤_, _<_};
 ghost use Rattle.plan.specs.Contract.{before, after};
-ghost use Rattle.turns.specs.Count.{Countable, Restable, withIdles};
-ghost use Rattle.runs.specs.Tally.{noCounts, withAction, withRequest, withSteal, withBare, withIdleVictim};
+ghost use Rattle.turns.specs.Count.{Countable, Restable, withIdles, jobsIn, baresIn, idleVictimsIn};
+ghost use Rattle.runs.specs.Tally.{noCounts, withAction, withRequest, withService};
 use numbers::larger;
+use runs::taken::Taken;
 use runs::tally::Tally;
 
 // As a run begins; `frame` is job 0's.
@@ -60,33 +61,46 @@ pub fn with_request(t: Tally) -> Tally
     u
 }
 
-// A service that gave a job.
-pub fn with_steal(t: Tally) -> Tally
-    requires { ⌜ Countable t ⌝ }
-    ensures { λ r. ⌜ r ≡ withSteal t ⌝ }
+// 1 where a job was taken, 1 where the miss was bare, and 1 where it was of an idle victim; 0 where not.
+fn jobs_in(taken: Taken) -> u32
+    ensures { λ r. ⌜ (r ≡ jobsIn taken) × (r ≤ 1) ⌝ }
 {
-    let mut u = t;
-    u.steals = t.steals + 1;
-    u
+    match taken {
+        Taken::Job(_) => 1,
+        Taken::Bare => 0,
+        Taken::IdleVictim => 0,
+    }
 }
 
-// A service that gave none, of a victim that holds a job.
-pub fn with_bare(t: Tally) -> Tally
-    requires { ⌜ Countable t ⌝ }
-    ensures { λ r. ⌜ r ≡ withBare t ⌝ }
+fn bares_in(taken: Taken) -> u32
+    ensures { λ r. ⌜ (r ≡ baresIn taken) × (r ≤ 1) ⌝ }
 {
-    let mut u = t;
-    u.bare = t.bare + 1;
-    u
+    match taken {
+        Taken::Job(_) => 0,
+        Taken::Bare => 1,
+        Taken::IdleVictim => 0,
+    }
 }
 
-// A service that gave none, of a victim that holds none.
-pub fn with_idle_victim(t: Tally) -> Tally
+fn idle_victims_in(taken: Taken) -> u32
+    ensures { λ r. ⌜ (r ≡ idleVictimsIn taken) × (r ≤ 1) ⌝ }
+{
+    match taken {
+        Taken::Job(_) => 0,
+        Taken::Bare => 0,
+        Taken::IdleVictim => 1,
+    }
+}
+
+// A service, by what was taken. Which of the misses it is is hard to foresee, so that there is no branch on it.
+pub fn with_service(t: Tally, taken: Taken) -> Tally
     requires { ⌜ Countable t ⌝ }
-    ensures { λ r. ⌜ r ≡ withIdleVictim t ⌝ }
+    ensures { λ r. ⌜ r ≡ withService t taken ⌝ }
 {
     let mut u = t;
-    u.idle_victim = t.idle_victim + 1;
+    u.steals = t.steals + jobs_in(taken);
+    u.bare = t.bare + bares_in(taken);
+    u.idle_victim = t.idle_victim + idle_victims_in(taken);
     u
 }
 

@@ -1,5 +1,6 @@
 -- Which workers are in a set that is made of other sets.
 --   member-none, member-small   == nobody is in the set 0, and none from n on in a number below 2 ^ n
+--   member-digit                == who is in a set, by its digit
 --   and-half, and-odd           == of what two sets share: its upper digits, and its lowest one
 --   member-one, member-but      == of the set of one worker, and of the set of all below k but one
 --   member-with, member-without == a worker comes in, or goes out
@@ -7,7 +8,7 @@
 use Prim.Native.Nat.{ℕ, zero, suc, suc-le-suc, _+_, _-_, _*_, _/_, _%_, _^_, _≤_, _<_, min, max}
 use mathlib.Core.Path.{_≡_, refl, sym, ap, _∙_}
 use mathlib.Core.Bool.{Bool, true, false, not}
-use native.Mathlib.Nat.{one-mul, pow-suc, max-le, min-le-left, lt-of-le-of-lt, mul-mod-left, mul-div-cancel}
+use native.Mathlib.Nat.{div-one, div-div-eq-div-mul, one-mul, pow-suc, pow-succ', max-le, min-le-left, lt-of-le-of-lt, mul-mod-left, mul-div-cancel}
 use native.Mathlib.Omega.{arith}
 use borrow.Author.Tests.{ltb-true, ltb-false}
 use lib.Dec.{lit<, eqb, ltb, eqb·zero-suc, eqb·suc-zero, eqb·suc-suc}
@@ -25,6 +26,13 @@ unfolding member
 member-small zero s w h l = let e : s ≡ 0 = omega arith in rw e (member-none w)
 member-small (suc n) s zero h l = absurd (omega arith)
 member-small (suc n) s (suc w) h l = member-small n (s / 2) w (let e = pow-suc 2 n in omega arith) (omega arith)
+
+-- `s >> w`
+pub member-digit : (s w : ℕ) → member s w ≡ odd (s / 2 ^ w)
+unfolding member
+member-digit s zero = ap odd (sym (div-one s))
+member-digit s (suc w) =
+    member-digit (s / 2) w ∙ ap odd (div-div-eq-div-mul s 2 (2 ^ w) ∙ ap (λ (x : ℕ). s / x) (sym (pow-succ' 2 w)))
 
 -- one digit of each
 digit-or : (x y : ℕ) → x < 2 → y < 2 → eqb (max x y) 1 ≡ whether (eqb x 1) true (eqb y 1)

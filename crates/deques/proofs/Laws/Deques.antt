@@ -1,11 +1,12 @@
 -- The sixteen deques in one array: what a store, a shorter deque and a top that moves on make of them.
 --   bottom-none, bottom-taken == the bottom job of deque w is taken, where it has none, and where it has n jobs
---   top-none, top-taken       == the top is, of a victim that stands as given
+--   top-none, top-taken       == the top of a victim's deque is
 --   push-place                == the place behind the bottom job is not above the number of a job that may go there
 --   pushed-first, pushed-next == such a job goes on the bottom, where deque w has no job, and where it has n
 use Prim.Native.Nat.{ℕ, zero, suc, _+_, _-_, _*_, _≤_, _<_}
 use mathlib.Core.Path.{_≡_, refl, ap, sym, _∙_}
 use mathlib.Core.Logic.{_≢_, by-cases}
+use mathlib.Core.Bool.{Bool}
 use mathlib.Core.List.{List, [], _∷_}
 use native.Mathlib.Numerals.{add-one}
 use native.Mathlib.Nat.{zero-add}
@@ -14,7 +15,6 @@ use native.Mathlib.Decide.{ℕ-discrete}
 use lib.ListN.{length, getD, set, length-set}
 use lib.Seq.{getD-set-same, getD-set-other, set-getD}
 use Rattle.runs.specs.declared.taken.Taken.the-variants.{Job}
-use Rattle.runs.specs.declared.worker.Worker.{Worker}
 use Rattle.runs.specs.declared.worker.Worker.the-variants.{Idle, Holding}
 use Rattle.runs.specs.Steal.{dropTop, topOf, takeTop}
 use Rattle.deques.specs.Dequed.{jobAt, topAt, lenAt, dequeAt, Dequed, Pushing, Pushed, TookBottom, TookTop}
@@ -98,16 +98,16 @@ module _ {l : List ℕ} {ds : List (List ℕ)} (q : Dequed l ds) (w : ℕ) (h : 
       rw (z, ← deque-of (suc m) e) (refl, shorter m (dequeAt l w (topAt l w) m) refl (omega arith))
 
   -- no job, or the top one
-  pub top-none : 0 ≡ lenAt l w → (victim : Worker) → TookTop w victim (takeTop [] victim) l ds
-  top-none e victim =
+  pub top-none : 0 ≡ lenAt l w → (held : Bool) → TookTop w held (takeTop [] held) l ds
+  top-none e held =
       let z : getD ds w [] ≡ [] = sym (deque-of 0 e) in
       let k : set ds w [] ≡ ds = rw z at (set-getD ds w []) in
       rw (z, k) (refl, q)
 
-  pub top-taken : (n : ℕ) → n ≡ lenAt l w → n ≢ 0 → (victim : Worker)
-      → TookTop w victim (Job (jobAt l w (topAt l w))) (set (set l (4096 + w) (topAt l w + 1)) (4112 + w) (n - 1)) ds
-  top-taken zero e f victim = absurd (f refl)
-  top-taken (suc m) e f victim =
+  pub top-taken : (n : ℕ) → n ≡ lenAt l w → n ≢ 0 → (held : Bool)
+      → TookTop w held (Job (jobAt l w (topAt l w))) (set (set l (4096 + w) (topAt l w + 1)) (4112 + w) (n - 1)) ds
+  top-taken zero e f held = absurd (f refl)
+  top-taken (suc m) e f held =
       let z : suc m - 1 ≡ m = omega arith in
       rw (z, add-one, ← deque-of (suc m) e) (
         ap Job (sym (deque-top l w t m)),

@@ -17,7 +17,7 @@ returns c ds q =
     let n = c .before .before in
     let a = n .before .before in
     rw (c .miss-of .ensures)
-    (top-none q (a .args .v) (a .pre .1) (sym (c .before .if1 .taken) ∙ n .len-of .ensures .0) (a .args .victim))
+    (top-none q (a .args .v) (a .pre .1) (sym (c .before .if1 .taken) ∙ n .len-of .ensures .0) (a .args .held))
 
 top-of-requires : tie.Need-top-of-requires
 top-of-requires c κs = search needs
@@ -50,7 +50,7 @@ returns-2 c ds q =
     let n = t .before .before .before in
     let a = n .before .before in
     rw (c .set-len .ensures, s .set-top .ensures, j .job-at .ensures, t .top-of .ensures .0)
-    (top-taken q (a .args .v) (a .pre .1) (n .len-of .result) (n .len-of .ensures .0) (t .before .before .if1 .left) (a .args .victim))
+    (top-taken q (a .args .v) (a .pre .1) (n .len-of .result) (n .len-of .ensures .0) (t .before .before .if1 .left) (a .args .held))
 
 pub take-top-spec : {M : Type 1} → statement M
 take-top-spec =

@@ -8,11 +8,10 @@ use lib.Dec.{ltb}
 use Rattle.crew.specs.Crew.{Marked}
 use Rattle.crew.proofs.Laws.Crews.{marked-as-was}
 use Rattle.runs.specs.declared.taken.Taken.{Taken}
-use Rattle.runs.specs.declared.taken.Taken.the-variants.{Job}
 use Rattle.runs.specs.declared.tally.Tally.{Tally}
 use Rattle.runs.specs.declared.worker.Worker.the-variants.{Idle, Holding, Waiting}
-use Rattle.runs.specs.Tally.{withAction, withSteal}
-use Rattle.runs.specs.Steal.{thief, withService}
+use Rattle.runs.specs.Tally.{withAction, withService}
+use Rattle.runs.specs.Steal.{thief}
 use Rattle.turns.specs.Count.{withIdles}
 use Rattle.rounds.specs.declared.account.Account.{Account}
 use Rattle.rounds.specs.Account.{Turnable, TurnNoted, Servable, ServiceNoted}
@@ -41,18 +40,13 @@ module _ {a : Account} {r w gap weighs : ℕ} (g : Turnable a r w gap) {acted t 
         (record { weight = weighs; holders = holders; idlers = a .idlers; victims = a .victims; tally = t })
     turn-noted-waiting = record { weighed = refl; counts = rw (d, z) at e; holders = h; idlers = marked-as-was (g .busy); victims = refl }
 
-module _ {a : Account} {v left w victims : ℕ} (g : Servable a v w) (k : Marked v (ltb 0 left) (a .victims) victims) {t : Tally} where
-  pub service-noted-job : {j holders : ℕ} → t ≡ withSteal (a .tally) → Marked w true (a .holders) holders
-      → ServiceNoted a v left w (Job j)
-      (record { weight = a .weight; holders = holders; idlers = a .idlers; victims = victims; tally = t })
-  service-noted-job e h = record { weighed = refl; counts = e; holders = h; idlers = marked-as-was (g .waits .1); victims = k }
+-- x is what was taken, and t the tally with it
+module _ {a : Account} {v left w victims : ℕ} (g : Servable a v w) (k : Marked v (ltb 0 left) (a .victims) victims) (x : Taken) {t : Tally}
+    (e : t ≡ withService (a .tally) x) where
+  pub service-noted-job : {j : ℕ} → thief x ≡ Holding j → {holders : ℕ} → Marked w true (a .holders) holders
+      → ServiceNoted a v left w x (record { weight = a .weight; holders = holders; idlers = a .idlers; victims = victims; tally = t })
+  service-noted-job q h = record { weighed = refl; counts = e; holders = rw q h; idlers = rw q (marked-as-was (g .waits .1)); victims = k }
 
-  pub service-noted-missed : (x : Taken) → thief x ≡ Idle → {idlers : ℕ} → t ≡ withService (a .tally) x → Marked w true (a .idlers) idlers
+  pub service-noted-missed : thief x ≡ Idle → {idlers : ℕ} → Marked w true (a .idlers) idlers
       → ServiceNoted a v left w x (record { weight = a .weight; holders = a .holders; idlers = idlers; victims = victims; tally = t })
-  service-noted-missed x q e i = record {
-    weighed = refl;
-    counts = e;
-    holders = rw q (marked-as-was (g .waits .0));
-    idlers = rw q i;
-    victims = k;
-  }
+  service-noted-missed q i = record { weighed = refl; counts = e; holders = rw q (marked-as-was (g .waits .0)); idlers = rw q i; victims = k }

@@ -5,8 +5,7 @@
 --   lays-line, lays-lining == the line that it joins, and what joining is given
 --   lays-next      == it leaves the objects so
 --   lays-serves    == nobody is left: victims serve
---   serves-known  == the lowest victim that is left is one of sixteen
---   serves-line, serves-dequed, serves-serving == its line, its deque, and what its service is given
+--   serves-line, serves-dequed, serves-serving == the line of the lowest victim that is left, its deque, and what its service is given
 --   serves-next    == the service leaves the objects so
 --   serves-round   == nobody is left: the next round begins
 use Prim.Native.Nat.{ℕ, zero, suc, _+_, _*_, _%_, _≤_, _<_}
@@ -34,7 +33,7 @@ use Rattle.runs.proofs.Laws.Stores.{victimOf, thief-waits}
 use Rattle.runs.proofs.Laws.Tallies.{serve-requests}
 use Rattle.runs.proofs.Laws.Whole.{round-on, rounds-on}
 use Rattle.plan_measure.specs.Measure.{work}
-use Rattle.crew.specs.Crew.{Lowest, Rest}
+use Rattle.crew.specs.Crew.{member, Lowest, Rest}
 use Rattle.crew.specs.Line.{waitingAt, LiningUp, LinedUp, Leaving, Gone, Beside}
 use Rattle.crew.proofs.Laws.Walks.{left-start, left-known, left-ahead, left-test, left-next}
 use Rattle.crew.proofs.Laws.Folds.{fold-skip-to, fold-skip-next, fold-skip-end}
@@ -263,7 +262,7 @@ module _ {S : Setting} {plan : List ℕ} (g : Fitted S plan) where
       serves-reached : afterServes S r v (z .state) ≡ now-served
       serves-reached = fold-skip-to (λ k. afterServes S r k (z .state)) serves-step serves-more (z .walk) serves-rests low
 
-      pub serves-known : v < 16
+      serves-known : v < 16
       serves-known = omega (arith, serves-here, g .most)
 
       asked-some : 0 < waitingAt lines v
@@ -311,7 +310,7 @@ module _ {S : Setting} {plan : List ℕ} (g : Fitted S plan) where
 
         -- what is taken for it
         abbrev top : Taken
-        top = takeTop (dequeOf now-served v) (workerOf now-served v)
+        top = takeTop (dequeOf now-served v) (holds (workerOf now-served v))
 
         served : afterServes S r (suc v) (z .state) ≡ given v w top now-served
         unfolding serve
@@ -328,12 +327,13 @@ module _ {S : Setting} {plan : List ℕ} (g : Fitted S plan) where
               (e .victims) (ap (ltb 0) (sym m));
         }
 
-        pub serves-next : {x : Taken} {deques′ : List ℕ} → TookTop v (getD workers v Idle) x deques′ (afterServes S r v (z .state) .deques)
+        pub serves-next : {x : Taken} {deques′ : List ℕ}
+            → TookTop v (member (a .holders) v) x deques′ (afterServes S r v (z .state) .deques)
             → {more : ℕ} → more ≡ waitingAt lines′ v → {a′ : Account} → ServiceNoted a v more w x a′ → {left′ : ℕ} → Rest left left′
             → InServes S r left′ a′ (set workers w (thief x)) cursor lines′ progress deques′ rows
         unfolding given
         serves-next t m e l =
-            let (is, took) = rw (serves-reached, z .manned .seated) at t in
+            let (is, took) = rw (serves-reached, z .manned .holders .each v serves-here) at t in
             record {
               state = z .state;
               begun = z .begun;

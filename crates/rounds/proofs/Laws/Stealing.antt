@@ -19,8 +19,8 @@ use Rattle.runs.specs.declared.worker.Worker.{Worker}
 use Rattle.runs.specs.declared.worker.Worker.the-variants.{Idle, Holding, Waiting}
 use Rattle.runs.specs.Setting.{Setting}
 use Rattle.runs.specs.State.{State, workerOf}
-use Rattle.runs.specs.Tally.{withRequest}
-use Rattle.runs.specs.Steal.{laid, thief, withService, given}
+use Rattle.runs.specs.Tally.{withRequest, withService}
+use Rattle.runs.specs.Steal.{laid, thief, given}
 use Rattle.runs.proofs.Laws.Stores.{victimOf}
 use Rattle.crew.specs.Crew.{Marked}
 use Rattle.crew.specs.Line.{waitingAt, Beside}

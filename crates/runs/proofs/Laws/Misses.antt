@@ -14,9 +14,10 @@ use Rattle.runs.specs.declared.tally.Tally.{Tally}
 use Rattle.runs.specs.declared.worker.Worker.{Worker}
 use Rattle.runs.specs.declared.worker.Worker.the-variants.{Idle, Holding, Waiting}
 use Rattle.runs.specs.Setting.{Setting, countIn}
-use Rattle.runs.specs.State.{State, workerOf, dequeOf, start}
+use Rattle.runs.specs.State.{State, workerOf, holds, dequeOf, start}
 use Rattle.runs.specs.Turn.{turns}
-use Rattle.runs.specs.Steal.{laid, lay, lays, oldest, takeTop, withService, given, serve, serves}
+use Rattle.runs.specs.Tally.{withService}
+use Rattle.runs.specs.Steal.{laid, lay, lays, oldest, takeTop, given, serve, serves}
 use Rattle.runs.specs.Run.{ended, round, rounds, run}
 use Rattle.runs.specs.Misses.{miss, servesMisses, roundMisses, roundsMisses, misses}
 use Rattle.runs.proofs.Laws.Rests.{turn-took}
@@ -44,13 +45,12 @@ lays-misses S r (suc k) b s = lay-misses S r k (getD b k Idle) (lays S r k b s) 
 serve-misses : (v who : ℕ) (s : State) → both-of (serve v who s .tally) ≡ both-of (s .tally) + miss who (dequeOf s v)
 unfolding serve given
 serve-misses v zero s = omega arith
-serve-misses v (suc w) s = go (dequeOf s v) (workerOf s v)
+serve-misses v (suc w) s = go (dequeOf s v) (holds (workerOf s v))
   where
-    go : (d : List ℕ) (x : Worker) → both-of (withService (s .tally) (takeTop d x)) ≡ both-of (s .tally) + miss (suc w) d
-    go (y ∷ d) x = omega arith
-    go [] Idle = omega arith
-    go [] (Holding j) = omega arith
-    go [] (Waiting u l) = omega arith
+    go : (d : List ℕ) (held : Bool) → both-of (withService (s .tally) (takeTop d held)) ≡ both-of (s .tally) + miss (suc w) d
+    go (x ∷ d) held = omega arith
+    go [] true = omega arith
+    go [] false = omega arith
 
 module _ (S : Setting) where
   open Setting S using (plan)

@@ -14,7 +14,7 @@ use Rattle.runs.specs.declared.worker.Worker.{Worker}
 use Rattle.runs.specs.declared.worker.Worker.the-variants.{Idle, Holding, Waiting}
 use Rattle.plan.specs.Plan.{Plan}
 use Rattle.runs.specs.Setting.{Setting}
-use Rattle.runs.specs.State.{State, workerOf, dequeOf}
+use Rattle.runs.specs.State.{State, workerOf, holds, dequeOf}
 use Rattle.runs.specs.Turn.{turn, idled, turnOf}
 use Rattle.runs.specs.Steal.{laid, lay, takeTop, given, serve}
 use Rattle.runs.specs.Parts.{pickOf}
@@ -54,7 +54,7 @@ given-rests v w IdleVictim s = record { next = refl; rows = refl; rounds = refl;
 pub serve-rests : (v who : ℕ) (s : State) → Rests s (serve v who s)
 unfolding serve
 serve-rests v zero s = same-rests s
-serve-rests v (suc w) s = given-rests v w (takeTop (dequeOf s v) (workerOf s v)) s
+serve-rests v (suc w) s = given-rests v w (takeTop (dequeOf s v) (holds (workerOf s v))) s
 
 pub turn-took : (p : Plan) (r w : ℕ) (x : Worker) (s : State) → Took r s (turnOf p r w x s)
 unfolding turnOf turn idled

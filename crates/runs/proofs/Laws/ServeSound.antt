@@ -4,6 +4,7 @@
 use Prim.Native.Nat.{ℕ, zero, suc, _≤_, _<_}
 use mathlib.Core.Path.{_≡_, refl, ap, ap₂, sym, subst, fun-ext, _∙_}
 use mathlib.Core.Logic.{_≢_, by-cases, ⊎-elim}
+use mathlib.Core.Bool.{Bool, true, false}
 use mathlib.Core.List.{List, [], _∷_, _++_}
 use native.Mathlib.Omega.{arith}
 use native.Mathlib.Decide.{ℕ-discrete}
@@ -15,7 +16,7 @@ use Rattle.runs.specs.declared.worker.Worker.{Worker}
 use Rattle.runs.specs.declared.worker.Worker.the-variants.{Idle, Holding, Waiting}
 use Rattle.plan.specs.Plan.{Plan}
 use Rattle.runs.specs.Setting.{Setting}
-use Rattle.runs.specs.State.{State, nextOf, workerOf, dequeOf}
+use Rattle.runs.specs.State.{State, nextOf, workerOf, holds, dequeOf}
 use Rattle.runs.specs.Steal.{laid, lay, dropTop, topOf, takeTop, thief, given, serve}
 use Rattle.runs.specs.Parts.{Picks}
 use Rattle.lines.proofs.Laws.Shape.{Good}
@@ -73,7 +74,7 @@ module _ {p : Plan} (ok : Accepted p) {n : ℕ} (most : n ≤ 16) {s : State} (s
     idle : lineOf s w ≡ []
     idle = line-of s w waits
 
-    module _ {x : ℕ} {d : List ℕ} (q : dequeOf s v ≡ x ∷ d) {j : ℕ} (holds : workerOf s v ≡ Holding j) where
+    module _ {x : ℕ} {d : List ℕ} (q : dequeOf s v ≡ x ∷ d) {j : ℕ} (is-held : workerOf s v ≡ Holding j) where
       apart : v ≢ w
       apart e = let h = ap (workerOf s) e in let z : _≡_ {A = ℕ} 0 1 = cc in omega arith
 
@@ -104,7 +105,7 @@ module _ {p : Plan} (ok : Accepted p) {n : ℕ} (most : n ≤ 16) {s : State} (s
           }
         where
           is : lineOf s v ≡ (j ∷ dropTop (x ∷ d)) ++ (topOf x d ∷ [])
-          is = line-of s v holds ∙ ap (λ r. j ∷ r) (q ∙ top-split x d)
+          is = line-of s v is-held ∙ ap (λ r. j ∷ r) (q ∙ top-split x d)
 
           stolen : dequeOf after v ≡ dropTop (x ∷ d)
           stolen = getD-set-same (s .deques) v (dropTop (dequeOf s v)) [] (omega (arith, sound .deques)) ∙ ap dropTop q
@@ -113,7 +114,7 @@ module _ {p : Plan} (ok : Accepted p) {n : ℕ} (most : n ≤ 16) {s : State} (s
           kept u f = getD-set-other (s .deques) v u (dropTop (dequeOf s v)) [] f
 
           left : lineOf after v ≡ j ∷ dropTop (x ∷ d)
-          left = ap₂ lineIn (getD-set-other (s .workers) w v (Holding (topOf x d)) Idle apart ∙ holds) stolen
+          left = ap₂ lineIn (getD-set-other (s .workers) w v (Holding (topOf x d)) Idle apart ∙ is-held) stolen
 
           got : lineOf after w ≡ topOf x d ∷ []
           got =
@@ -132,20 +133,19 @@ module _ {p : Plan} (ok : Accepted p) {n : ℕ} (most : n ≤ 16) {s : State} (s
               go (no f) (no g) = kept u f ∙ sound .empty u (sym (rest u f g) ∙ e)
 
     -- an empty deque stays as it was, whichever miss it is
-    missed-sound : dequeOf s v ≡ [] → (x : Worker) → Sound p n (given v w (takeTop [] x) s)
+    missed-sound : dequeOf s v ≡ [] → (held : Bool) → Sound p n (given v w (takeTop [] held) s)
     unfolding given
-    missed-sound q x =
+    missed-sound q held =
         let same : set (s .deques) v (dropTop (dequeOf s v)) ≡ s .deques =
         ap (λ d. set (s .deques) v (dropTop d)) q ∙ ap (set (s .deques) v) (sym q) ∙ set-getD (s .deques) v [] in
-        rw (same, nothing x) (free-sound most sound c idle Idle (λ d. refl) (given v w (takeTop [] x) s .tally))
+        rw (same, nothing held) (free-sound most sound c idle Idle (λ d. refl) (given v w (takeTop [] held) s .tally))
       where
-        nothing : (x : Worker) → thief (takeTop [] x) ≡ Idle
-        nothing Idle = refl
-        nothing (Holding j) = refl
-        nothing (Waiting u l) = refl
+        nothing : (held : Bool) → thief (takeTop [] held) ≡ Idle
+        nothing true = refl
+        nothing false = refl
 
-    given-sound : (d : List ℕ) → dequeOf s v ≡ d → Sound p n (given v w (takeTop d (workerOf s v)) s)
-    given-sound [] q = missed-sound q (workerOf s v)
+    given-sound : (d : List ℕ) → dequeOf s v ≡ d → Sound p n (given v w (takeTop d (holds (workerOf s v))) s)
+    given-sound [] q = missed-sound q (holds (workerOf s v))
     given-sound (x ∷ d) q = let (j, h) = victim-holds q in steal-sound q h
 
   pub serve-sound : (who : ℕ) → Picks v n (s .workers) who → Sound p n (serve v who s)

@@ -22,7 +22,7 @@ use Rattle.runs.specs.declared.taken.Taken.the-variants.{Job, Bare, Idle
 use Rattle.runs.specs.declared.worker.Worker.{Worker}
 use Rattle.runs.specs.declared.worker.Worker.the-variants.{Idle, Holding, Waiting}
 use Rattle.runs.specs.Setting.{Setting}
-use Rattle.runs.specs.State.{State, nextOf, workerOf, dequeOf}
+use Rattle.runs.specs.State.{State, nextOf, workerOf, holds, dequeOf}
 use Rattle.runs.specs.Turn.{seatAfter, turn, idled, turnOf}
 use Rattle.runs.specs.Parts.{afterOf, aboveOf, pickOf}
 use Rattle.runs.specs.Trace.{turning, laying, serving, Trace}
@@ -68,7 +68,7 @@ module _ (P : List Worker → Type 0) where
       → ((w : ℕ) (y : Worker) → who ≡ suc w → waits y ≡ 0 → P (set (s .workers) w y)) → P (serve v who s .workers)
   unfolding serve given
   serve-workers v zero s i f = i refl
-  serve-workers v (suc w) s i f = let x = takeTop (dequeOf s v) (workerOf s v) in f w (thief x) refl (thief-waits x)
+  serve-workers v (suc w) s i f = let x = takeTop (dequeOf s v) (holds (workerOf s v)) in f w (thief x) refl (thief-waits x)
 
   -- the same at the steps of a run
   module _ {S : Setting} {r k : ℕ} {b : List Worker} {s : State} where

@@ -15,7 +15,7 @@ use Rattle.runs.specs.declared.tally.Tally.{Tally}
 use Rattle.runs.specs.declared.worker.Worker.{Worker}
 use Rattle.runs.specs.declared.worker.Worker.the-variants.{Idle, Holding, Waiting}
 use Rattle.runs.specs.Setting.{Setting, countIn}
-use Rattle.runs.specs.State.{State, workerOf, dequeOf, start}
+use Rattle.runs.specs.State.{State, workerOf, holds, dequeOf, start}
 use Rattle.runs.specs.Turn.{turn, turnOf}
 use Rattle.runs.specs.Steal.{laid as laidBy, lay, takeTop, given, serve}
 use Rattle.runs.specs.Parts.{pickOf}
@@ -54,7 +54,7 @@ Requested S (serving k) r q = q ≤ counts S r
 pub serve-requests : (v who : ℕ) (s : State) → serve v who s .tally .requests ≡ s .tally .requests
 unfolding serve given
 serve-requests v zero s = refl
-serve-requests v (suc w) s = go (takeTop (dequeOf s v) (workerOf s v))
+serve-requests v (suc w) s = go (takeTop (dequeOf s v) (holds (workerOf s v)))
   where
     go : (x : Taken) → given v w x s .tally .requests ≡ s .tally .requests
     go (Job j) = refl

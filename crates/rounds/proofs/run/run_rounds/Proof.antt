@@ -10,7 +10,7 @@ use Rattle.rounds.proofs.Laws.Beginning.{in-few, first-between}
 use Rattle.rounds.proofs.Laws.FirstHalf.{between-early, turns-begin, turns-early, turns-known}
 use Rattle.rounds.proofs.Laws.FirstHalf.{turns-turning, turns-notable, turns-next, turns-restable, turns-over, turns-lays}
 use Rattle.rounds.proofs.Laws.SecondHalf.{lays-known, lays-lining, lays-countable, lays-next, lays-serves}
-use Rattle.rounds.proofs.Laws.SecondHalf.{serves-known, serves-serving, serves-dequed, serves-next, serves-round}
+use Rattle.rounds.proofs.Laws.SecondHalf.{serves-serving, serves-dequed, serves-next, serves-round}
 use Rattle.rounds.proofs.run.run_rounds.Statement.{statement}
 use Rattle.rounds.proofs.run.run_rounds.Tie as tie
 
@@ -219,19 +219,9 @@ loop-again c = go-on (c .before .loop4 .inv) (λ p f z. serves-round f z (omega 
 lowest-requires-3 : tie.Need-lowest-requires-3 Inv-loop2 μ-loop2 Inv-loop3 μ-loop3 Inv-loop4 μ-loop4 Inv-loop μ-loop
 lowest-requires-3 c κs = omega arith
 
--- the victim
-server : (c : tie.After-lowest3 Inv-loop2 μ-loop2 Inv-loop3 μ-loop3 Inv-loop4 μ-loop4 Inv-loop μ-loop) → c .lowest3 .result < 16
-server c = let (p, f, z) = one-of (c .before .before .loop4 .inv) in serves-known f z (c .lowest3 .ensures)
-
-mul-victim : tie.Need-mul-victim Inv-loop2 μ-loop2 Inv-loop3 μ-loop3 Inv-loop4 μ-loop4 Inv-loop μ-loop
-mul-victim c = omega (arith, server c)
-
-array-copy-out-victim : tie.Need-array-copy-out-victim Inv-loop2 μ-loop2 Inv-loop3 μ-loop3 Inv-loop4 μ-loop4 Inv-loop μ-loop
-array-copy-out-victim c = server c
-
 serve-requires : tie.Need-serve-requires Inv-loop2 μ-loop2 Inv-loop3 μ-loop3 Inv-loop4 μ-loop4 Inv-loop μ-loop
 serve-requires c κs =
-    let w = c .before .before .before in
+    let w = c .before .before in
     let (p, f, z) = one-of (w .before .before .loop4 .inv) in
     ((_, serves-serving f z (w .lowest3 .ensures)), (_, serves-dequed f z (w .lowest3 .ensures)))
 
@@ -241,7 +231,7 @@ thief-requires c κs = tt
 -- the worker that is served
 thief : (c : tie.After-serve Inv-loop2 μ-loop2 Inv-loop3 μ-loop3 Inv-loop4 μ-loop4 Inv-loop μ-loop) → c .serve .result .who < 16
 thief c =
-    let w = c .before .before .before .before in
+    let w = c .before .before .before in
     let (p, f, z) = one-of (w .before .before .loop4 .inv) in
     c .serve .ensures .0 _ (serves-serving f z (w .lowest3 .ensures)) .known
 
@@ -259,7 +249,7 @@ loop4-less c = c .rest3 .ensures .less
 
 loop4-again : tie.Need-loop4-again Inv-loop2 μ-loop2 Inv-loop3 μ-loop3 Inv-loop4 μ-loop4 Inv-loop μ-loop
 loop4-again c =
-    let w = c .before .before .before .before .before .before .before in
+    let w = c .before .before .before .before .before .before in
     let low = w .lowest3 .ensures in
     let (gone, beside, took, noted) = c .before .before .before .serve .ensures in
     rw (c .before .before .thief .ensures) (go-on (w .before .before .loop4 .inv) (λ p f z.
@@ -317,8 +307,6 @@ run-rounds-spec =
     loop-less
     loop-again
     lowest-requires-3
-    mul-victim
-    array-copy-out-victim
     serve-requires
     thief-requires
     mul-workers-3
