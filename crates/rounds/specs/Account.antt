@@ -5,15 +5,17 @@
 --   Layable, LayNoted   == the same of a request of worker w at victim v
 --   Servable, ServiceNoted == the same of a service of victim v, which gave worker w what was taken and has so many requests left
 --   Serving a v lines q == .. of the oldest request of the line q at victim v
+--   jobIn x, baresIn x  == a job was taken; 1 where the miss was bare, or 0
 use Prim.Native.Nat.{ℕ, _-_, _^_, _≤_, _<_}
 use mathlib.Core.Path.{_≡_}
-use mathlib.Core.Bool.{true, false}
+use mathlib.Core.Bool.{Bool, true, false}
 use mathlib.Core.List.{List}
 use lib.Dec.{ltb}
 use lib.ListN.{getD}
 use Rattle.crew.specs.Crew.{member, Marked}
 use Rattle.crew.specs.Line.{Leaving}
 use Rattle.runs.specs.declared.taken.Taken.{Taken}
+use Rattle.runs.specs.declared.taken.Taken.the-variants.{Job, Bare, IdleVictim}
 use Rattle.runs.specs.declared.worker.Worker.{Worker}
 use Rattle.runs.specs.Tally.{noCounts, withAction, withRequest, withService}
 use Rattle.runs.specs.Steal.{thief}
@@ -71,6 +73,16 @@ pub record Servable (a : Account) (v w : ℕ) : Type 0 where
 pub record Serving (a : Account) (v : ℕ) (lines q : List ℕ) : Type 0 where
   pub leaving : Leaving v 0 lines q
   pub servable : Servable a v (getD q 0 0)
+
+abbrev pub jobIn : Taken → Bool
+jobIn (Job j) = true
+jobIn Bare = false
+jobIn IdleVictim = false
+
+abbrev pub baresIn : Taken → ℕ
+baresIn (Job j) = 0
+baresIn Bare = 1
+baresIn IdleVictim = 0
 
 pub record ServiceNoted (a : Account) (v left w : ℕ) (x : Taken) (a′ : Account) : Type 0 where
   pub weighed : a′ .weight ≡ a .weight

@@ -6,7 +6,7 @@ ghost use Prim.Native.Nat.{_≤_, _<_};
 ghost use lib.Dec.{ltb};
 ghost use Rattle.crew.specs.Crew.{member, Marked};
 ghost use Rattle.turns.specs.Count.{Restable};
-ghost use Rattle.rounds.specs.Account.{opened as openedOf, rested as restedOf};
+ghost use Rattle.rounds.specs.Account.{opened as openedOf, rested as restedOf, jobIn, baresIn};
 ghost use Rattle.rounds.specs.Account.{Turnable, TurnNoted, Layable, LayNoted, Servable, ServiceNoted};
 use crew::set::others;
 use crew::set::with;
@@ -18,8 +18,9 @@ use runs::worker::Worker;
 use turns::count::acted;
 use turns::count::idled;
 use turns::count::no_counts;
+use turns::count::with_miss;
 use turns::count::with_request;
-use turns::count::with_service;
+use turns::count::with_steal;
 
 pub struct Account {
     pub weight: u32,
@@ -121,34 +122,48 @@ fn still_asked(victims: u32, v: usize, left: u64) -> u32
     victims
 }
 
+// Whether a job was taken.
+fn job_in(taken: Taken) -> bool
+    ensures { λ r. ⌜ r ≡ jobIn taken ⌝ }
+{
+    match taken {
+        Taken::Job(_) => true,
+        Taken::Bare => false,
+        Taken::IdleVictim => false,
+    }
+}
+
+// 1 where the miss was bare, or 0.
+fn bares_in(taken: Taken) -> u32
+    ensures { λ r. ⌜ (r ≡ baresIn taken) × (r ≤ 1) ⌝ }
+{
+    match taken {
+        Taken::Job(_) => 0,
+        Taken::Bare => 1,
+        Taken::IdleVictim => 0,
+    }
+}
+
 // After victim v served worker w with what was taken from its deque; so many requests are left there.
 pub fn served(account: Account, v: usize, left: u64, w: usize, taken: Taken) -> Account
     requires { ⌜ Servable account v w ⌝ }
     ensures { λ a. ⌜ ServiceNoted account v left w taken a ⌝ }
 {
     let victims = still_asked(account.victims, v, left);
-    let tally = with_service(account.tally, taken);
-    match taken {
-        Taken::Job(_) => Account {
+    if job_in(taken) {
+        return Account {
             weight: account.weight,
             holders: with(account.holders, w),
             idlers: account.idlers,
             victims,
-            tally,
-        },
-        Taken::Bare => Account {
-            weight: account.weight,
-            holders: account.holders,
-            idlers: with(account.idlers, w),
-            victims,
-            tally,
-        },
-        Taken::IdleVictim => Account {
-            weight: account.weight,
-            holders: account.holders,
-            idlers: with(account.idlers, w),
-            victims,
-            tally,
-        },
+            tally: with_steal(account.tally),
+        };
+    }
+    Account {
+        weight: account.weight,
+        holders: account.holders,
+        idlers: with(account.idlers, w),
+        victims,
+        tally: with_miss(account.tally, bares_in(taken)),
     }
 }

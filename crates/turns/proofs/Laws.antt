@@ -6,5 +6,4 @@ pub mod Held
 pub mod Sending
 pub mod Settling
 pub mod Rows
-pub mod Counting
 pub mod TallyCell

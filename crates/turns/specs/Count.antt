@@ -1,14 +1,11 @@
 -- What the updates of the tally ask. Functions that are no entries cite this file.
 --   Countable t         == each count that an event moves by 1 has a next one in 32 bits
 --   Restable t turns    == so many idle turns more can be counted in 32 bits
---   recounted t r idle  == the tally t with other counts of rounds and idle turns: the one tally written out beside runs' updates,
---                          which count one event each
---   jobsIn, baresIn, idleVictimsIn x == 1 where a job was taken, where a bare miss was met, where one of an idle victim was; or 0
---   served t x          == the tally t with these added to its counts of what services met
+--   recounted t r idle  == the tally t with other counts of rounds and idle turns
+--   withMiss t bare     == the tally t after a miss, which is bare where `bare` is 1, and of an idle victim where it is 0: this tally and the
+--                          one before it are the two that are written out beside runs' updates
 --   withIdles t r turns == the tally t after so many idle turns of round r, one of whose turns has been taken
-use Prim.Native.Nat.{ℕ, _+_, _<_}
-use Rattle.runs.specs.declared.taken.Taken.{Taken}
-use Rattle.runs.specs.declared.taken.Taken.the-variants.{Job, Bare, IdleVictim}
+use Prim.Native.Nat.{ℕ, _+_, _-_, _<_}
 use Rattle.runs.specs.declared.tally.Tally.{Tally}
 
 pub record Countable (t : Tally) : Type 0 where
@@ -36,29 +33,14 @@ recounted t r idle = record {
 abbrev pub withIdles : Tally → ℕ → ℕ → Tally
 withIdles t r turns = recounted t r (t .idle + turns)
 
-abbrev pub jobsIn : Taken → ℕ
-jobsIn (Job j) = 1
-jobsIn Bare = 0
-jobsIn IdleVictim = 0
-
-abbrev pub baresIn : Taken → ℕ
-baresIn (Job j) = 0
-baresIn Bare = 1
-baresIn IdleVictim = 0
-
-abbrev pub idleVictimsIn : Taken → ℕ
-idleVictimsIn (Job j) = 0
-idleVictimsIn Bare = 0
-idleVictimsIn IdleVictim = 1
-
-abbrev pub served : Tally → Taken → Tally
-served t x = record {
+abbrev pub withMiss : Tally → ℕ → Tally
+withMiss t bare = record {
   rounds = t .rounds;
   actions = t .actions;
   idle = t .idle;
   requests = t .requests;
-  steals = t .steals + jobsIn x;
-  bare = t .bare + baresIn x;
-  «idle_victim» = t .«idle_victim» + idleVictimsIn x;
+  steals = t .steals;
+  bare = t .bare + bare;
+  «idle_victim» = t .«idle_victim» + (1 - bare);
   peak = t .peak;
 }

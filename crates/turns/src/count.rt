@@ -6,10 +6,9 @@
 ghost use mathlib.Core.Path.{_≡_};
 ghost use Prim.Native.Nat.{_≤_, _<_};
 ghost use Rattle.plan.specs.Contract.{before, after};
-ghost use Rattle.turns.specs.Count.{Countable, Restable, withIdles, jobsIn, baresIn, idleVictimsIn};
-ghost use Rattle.runs.specs.Tally.{noCounts, withAction, withRequest, withService};
+ghost use Rattle.turns.specs.Count.{Countable, Restable, withIdles, withMiss};
+ghost use Rattle.runs.specs.Tally.{noCounts, withAction, withRequest, withSteal};
 use numbers::larger;
-use runs::taken::Taken;
 use runs::tally::Tally;
 
 // As a run begins; `frame` is job 0's.
@@ -61,46 +60,25 @@ pub fn with_request(t: Tally) -> Tally
     u
 }
 
-// 1 where a job was taken, 1 where the miss was bare, and 1 where it was of an idle victim; 0 where not.
-fn jobs_in(taken: Taken) -> u32
-    ensures { λ r. ⌜ (r ≡ jobsIn taken) × (r ≤ 1) ⌝ }
-{
-    match taken {
-        Taken::Job(_) => 1,
-        Taken::Bare => 0,
-        Taken::IdleVictim => 0,
-    }
-}
-
-fn bares_in(taken: Taken) -> u32
-    ensures { λ r. ⌜ (r ≡ baresIn taken) × (r ≤ 1) ⌝ }
-{
-    match taken {
-        Taken::Job(_) => 0,
-        Taken::Bare => 1,
-        Taken::IdleVictim => 0,
-    }
-}
-
-fn idle_victims_in(taken: Taken) -> u32
-    ensures { λ r. ⌜ (r ≡ idleVictimsIn taken) × (r ≤ 1) ⌝ }
-{
-    match taken {
-        Taken::Job(_) => 0,
-        Taken::Bare => 0,
-        Taken::IdleVictim => 1,
-    }
-}
-
-// A service, by what was taken. Which of the misses it is is hard to foresee, so that there is no branch on it.
-pub fn with_service(t: Tally, taken: Taken) -> Tally
+// A service that gave a job.
+pub fn with_steal(t: Tally) -> Tally
     requires { ⌜ Countable t ⌝ }
-    ensures { λ r. ⌜ r ≡ withService t taken ⌝ }
+    ensures { λ r. ⌜ r ≡ withSteal t ⌝ }
 {
     let mut u = t;
-    u.steals = t.steals + jobs_in(taken);
-    u.bare = t.bare + bares_in(taken);
-    u.idle_victim = t.idle_victim + idle_victims_in(taken);
+    u.steals = t.steals + 1;
+    u
+}
+
+// A service that gave none. `bare` is 1 where the victim holds a job, and 0 where it holds none: which it is is hard to foresee, so it is
+// added, and there is no branch on it.
+pub fn with_miss(t: Tally, bare: u32) -> Tally
+    requires { ⌜ Countable t × (bare ≤ 1) ⌝ }
+    ensures { λ r. ⌜ r ≡ withMiss t bare ⌝ }
+{
+    let mut u = t;
+    u.bare = t.bare + bare;
+    u.idle_victim = t.idle_victim + (1 - bare);
     u
 }
 

@@ -2,19 +2,21 @@
 --   turn-noted-holding, turn-noted-idle, turn-noted-waiting == of a turn that leaves its worker holding a job, idle or waiting
 --   service-noted-job, service-noted-missed == of a service that gave a job, and of a miss of either kind
 use Prim.Native.Nat.{ℕ}
-use mathlib.Core.Path.{_≡_, refl}
-use mathlib.Core.Bool.{true, false}
+use mathlib.Core.Path.{_≡_, refl, sym}
+use mathlib.Core.Bool.{true, false, true≢false}
+use native.Mathlib.Nat.{add-zero}
+use native.Mathlib.Numerals.{add-one}
 use lib.Dec.{ltb}
 use Rattle.crew.specs.Crew.{Marked}
 use Rattle.crew.proofs.Laws.Crews.{marked-as-was}
 use Rattle.runs.specs.declared.taken.Taken.{Taken}
+use Rattle.runs.specs.declared.taken.Taken.the-variants.{Job, Bare, IdleVictim}
 use Rattle.runs.specs.declared.tally.Tally.{Tally}
 use Rattle.runs.specs.declared.worker.Worker.the-variants.{Idle, Holding, Waiting}
-use Rattle.runs.specs.Tally.{withAction, withService}
-use Rattle.runs.specs.Steal.{thief}
-use Rattle.turns.specs.Count.{withIdles}
+use Rattle.runs.specs.Tally.{withAction, withSteal}
+use Rattle.turns.specs.Count.{withIdles, withMiss}
 use Rattle.rounds.specs.declared.account.Account.{Account}
-use Rattle.rounds.specs.Account.{Turnable, TurnNoted, Servable, ServiceNoted}
+use Rattle.rounds.specs.Account.{Turnable, TurnNoted, Servable, jobIn, baresIn, ServiceNoted}
 
 -- t is the tally with the action and then with the idle turns
 module _ {a : Account} {r w gap weighs : ℕ} (g : Turnable a r w gap) {acted t : Tally} {turns : ℕ}
@@ -40,13 +42,28 @@ module _ {a : Account} {r w gap weighs : ℕ} (g : Turnable a r w gap) {acted t 
         (record { weight = weighs; holders = holders; idlers = a .idlers; victims = a .victims; tally = t })
     turn-noted-waiting = record { weighed = refl; counts = rw (d, z) at e; holders = h; idlers = marked-as-was (g .busy); victims = refl }
 
--- x is what was taken, and t the tally with it
-module _ {a : Account} {v left w victims : ℕ} (g : Servable a v w) (k : Marked v (ltb 0 left) (a .victims) victims) (x : Taken) {t : Tally}
-    (e : t ≡ withService (a .tally) x) where
-  pub service-noted-job : {j : ℕ} → thief x ≡ Holding j → {holders : ℕ} → Marked w true (a .holders) holders
+module _ {a : Account} {v left w victims : ℕ} (g : Servable a v w) (k : Marked v (ltb 0 left) (a .victims) victims) {t : Tally} where
+  pub service-noted-job : (x : Taken) → jobIn x ≡ true → t ≡ withSteal (a .tally) → {holders : ℕ} → Marked w true (a .holders) holders
       → ServiceNoted a v left w x (record { weight = a .weight; holders = holders; idlers = a .idlers; victims = victims; tally = t })
-  service-noted-job q h = record { weighed = refl; counts = e; holders = rw q h; idlers = rw q (marked-as-was (g .waits .1)); victims = k }
+  service-noted-job (Job j) q e h = record { weighed = refl; counts = e; holders = h; idlers = marked-as-was (g .waits .1); victims = k }
+  service-noted-job Bare q e h = absurd (true≢false (sym q))
+  service-noted-job IdleVictim q e h = absurd (true≢false (sym q))
 
-  pub service-noted-missed : thief x ≡ Idle → {idlers : ℕ} → Marked w true (a .idlers) idlers
+  pub service-noted-missed : (x : Taken) → jobIn x ≡ false → t ≡ withMiss (a .tally) (baresIn x)
+      → {idlers : ℕ} → Marked w true (a .idlers) idlers
       → ServiceNoted a v left w x (record { weight = a .weight; holders = a .holders; idlers = idlers; victims = victims; tally = t })
-  service-noted-missed q i = record { weighed = refl; counts = e; holders = rw q (marked-as-was (g .waits .0)); idlers = rw q i; victims = k }
+  service-noted-missed (Job j) q e i = absurd (true≢false q)
+  service-noted-missed Bare q e i = record {
+    weighed = refl;
+    counts = rw (add-one, add-zero) at e;
+    holders = marked-as-was (g .waits .0);
+    idlers = i;
+    victims = k;
+  }
+  service-noted-missed IdleVictim q e i = record {
+    weighed = refl;
+    counts = rw (add-zero, add-one) at e;
+    holders = marked-as-was (g .waits .0);
+    idlers = i;
+    victims = k;
+  }
