@@ -2,10 +2,8 @@
 // jobs each has. A deque has its top job first and its bottom job last.
 ghost use mathlib.Core.Path.{_≡_};
 ghost use Prim.Native.Nat.{_+_, _*_, _<_};
-ghost use mathlib.Core.List.{[]};
 ghost use lib.ListN.{set};
 ghost use Rattle.plan.specs.Contract.{Some, _⇒_, before, after};
-ghost use Rattle.runs.specs.Steal.{takeTop};
 ghost use Rattle.deques.specs.Dequed.{topAt, lenAt, jobAt, Dequed, Pushing, Pushed, TookBottom, TookTop};
 use numbers::wide8;
 use runs::taken::Taken;
@@ -94,24 +92,17 @@ pub fn take_bottom(deques: &mut Deques, w: usize) -> Worker
     Worker::Holding(j)
 }
 
-// Which miss it is where the deque of a victim is empty; `held` says whether the victim holds a job.
-fn miss_of(held: bool) -> Taken
-    ensures { λ r. ⌜ r ≡ takeTop [] held ⌝ }
-{
-    if held {
-        return Taken::Bare;
-    }
-    Taken::IdleVictim
-}
-
-// Takes the top of victim v's deque: its top job, or which of the two misses it is.
+// Takes the top of victim v's deque: its top job, or which of the two misses it is. `held` says whether the victim holds a job.
 pub fn take_top(deques: &mut Deques, v: usize, held: bool) -> Taken
     requires { ⌜ Some (Dequed (now deques)) × (v < 16) ⌝ }
     ensures { λ r. ⌜ Dequed (before deques) ⇒ TookTop v held r (after deques) ⌝ }
 {
     let n = len_of(deques, v);
     if n == 0 {
-        return miss_of(held);
+        if held {
+            return Taken::Bare;
+        }
+        return Taken::IdleVictim;
     }
     let at = top_of(deques, v);
     let j = job_at(deques, v, at);

@@ -1,5 +1,6 @@
 -- `take_top` meets its contract.
 use mathlib.Core.Path.{sym, _∙_}
+use mathlib.Core.Bool.{true, false}
 use native.Mathlib.Omega.{arith}
 use Rattle.deques.proofs.Laws.Deques.{top-none, top-taken}
 use borrow.Author.Needs.{needs}
@@ -9,15 +10,17 @@ use Rattle.deques.proofs.take_top.Tie as tie
 len-of-requires : tie.Need-len-of-requires
 len-of-requires c κs = search needs
 
-miss-of-requires : tie.Need-miss-of-requires
-miss-of-requires c κs = tt
-
 returns : tie.Need-returns
 returns c ds q =
     let n = c .before .before in
     let a = n .before .before in
-    rw (c .miss-of .ensures)
-    (top-none q (a .args .v) (a .pre .1) (sym (c .before .if1 .taken) ∙ n .len-of .ensures .0) (a .args .held))
+    rw (c .if2 .taken) (top-none q (a .args .v) (a .pre .1) (sym (c .before .if1 .taken) ∙ n .len-of .ensures .0) true)
+
+returns-2 : tie.Need-returns-2
+returns-2 c ds q =
+    let n = c .before .before in
+    let a = n .before .before in
+    rw (c .if2 .left) (top-none q (a .args .v) (a .pre .1) (sym (c .before .if1 .taken) ∙ n .len-of .ensures .0) false)
 
 top-of-requires : tie.Need-top-of-requires
 top-of-requires c κs = search needs
@@ -42,8 +45,8 @@ sub-set-len c = search needs
 set-len-requires : tie.Need-set-len-requires
 set-len-requires c κs = search needs
 
-returns-2 : tie.Need-returns-2
-returns-2 c ds q =
+returns-3 : tie.Need-returns-3
+returns-3 c ds q =
     let s = c .before .before in
     let j = s .before .before in
     let t = j .before .before in
@@ -57,12 +60,12 @@ take-top-spec =
     tie.close
     (tie.spec
     len-of-requires
-    miss-of-requires
     returns
+    returns-2
     top-of-requires
     job-at-requires
     add-set-top
     set-top-requires
     sub-set-len
     set-len-requires
-    returns-2)
+    returns-3)
