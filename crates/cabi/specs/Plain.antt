@@ -25,7 +25,8 @@ measuresOf (refused k) = record { refused = k; actions = 0; longest = 0; path = 
 measuresOf (accepted m) = record { refused = 0; actions = m .actions; longest = m .longest; path = m .path }
 
 abbrev pub tallyOf : Outcome Tally → DwTally
-tallyOf (refused k) = record { refused = k; rounds = 0; actions = 0; idle = 0; requests = 0; steals = 0; bare = 0; «idle_victim» = 0; peak = 0 }
+tallyOf (refused k) =
+    record { refused = k; rounds = 0; actions = 0; idle = 0; requests = 0; steals = 0; bare = 0; «idle_victim» = 0; peak = 0 }
 tallyOf (accepted t) =
     record {
       refused = 0;

@@ -1,7 +1,7 @@
 -- Requests and services, the second half of a round (document 01, "Worker and round"; document 02, L2).
 --   lay S r w x s  == in round r worker w, which was x when it began, lays a request if x is idle; lays S r k b s == those below k
 --   oldest v k ws  == which of the workers below k has the request that victim v serves: the worker's number plus 1, or 0
---   takeTop d held == what taking the top of a victim's deque d gives: a job, or which of the two misses it is
+--   takeTop d held == what taking the top of the deque d gives, whose owner holds a job or not: a job, or which of the two misses it is
 --   thief x        == the worker that was served, by what was taken; given v w x s == the state, of victim v and worker w
 --   serve v q s    == victim v serves the worker of number q - 1, or none if q is 0; serves S r k s == the victims below k
 --   waits x        == 1 where the worker x waits with a request, or 0

@@ -2,9 +2,8 @@
 --   Countable t         == each count that an event moves by 1 has a next one in 32 bits
 --   Restable t turns    == so many idle turns more can be counted in 32 bits
 --   recounted t r idle  == the tally t with other counts of rounds and idle turns
---   withMiss t bare     == the tally t after a miss, which is bare where `bare` is 1, and of an idle victim where it is 0: this tally and the
---                          one before it are the two that are written out beside runs' updates
 --   withIdles t r turns == the tally t after so many idle turns of round r, one of whose turns has been taken
+--   withMiss t bare     == the tally t after a miss, which is bare where `bare` is 1 and of an idle victim where it is 0
 use Prim.Native.Nat.{ℕ, _+_, _-_, _<_}
 use Rattle.runs.specs.declared.tally.Tally.{Tally}
 

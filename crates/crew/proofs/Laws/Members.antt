@@ -8,7 +8,8 @@
 use Prim.Native.Nat.{ℕ, zero, suc, suc-le-suc, _+_, _-_, _*_, _/_, _%_, _^_, _≤_, _<_, min, max}
 use mathlib.Core.Path.{_≡_, refl, sym, ap, _∙_}
 use mathlib.Core.Bool.{Bool, true, false, not}
-use native.Mathlib.Nat.{div-one, div-div-eq-div-mul, one-mul, pow-suc, pow-succ', max-le, min-le-left, lt-of-le-of-lt, mul-mod-left, mul-div-cancel}
+use native.Mathlib.Nat.{one-mul, pow-suc, pow-succ', max-le, min-le-left, lt-of-le-of-lt, mul-mod-left, mul-div-cancel}
+use native.Mathlib.Nat.{div-one, div-div-eq-div-mul}
 use native.Mathlib.Omega.{arith}
 use borrow.Author.Tests.{ltb-true, ltb-false}
 use lib.Dec.{lit<, eqb, ltb, eqb·zero-suc, eqb·suc-zero, eqb·suc-suc}

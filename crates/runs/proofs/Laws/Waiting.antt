@@ -70,7 +70,9 @@ module _ {n : ℕ} (s : State) (placed : n ≤ length (s .workers)) where
   serve-settled : (v who : ℕ) → Picks v n (s .workers) who → Settled n s → Settled n (serve v who s)
   unfolding serve
   serve-settled v zero picks i = i
-  serve-settled v (suc w) picks i = let (h, l, e) = picks w refl in given-settled v w h (ap waits e) i (takeTop (dequeOf s v) (holds (workerOf s v)))
+  serve-settled v (suc w) picks i =
+      let (h, l, e) = picks w refl in
+      given-settled v w h (ap waits e) i (takeTop (dequeOf s v) (holds (workerOf s v)))
 
 module _ {S : Setting} (fit : Fit S) where
   open Setting S using (plan)

@@ -22,8 +22,8 @@ returns : tie.Need-returns
 returns c =
     let j = c .before .before .before in
     let s = j .before in
-    service-noted-job (s .before .pre) (s .still-asked .ensures) (s .before .args .taken) (sym (j .job-in .ensures) ∙ c .before .before .if1 .taken)
-    (c .with-steal .ensures) (c .before .with .ensures)
+    service-noted-job (s .before .pre) (s .still-asked .ensures) (s .before .args .taken)
+    (sym (j .job-in .ensures) ∙ c .before .before .if1 .taken) (c .with-steal .ensures) (c .before .with .ensures)
 
 with-requires-2 : tie.Need-with-requires-2
 with-requires-2 c κs = search needs
