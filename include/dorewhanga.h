@@ -76,7 +76,8 @@ typedef struct {
 } dw_measures;
 
 /* For every list of choices longest <= rounds <= actions and peak <= workers x path. With one worker rounds is actions
-   and peak is path. */
+   and peak is path. Of the requests, steals + bare + idle_victim were answered, and the rest still wait as the run
+   ends. */
 typedef struct {
     uint32_t refused;
     uint32_t rounds;      /* the last round */

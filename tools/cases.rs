@@ -1,5 +1,5 @@
 //! Writes the cases of the program crate `cases`: their files, the list that the program reads, and what it has to print.
-//! What a case must give is stated by hand, from document 01, or by the second runner of `run_cases.rs`; nothing here looks at the
+//! What a case must give is stated by hand, from documents 01 and 02, or by the second runner of `run_cases.rs`; nothing here looks at the
 //! proved code.
 //!
 //!     rustc -O tools/cases.rs -o target/cases && target/cases crates/cases

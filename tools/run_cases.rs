@@ -1,6 +1,6 @@
 //! A second runner, written from documents 01 and 02 alone, and inputs of `buildrun` with what they must give. It also carries out each
 //! tempting error and sees to it that some case tells it apart.
-use crate::plans::{chain, e, f, input, join, one, plan, Job};
+use crate::plans::{chain, e, f, input, join, one, plan, spawn, Job, NONE};
 use crate::Cases;
 
 /// An action: the child's number plus 1 or 0, the join's target plus 1 or 0.
@@ -35,9 +35,11 @@ enum Slip {
     MissesSwapped,
     BareAsTheRoundBegan,
     BareAsTheServicesBegan,
+    BareAsTheServicesEnded,
+    BareIfNotIdle,
 }
 
-const SLIPS: [Slip; 12] = [
+const SLIPS: [Slip; 14] = [
     Slip::PeakOnceARound,
     Slip::StealsTheBottom,
     Slip::ActsInTheRoundOfItsSteal,
@@ -50,6 +52,8 @@ const SLIPS: [Slip; 12] = [
     Slip::MissesSwapped,
     Slip::BareAsTheRoundBegan,
     Slip::BareAsTheServicesBegan,
+    Slip::BareAsTheServicesEnded,
+    Slip::BareIfNotIdle,
 ];
 
 #[derive(Default, Clone, PartialEq, Debug)]
@@ -246,6 +250,7 @@ impl Plan {
             }
             let mut stolen = vec![];
             let asked = s.workers.clone();
+            let mut missed = vec![];
             for v in 0..n {
                 let waiting = (0..n).filter_map(|w| match s.workers[w] {
                     Worker::Waiting(u, laid) if u == v => Some((laid, w)),
@@ -267,19 +272,26 @@ impl Plan {
                         stolen.push((w, j));
                     }
                     None => {
-                        let victim = match slip {
-                            Slip::BareAsTheRoundBegan => began[v],
-                            Slip::BareAsTheServicesBegan => asked[v],
-                            _ => s.workers[v],
-                        };
-                        let holds = matches!(victim, Worker::Holding(_));
-                        if holds != (slip == Slip::MissesSwapped) {
-                            s.t.bare += 1;
-                        } else {
-                            s.t.idle_victim += 1;
-                        }
+                        missed.push((v, s.workers[v]));
                         s.workers[w] = Worker::Idle;
                     }
+                }
+            }
+            for (v, as_it_served) in missed {
+                let victim = match slip {
+                    Slip::BareAsTheRoundBegan => began[v],
+                    Slip::BareAsTheServicesBegan => asked[v],
+                    Slip::BareAsTheServicesEnded => s.workers[v],
+                    _ => as_it_served,
+                };
+                let bare = match slip {
+                    Slip::BareIfNotIdle => victim != Worker::Idle,
+                    _ => matches!(victim, Worker::Holding(_)),
+                };
+                if bare != (slip == Slip::MissesSwapped) {
+                    s.t.bare += 1;
+                } else {
+                    s.t.idle_victim += 1;
                 }
             }
             if slip == Slip::ActsInTheRoundOfItsSteal {
@@ -402,18 +414,22 @@ fn papers() -> Vec<Run> {
 
 /// Where the kind of a miss is easy to mistake (document 02, L2): in the first, worker 0 loses its job in round 2 and then serves; in the
 /// second, worker 1 is given job 0 in round 1 and then serves, and is asked again in round 2; in the third, worker 1 asks itself in
-/// rounds 1, 2 and 3.
+/// rounds 1, 2 and 3; in the last, worker 0 serves in round 3 before worker 1 gives it job 0, after a miss as in the first in round 2, and
+/// worker 1, which holds job 0, is asked in round 4.
 fn kinds_of_miss() -> Vec<Run> {
-    let case = |name: &str, workers: usize, choices: &[u8], kinds: (usize, usize)| {
-        let run = Run::new(name, &chain(2), workers, choices);
+    let two = chain(2);
+    let three = vec![(1, vec![spawn(1), spawn(2), NONE, NONE]), (1, vec![join(3)]), (1, vec![NONE, join(3)])];
+    let case = |name: &str, jobs: &[Job], workers: usize, choices: &[u8], kinds: (usize, usize)| {
+        let run = Run::new(name, jobs, workers, choices);
         let t = run.tally(Slip::None);
         assert_eq!((t.bare, t.idle_victim), kinds, "{name}");
         run
     };
     vec![
-        case("victim_lost_its_job", 3, &[0], (0, 1)),
-        case("victim_was_given_a_job", 3, &[0, 1, 1], (2, 0)),
-        case("worker_asks_itself", 2, &[1], (0, 3)),
+        case("victim_lost_its_job", &two, 3, &[0], (0, 1)),
+        case("victim_was_given_a_job", &two, 3, &[0, 1, 1], (2, 0)),
+        case("worker_asks_itself", &two, 2, &[1], (0, 3)),
+        case("victim_will_be_given_a_job", &three, 3, &[0, 0, 1, 0, 1], (1, 2)),
     ]
 }
 

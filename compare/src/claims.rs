@@ -94,7 +94,8 @@ impl Facts {
             }
         }
         let rounds = u32::from(turns[turns.len() - 1].0 >> 4);
-        let waiting = tally.requests as i64 - tally.steals as i64 - tally.bare as i64 - tally.idle_victim as i64;
+        let answered = tally.steals + tally.bare + tally.idle_victim;
+        let waiting = i64::from(tally.requests) - i64::from(answered);
         [
             (
                 rows.iter()

@@ -95,8 +95,8 @@ module _ (S : Setting) where
     -- with one worker the peak is S1 and the rounds are T1
     pub lone-peak : workers ≡ 1 → c .peak ≡ c .path
     pub lone-rounds : workers ≡ 1 → c .rounds ≡ c .actions
-    -- "P × rounds = actions + idle turns", "requests = steals + misses + requests still waiting"; of the two kinds of miss "Their sum
-    -- is the old count."
+    -- "P × rounds = actions + idle turns", "requests = steals + misses + requests still waiting"; document 02, L2, of bare and
+    -- idle-victim: "Their sum is the old count."
     pub turns : workers * c .rounds ≡ c .actions + c .idle
     pub requests : c .requests ≡ c .steals + c .bare + c .«idle_victim» + waiting workers (run S .workers)
     pub misses-split : c .bare + c .«idle_victim» ≡ misses S

@@ -5,7 +5,7 @@
 --   Layable, LayNoted   == the same of a request of worker w at victim v
 --   Servable, ServiceNoted == the same of a service of victim v, which gave worker w what was taken and has so many requests left
 --   Serving a v lines q == .. of the oldest request of the line q at victim v
---   jobIn x, baresIn x  == a job was taken; 1 where the miss was bare, or 0
+--   isJob x, bareOf x   == a job was taken; 1 where the miss was bare, or 0
 use Prim.Native.Nat.{ℕ, _-_, _^_, _≤_, _<_}
 use mathlib.Core.Path.{_≡_}
 use mathlib.Core.Bool.{Bool, true, false}
@@ -17,9 +17,10 @@ use Rattle.crew.specs.Line.{Leaving}
 use Rattle.runs.specs.declared.taken.Taken.{Taken}
 use Rattle.runs.specs.declared.taken.Taken.the-variants.{Job, Bare, IdleVictim}
 use Rattle.runs.specs.declared.worker.Worker.{Worker}
+use Rattle.runs.specs.State.{holds}
 use Rattle.runs.specs.Tally.{noCounts, withAction, withRequest, withService}
 use Rattle.runs.specs.Steal.{thief}
-use Rattle.turns.specs.Worker.{holds, isIdle}
+use Rattle.turns.specs.Worker.{isIdle}
 use Rattle.turns.specs.Count.{Countable, Restable, withIdles}
 use Rattle.rounds.specs.declared.account.Account.{Account}
 
@@ -74,15 +75,15 @@ pub record Serving (a : Account) (v : ℕ) (lines q : List ℕ) : Type 0 where
   pub leaving : Leaving v 0 lines q
   pub servable : Servable a v (getD q 0 0)
 
-abbrev pub jobIn : Taken → Bool
-jobIn (Job j) = true
-jobIn Bare = false
-jobIn IdleVictim = false
+abbrev pub isJob : Taken → Bool
+isJob (Job j) = true
+isJob Bare = false
+isJob IdleVictim = false
 
-abbrev pub baresIn : Taken → ℕ
-baresIn (Job j) = 0
-baresIn Bare = 1
-baresIn IdleVictim = 0
+abbrev pub bareOf : Taken → ℕ
+bareOf (Job j) = 0
+bareOf Bare = 1
+bareOf IdleVictim = 0
 
 pub record ServiceNoted (a : Account) (v left w : ℕ) (x : Taken) (a′ : Account) : Type 0 where
   pub weighed : a′ .weight ≡ a .weight

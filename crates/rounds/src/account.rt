@@ -6,7 +6,7 @@ ghost use Prim.Native.Nat.{_≤_, _<_};
 ghost use lib.Dec.{ltb};
 ghost use Rattle.crew.specs.Crew.{member, Marked};
 ghost use Rattle.turns.specs.Count.{Restable};
-ghost use Rattle.rounds.specs.Account.{opened as openedOf, rested as restedOf, jobIn, baresIn};
+ghost use Rattle.rounds.specs.Account.{opened as openedOf, rested as restedOf, isJob, bareOf};
 ghost use Rattle.rounds.specs.Account.{Turnable, TurnNoted, Layable, LayNoted, Servable, ServiceNoted};
 use crew::set::others;
 use crew::set::with;
@@ -123,8 +123,8 @@ fn still_asked(victims: u32, v: usize, left: u64) -> u32
 }
 
 // Whether a job was taken.
-fn job_in(taken: Taken) -> bool
-    ensures { λ r. ⌜ r ≡ jobIn taken ⌝ }
+fn is_job(taken: Taken) -> bool
+    ensures { λ r. ⌜ r ≡ isJob taken ⌝ }
 {
     match taken {
         Taken::Job(_) => true,
@@ -134,8 +134,8 @@ fn job_in(taken: Taken) -> bool
 }
 
 // 1 where the miss was bare, or 0.
-fn bares_in(taken: Taken) -> u32
-    ensures { λ r. ⌜ (r ≡ baresIn taken) × (r ≤ 1) ⌝ }
+fn bare_of(taken: Taken) -> u32
+    ensures { λ r. ⌜ (r ≡ bareOf taken) × (r ≤ 1) ⌝ }
 {
     match taken {
         Taken::Job(_) => 0,
@@ -150,7 +150,7 @@ pub fn served(account: Account, v: usize, left: u64, w: usize, taken: Taken) -> 
     ensures { λ a. ⌜ ServiceNoted account v left w taken a ⌝ }
 {
     let victims = still_asked(account.victims, v, left);
-    if job_in(taken) {
+    if is_job(taken) {
         return Account {
             weight: account.weight,
             holders: with(account.holders, w),
@@ -164,6 +164,6 @@ pub fn served(account: Account, v: usize, left: u64, w: usize, taken: Taken) -> 
         holders: account.holders,
         idlers: with(account.idlers, w),
         victims,
-        tally: with_miss(account.tally, bares_in(taken)),
+        tally: with_miss(account.tally, bare_of(taken)),
     }
 }

@@ -1,4 +1,4 @@
-// Requests and services, the second half of a round (document 01, "Worker and round").
+// Requests and services, the second half of a round (document 01, "Worker and round"; document 02, L2).
 ghost use mathlib.Core.Path.{_≡_};
 ghost use Rattle.plan.specs.Contract.{Some, _⇒_, before, after};
 ghost use Rattle.crew.specs.Crew.{member};

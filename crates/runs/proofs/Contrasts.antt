@@ -1,4 +1,4 @@
--- Small runs that tell rules of document 01 from errors close to them: with the error, the fact does not hold.
+-- Small runs that tell rules of documents 01 and 02 from errors close to them: with the error, the fact does not hold.
 -- The laws are checked in the order of their names, so a wrong definition is first refused here, by a number of these runs.
 --   G of courses == job 0, three actions, spawns 1 at 0; job 1, one, joins position 2; frames 1
 --   H == job 0, four actions, spawns 1 at 0 and 3 at 1; job 1, four, spawns 2 at 0 and 4 at 1, last joins position 3;
@@ -6,6 +6,7 @@
 --   K == job 0, four actions, spawns 1 at 0; job 1, four, its second spawns 2 and joins position 2, last joins position 3;
 --        job 2, one, joins position 3; frames 1
 --   L == job 0, four actions, spawns 1 at 1; job 1, one, joins position 3; frames 1
+--   M == job 0, four actions, spawns 1 at 0 and 2 at 1; job 1, one, joins position 3; job 2, two, last joins position 3; frames 1
 --   done p s j i == the row of action i of job j
 --   undone rows  == how many actions have no round
 use Prim.Native.Nat.{ℕ, zero, suc}
@@ -17,8 +18,9 @@ use Rattle.plan.specs.Rules.{inRange, spawnRules, joinRules, Accepted}
 use Rattle.courses.specs.Row.{Row, noRow, place}
 use Rattle.runs.specs.State.{State}
 use Rattle.plan_measure.specs.Measure.{work}
-use Rattle.runs.specs.Setting.{setting, countIn}
+use Rattle.runs.specs.Setting.{Setting, setting, countIn}
 use Rattle.runs.specs.Run.{run}
+use Rattle.runs.specs.Misses.{misses}
 use Rattle.runs.specs.Cases.{row}
 use Rattle.courses.proofs.Contrasts.{plain, spawns, joins, of, G}
 
@@ -41,6 +43,9 @@ K =
 abbrev L : Plan
 L = of (plain ∷ spawns 1 ∷ plain ∷ plain ∷ []) ∷ of (joins 3 ∷ []) ∷ []
 
+abbrev M : Plan
+M = of (spawns 1 ∷ spawns 2 ∷ plain ∷ plain ∷ []) ∷ of (joins 3 ∷ []) ∷ of (plain ∷ joins 3 ∷ []) ∷ []
+
 pub H-accepted : Accepted H
 unfolding inRange spawnRules joinRules entering spawnAt
 H-accepted = record { range = tt; spawns = tt; joins = tt }
@@ -52,6 +57,10 @@ K-accepted = record { range = tt; spawns = tt; joins = tt }
 pub L-accepted : Accepted L
 unfolding inRange spawnRules joinRules entering spawnAt
 L-accepted = record { range = tt; spawns = tt; joins = tt }
+
+pub M-accepted : Accepted M
+unfolding inRange spawnRules joinRules entering spawnAt
+M-accepted = record { range = tt; spawns = tt; joins = tt }
 
 abbrev G-run : State
 G-run = run (setting G 2 (0 ∷ []))
@@ -65,11 +74,14 @@ K-run = run (setting K 2 (0 ∷ []))
 abbrev L-run : State
 L-run = run (setting L 3 (0 ∷ []))
 
-abbrev G-missed : State
-G-missed = run (setting G 3 (0 ∷ []))
+abbrev G-all-ask-0 : Setting
+G-all-ask-0 = setting G 3 (0 ∷ [])
 
 abbrev G-given : State
 G-given = run (setting G 3 (0 ∷ 1 ∷ 1 ∷ []))
+
+abbrev M-run : State
+M-run = run (setting M 3 (0 ∷ 0 ∷ 1 ∷ 0 ∷ 1 ∷ []))
 
 abbrev done : Plan → State → ℕ → ℕ → Row
 done p s j i = getD (s .rows) (place p j i) noRow
@@ -126,7 +138,7 @@ oldest-served = refl
 
 -- workers 1 and 2 ask worker 0 in round 1, and worker 1 gets job 0. In round 2 job 1 ends on worker 0, which then serves worker 2: it
 -- held a job when the round began, and holds none now
-pub idle-when-served : G-missed .tally .«idle_victim» ≡ 1
+pub idle-when-served : run G-all-ask-0 .tally .«idle_victim» ≡ 1
 unfolding run countIn work
 idle-when-served = refl
 
@@ -135,3 +147,13 @@ idle-when-served = refl
 pub bare-when-served : G-given .tally .bare ≡ 2
 unfolding run countIn work
 bare-when-served = refl
+
+-- in round 3 worker 0, which holds nothing, serves worker 2, and then worker 1 gives it job 0
+pub idle-before-given : M-run .tally .«idle_victim» ≡ 2
+unfolding run countIn work
+idle-before-given = refl
+
+-- of the requests that all ask worker 0, one meets an empty deque
+pub missed-once : misses G-all-ask-0 ≡ 1
+unfolding misses countIn work
+missed-once = refl

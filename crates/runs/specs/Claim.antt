@@ -49,7 +49,8 @@ module _ (S : Setting) where
     -- T1 turns did an action, and "P × rounds = actions + idle turns"
     pub actions : t .actions ≡ work plan
     pub turns : workers * t .rounds ≡ t .actions + t .idle
-    -- "requests = steals + misses + requests still waiting", as the run ends, and of bare and idle-victim "Their sum is the old count."
+    -- "requests = steals + misses + requests still waiting", as the run ends; document 02, L2, of bare and idle-victim: "Their sum is the
+    -- old count."
     pub requests : t .requests ≡ t .steals + t .bare + t .«idle_victim» + waiting workers (run S .workers)
     pub misses-split : t .bare + t .«idle_victim» ≡ misses S
 

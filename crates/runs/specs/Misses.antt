@@ -1,5 +1,5 @@
 -- The count of misses of document 01, before document 02 (L2) split it: "The top job of the victim's deque goes to that worker, or it is a
--- miss." It is told here by the deques alone, and by neither of the two counts, which together are to be "the old count".
+-- miss." It is told here by who is served and by the deques, and by neither of the two counts, which together are to be "the old count".
 --   miss q d == 1 where a worker is served, of number q - 1, and the victim's deque d is empty; or 0
 --   servesMisses, roundMisses, roundsMisses == the misses of the victims below k, of one round, of at most k rounds
 --   misses S == the misses of the run of S

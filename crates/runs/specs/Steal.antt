@@ -1,7 +1,8 @@
 -- Requests and services, the second half of a round (document 01, "Worker and round"; document 02, L2).
 --   lay S r w x s  == in round r worker w, which was x when it began, lays a request if x is idle; lays S r k b s == those below k
 --   oldest v k ws  == which of the workers below k has the request that victim v serves: the worker's number plus 1, or 0
---   takeTop d held == what taking the top of the deque d gives, whose owner holds a job or not: a job, or which of the two misses it is
+--   takeTop d held == what taking the top of the deque d gives, whose owner holds a job or not: a job, or which of the two misses it is;
+--                     takenFrom s v == of the deque of victim v
 --   thief x        == the worker that was served, by what was taken; given v w x s == the state, of victim v and worker w
 --   serve v q s    == victim v serves the worker of number q - 1, or none if q is 0; serves S r k s == the victims below k
 --   waits x        == 1 where the worker x waits with a request, or 0
@@ -82,6 +83,10 @@ takeTop (x ∷ d) held = Job (topOf x d)
 takeTop [] true = Bare
 takeTop [] false = IdleVictim
 
+-- the same of the deque of victim v
+abbrev pub takenFrom : State → ℕ → Taken
+takenFrom s v = takeTop (dequeOf s v) (holds (workerOf s v))
+
 abbrev pub thief : Taken → Worker
 thief (Job j) = Holding j
 thief Bare = Idle
@@ -101,7 +106,7 @@ given v w taken s =
 unfoldable pub serve : ℕ → ℕ → State → State
 unfolding given
 serve v zero s = s
-serve v (suc w) s = given v w (takeTop (dequeOf s v) (holds (workerOf s v))) s
+serve v (suc w) s = given v w (takenFrom s v) s
 
 -- "every victim, in rising number, serves one request"
 unfoldable pub serves : Setting → ℕ → ℕ → State → State

@@ -1,6 +1,6 @@
 -- What each event makes of the counts (document 01, "Worker and round"; document 02, L2). A count stands in the record `Tally` of src/, in
--- `noCounts` and in the updates below; beside them a tally is written out in `recounted` and `withMiss` (`turns` S/Count) alone, for several
--- idle turns at once and for a miss of either kind.
+-- `noCounts` and in the updates below; beside them a tally is written out in `recounted` and `withMiss` (`turns` S/Count) alone, for
+-- several idle turns at once and for a miss of either kind.
 --   noCounts frame        == the counts as a run begins, where job 0 has that frame
 --   withAction t r weight == after a turn of round r that did an action, after which the living frames weigh `weight`
 --   withIdle t r          == after a turn of round r of a worker that held nothing when the round began

@@ -25,14 +25,13 @@ use Rattle.courses.specs.Ready.{weight}
 use Rattle.runs.specs.declared.worker.Worker.{Worker}
 use Rattle.runs.specs.declared.worker.Worker.the-variants.{Holding}
 use Rattle.runs.specs.Setting.{Setting}
-use Rattle.runs.specs.State.{State, nextOf, workerOf}
+use Rattle.runs.specs.State.{State, nextOf, workerOf, holds}
 use Rattle.runs.specs.Turn.{turn, turnOf}
 use Rattle.runs.specs.Run.{choicesFit}
 use Rattle.runs.specs.Trace.{Stage, turning, Trace}
 pub use Rattle.runs.specs.Parts.{afterOf, aboveOf}
 use Rattle.deques.specs.Dequed.{Dequed}
 use Rattle.turns.specs.declared.turn.Turned.{Turned}
-use Rattle.turns.specs.Worker.{holds}
 use Rattle.turns.specs.Progress.{Progressed}
 use Rattle.turns.specs.Rows.{Rowed}
 

@@ -1,5 +1,5 @@
-// The counts of a run, and what each event makes of them (document 01, "Worker and round"). Each event has one update by value; no
-// other function names a count that it moves.
+// The counts of a run, and what each event makes of them (document 01, "Worker and round"; document 02, L2). Each event has one update by
+// value, and the misses of both kinds one together; no other function names a count that it moves.
 // Every turn moves its counts where the tally stands: the tally is lent by `&mut` to one of two functions, which apply the update.
 // Their proofs, and those of the two that lend it, are walks by hand that know no count; whoever calls `acted` or `idled` passes a
 // tally by value and needs none.
@@ -70,8 +70,8 @@ pub fn with_steal(t: Tally) -> Tally
     u
 }
 
-// A service that gave none. `bare` is 1 where the victim holds a job, and 0 where it holds none: which it is is hard to foresee, so it is
-// added, and there is no branch on it.
+// A service that gave none. `bare` is 1 where the victim holds a job, and 0 where it holds none. The kind of a miss is hard to foresee, so
+// that it is added and not branched on.
 pub fn with_miss(t: Tally, bare: u32) -> Tally
     requires { ⌜ Countable t × (bare ≤ 1) ⌝ }
     ensures { λ r. ⌜ r ≡ withMiss t bare ⌝ }

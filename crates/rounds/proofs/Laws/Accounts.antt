@@ -2,7 +2,7 @@
 --   turn-noted-holding, turn-noted-idle, turn-noted-waiting == of a turn that leaves its worker holding a job, idle or waiting
 --   service-noted-job, service-noted-missed == of a service that gave a job, and of a miss of either kind
 use Prim.Native.Nat.{ℕ}
-use mathlib.Core.Path.{_≡_, refl, sym}
+use mathlib.Core.Path.{_≡_, refl, sym, _∙_}
 use mathlib.Core.Bool.{true, false, true≢false}
 use native.Mathlib.Nat.{add-zero}
 use native.Mathlib.Numerals.{add-one}
@@ -13,10 +13,11 @@ use Rattle.runs.specs.declared.taken.Taken.{Taken}
 use Rattle.runs.specs.declared.taken.Taken.the-variants.{Job, Bare, IdleVictim}
 use Rattle.runs.specs.declared.tally.Tally.{Tally}
 use Rattle.runs.specs.declared.worker.Worker.the-variants.{Idle, Holding, Waiting}
-use Rattle.runs.specs.Tally.{withAction, withSteal}
+use Rattle.runs.specs.Tally.{withAction, withSteal, withService}
+use Rattle.runs.specs.Steal.{thief}
 use Rattle.turns.specs.Count.{withIdles, withMiss}
 use Rattle.rounds.specs.declared.account.Account.{Account}
-use Rattle.rounds.specs.Account.{Turnable, TurnNoted, Servable, jobIn, baresIn, ServiceNoted}
+use Rattle.rounds.specs.Account.{Turnable, TurnNoted, Servable, isJob, bareOf, ServiceNoted}
 
 -- t is the tally with the action and then with the idle turns
 module _ {a : Account} {r w gap weighs : ℕ} (g : Turnable a r w gap) {acted t : Tally} {turns : ℕ}
@@ -42,28 +43,22 @@ module _ {a : Account} {r w gap weighs : ℕ} (g : Turnable a r w gap) {acted t 
         (record { weight = weighs; holders = holders; idlers = a .idlers; victims = a .victims; tally = t })
     turn-noted-waiting = record { weighed = refl; counts = rw (d, z) at e; holders = h; idlers = marked-as-was (g .busy); victims = refl }
 
+-- a miss is counted by its kind, and leaves its worker idle
+missed : (t : Tally) (x : Taken) → isJob x ≡ false → (withMiss t (bareOf x) ≡ withService t x) × (thief x ≡ Idle)
+missed t (Job j) q = absurd (true≢false q)
+missed t Bare q = (rw (add-one, add-zero) refl, refl)
+missed t IdleVictim q = (rw (add-zero, add-one) refl, refl)
+
 module _ {a : Account} {v left w victims : ℕ} (g : Servable a v w) (k : Marked v (ltb 0 left) (a .victims) victims) {t : Tally} where
-  pub service-noted-job : (x : Taken) → jobIn x ≡ true → t ≡ withSteal (a .tally) → {holders : ℕ} → Marked w true (a .holders) holders
+  pub service-noted-job : (x : Taken) → isJob x ≡ true → t ≡ withSteal (a .tally) → {holders : ℕ} → Marked w true (a .holders) holders
       → ServiceNoted a v left w x (record { weight = a .weight; holders = holders; idlers = a .idlers; victims = victims; tally = t })
   service-noted-job (Job j) q e h = record { weighed = refl; counts = e; holders = h; idlers = marked-as-was (g .waits .1); victims = k }
   service-noted-job Bare q e h = absurd (true≢false (sym q))
   service-noted-job IdleVictim q e h = absurd (true≢false (sym q))
 
-  pub service-noted-missed : (x : Taken) → jobIn x ≡ false → t ≡ withMiss (a .tally) (baresIn x)
+  pub service-noted-missed : (x : Taken) → isJob x ≡ false → t ≡ withMiss (a .tally) (bareOf x)
       → {idlers : ℕ} → Marked w true (a .idlers) idlers
       → ServiceNoted a v left w x (record { weight = a .weight; holders = a .holders; idlers = idlers; victims = victims; tally = t })
-  service-noted-missed (Job j) q e i = absurd (true≢false q)
-  service-noted-missed Bare q e i = record {
-    weighed = refl;
-    counts = rw (add-one, add-zero) at e;
-    holders = marked-as-was (g .waits .0);
-    idlers = i;
-    victims = k;
-  }
-  service-noted-missed IdleVictim q e i = record {
-    weighed = refl;
-    counts = rw (add-zero, add-one) at e;
-    holders = marked-as-was (g .waits .0);
-    idlers = i;
-    victims = k;
-  }
+  service-noted-missed x q e i =
+      let (counts, idle) = missed (a .tally) x q in
+      record { weighed = refl; counts = e ∙ counts; holders = rw idle (marked-as-was (g .waits .0)); idlers = rw idle i; victims = k }

@@ -21,7 +21,7 @@ use Rattle.plan_measure.specs.Measure.{work}
 use Rattle.courses.specs.Row.{place}
 use Rattle.runs.specs.declared.worker.Worker.the-variants.{Idle, Holding}
 use Rattle.runs.specs.Setting.{setting}
-use Rattle.runs.specs.State.{workerOf, start}
+use Rattle.runs.specs.State.{workerOf, holds, start}
 use Rattle.runs.specs.Steal.{waits}
 use Rattle.runs.specs.Run.{run}
 use Rattle.runs.specs.Trace.{begins}
@@ -32,7 +32,7 @@ use Rattle.runs.proofs.Laws.Coursed.{start-weight}
 use Rattle.crew.proofs.Laws.Crews.{crewed-none, crewed-first, crewed-others}
 use Rattle.crew.proofs.Laws.Lines.{line-first-zero}
 use Rattle.deques.specs.Dequed.{lenAt, dequeAt, Dequed}
-use Rattle.turns.specs.Worker.{holds, isIdle}
+use Rattle.turns.specs.Worker.{isIdle}
 use Rattle.turns.specs.Progress.{withMissing, missingAt, missingTo}
 use Rattle.turns.proofs.Laws.Missing.{missing-start}
 use Rattle.rounds.specs.Account.{opened}

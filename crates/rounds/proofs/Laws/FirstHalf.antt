@@ -26,7 +26,7 @@ use Rattle.courses.specs.Ready.{weight}
 use Rattle.runs.specs.declared.worker.Worker.{Worker}
 use Rattle.runs.specs.declared.worker.Worker.the-variants.{Idle}
 use Rattle.runs.specs.Setting.{Setting, setting, countIn}
-use Rattle.runs.specs.State.{State, nextOf}
+use Rattle.runs.specs.State.{State, nextOf, holds}
 use Rattle.runs.specs.Turn.{turnOf, turns}
 use Rattle.runs.specs.Steal.{lays}
 use Rattle.runs.specs.Run.{ended, rounds, run}
@@ -39,7 +39,7 @@ use Rattle.runs.proofs.Laws.Whole.{round-last, rounds-stop, rounds-on}
 use Rattle.crew.specs.Crew.{Lowest, Rest}
 use Rattle.crew.proofs.Laws.Walks.{left-start, left-known, left-ahead, left-test, left-next}
 use Rattle.turns.specs.declared.turn.Turned.{Turned}
-use Rattle.turns.specs.Worker.{holds, isIdle}
+use Rattle.turns.specs.Worker.{isIdle}
 use Rattle.turns.specs.Count.{Restable}
 use Rattle.turns.specs.Progress.{doneOf}
 use Rattle.turns.specs.Moments.{InRun, Moment, Turning, TurnTaken}

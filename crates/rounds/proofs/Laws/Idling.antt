@@ -13,12 +13,11 @@ use Rattle.runs.specs.declared.tally.Tally.{Tally}
 use Rattle.runs.specs.declared.worker.Worker.{Worker}
 use Rattle.runs.specs.declared.worker.Worker.the-variants.{Idle, Holding, Waiting}
 use Rattle.runs.specs.Tally.{withIdle}
-use Rattle.runs.specs.State.{State}
+use Rattle.runs.specs.State.{State, holds}
 use Rattle.runs.specs.Turn.{idled, turnOf, turns}
 use Rattle.crew.specs.Crew.{Lowest}
 use Rattle.crew.proofs.Laws.Walks.{Left}
 use Rattle.crew.proofs.Laws.Folds.{times, fold-to, fold-end}
-use Rattle.turns.specs.Worker.{holds}
 use Rattle.turns.specs.Count.{recounted, withIdles}
 use Rattle.rounds.proofs.Laws.Standing.{holdingIn}
 

@@ -14,11 +14,11 @@ use Rattle.runs.specs.declared.tally.Tally.{Tally}
 use Rattle.runs.specs.declared.worker.Worker.{Worker}
 use Rattle.runs.specs.declared.worker.Worker.the-variants.{Idle, Holding, Waiting}
 use Rattle.runs.specs.Tally.{withAction}
-use Rattle.runs.specs.State.{State, workerOf}
+use Rattle.runs.specs.State.{State, workerOf, holds}
 use Rattle.runs.specs.Turn.{turn, turnOf}
 use Rattle.crew.proofs.Laws.Crews.{crewed-mark}
 use Rattle.turns.specs.declared.turn.Turned.{Turned}
-use Rattle.turns.specs.Worker.{holds, isIdle}
+use Rattle.turns.specs.Worker.{isIdle}
 use Rattle.turns.specs.Count.{withIdles}
 use Rattle.turns.specs.Moments.{After}
 use Rattle.rounds.specs.declared.account.Account.{Account}

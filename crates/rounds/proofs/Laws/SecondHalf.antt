@@ -21,15 +21,15 @@ use Rattle.runs.specs.declared.taken.Taken.{Taken}
 use Rattle.runs.specs.declared.worker.Worker.{Worker}
 use Rattle.runs.specs.declared.worker.Worker.the-variants.{Idle, Waiting}
 use Rattle.runs.specs.Setting.{Setting, countIn}
-use Rattle.runs.specs.State.{State, workerOf, dequeOf}
-use Rattle.runs.specs.Steal.{laid, lay, lays, oldest, takeTop, thief, given, serve, serves, waits}
+use Rattle.runs.specs.State.{State, workerOf, holds, dequeOf}
+use Rattle.runs.specs.Steal.{laid, lay, lays, oldest, takenFrom, thief, given, serve, serves, waits}
 use Rattle.runs.specs.Run.{ended, rounds, run}
 use Rattle.runs.specs.Trace.{turning, laying, serving, goes-on, all-laid, next-round}
 use Rattle.runs.proofs.Laws.Least.{oldest-waits}
 use Rattle.runs.proofs.Laws.Began.{laying-idle}
 use Rattle.runs.proofs.Laws.Coursed.{round-most}
 use Rattle.runs.proofs.Laws.Rounds.{rounds-known}
-use Rattle.runs.proofs.Laws.Stores.{victimOf, thief-waits}
+use Rattle.runs.proofs.Laws.Stores.{victimOf, served-calm}
 use Rattle.runs.proofs.Laws.Tallies.{serve-requests}
 use Rattle.runs.proofs.Laws.Whole.{round-on, rounds-on}
 use Rattle.plan_measure.specs.Measure.{work}
@@ -38,7 +38,7 @@ use Rattle.crew.specs.Line.{waitingAt, LiningUp, LinedUp, Leaving, Gone, Beside
 use Rattle.crew.proofs.Laws.Walks.{left-start, left-known, left-ahead, left-test, left-next}
 use Rattle.crew.proofs.Laws.Folds.{fold-skip-to, fold-skip-next, fold-skip-end}
 use Rattle.deques.specs.Dequed.{Dequed, TookTop}
-use Rattle.turns.specs.Worker.{holds, isIdle}
+use Rattle.turns.specs.Worker.{isIdle}
 use Rattle.turns.specs.Count.{Countable}
 use Rattle.turns.specs.Moments.{InRun}
 use Rattle.turns.proofs.Laws.Running.{run-fit, run-sound, run-counts, run-countable, run-choices, run-few, run-chosen}
@@ -310,7 +310,7 @@ module _ {S : Setting} {plan : List ℕ} (g : Fitted S plan) where
 
         -- what is taken for it
         abbrev top : Taken
-        top = takeTop (dequeOf now-served v) (holds (workerOf now-served v))
+        top = takenFrom now-served v
 
         served : afterServes S r (suc v) (z .state) ≡ given v w top now-served
         unfolding serve
@@ -321,7 +321,7 @@ module _ {S : Setting} {plan : List ℕ} (g : Fitted S plan) where
         unfolding serves-line serve given
         served-asking m e = record {
           pointed = rw (serve-requests v (suc w) now-served) (z .asking .pointed);
-          queued = queued-pop (z .asking .queued) serves-sixteen (gone .known) serves-known beside (thief top) (thief-waits top)
+          queued = queued-pop (z .asking .queued) serves-sixteen (gone .known) serves-known beside (thief top) (served-calm top)
               (serves-leaving .there) gone;
           crewed = asked-marked (z .asking .queued v serves-known .lined .long) beside (z .asking .crewed) serves-here
               (e .victims) (ap (ltb 0) (sym m));

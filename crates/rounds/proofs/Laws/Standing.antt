@@ -27,7 +27,7 @@ use Rattle.courses.specs.Ready.{weight}
 use Rattle.runs.specs.declared.worker.Worker.{Worker}
 use Rattle.runs.specs.declared.worker.Worker.the-variants.{Idle, Waiting}
 use Rattle.runs.specs.Setting.{Setting, setting}
-use Rattle.runs.specs.State.{State}
+use Rattle.runs.specs.State.{State, holds}
 use Rattle.runs.specs.Turn.{turns}
 use Rattle.runs.specs.Steal.{lays, serves}
 use Rattle.runs.specs.Run.{ended, rounds, run, choicesFit}
@@ -36,7 +36,7 @@ use Rattle.runs.proofs.Laws.Least.{rank}
 use Rattle.crew.specs.Line.{waitingAt, LineAt}
 use Rattle.crew.proofs.Laws.Walks.{Crewed, Left}
 use Rattle.deques.specs.Dequed.{Dequed}
-use Rattle.turns.specs.Worker.{holds, isIdle}
+use Rattle.turns.specs.Worker.{isIdle}
 use Rattle.turns.specs.Progress.{Progressed}
 use Rattle.turns.specs.Rows.{Rowed}
 use Rattle.rounds.specs.declared.account.Account.{Account}

@@ -18,7 +18,7 @@ use Rattle.runs.specs.declared.tally.Tally.{Tally}
 use Rattle.runs.specs.declared.worker.Worker.{Worker}
 use Rattle.runs.specs.declared.worker.Worker.the-variants.{Idle, Holding, Waiting}
 use Rattle.runs.specs.Setting.{Setting}
-use Rattle.runs.specs.State.{State, workerOf}
+use Rattle.runs.specs.State.{State, workerOf, holds}
 use Rattle.runs.specs.Tally.{withRequest, withService}
 use Rattle.runs.specs.Steal.{laid, thief, given}
 use Rattle.runs.proofs.Laws.Stores.{victimOf}
@@ -26,7 +26,7 @@ use Rattle.crew.specs.Crew.{Marked}
 use Rattle.crew.specs.Line.{waitingAt, Beside}
 use Rattle.crew.proofs.Laws.Walks.{Crewed}
 use Rattle.crew.proofs.Laws.Crews.{crewed-at, crewed-mark, crewed-same}
-use Rattle.turns.specs.Worker.{holds, isIdle}
+use Rattle.turns.specs.Worker.{isIdle}
 use Rattle.rounds.specs.declared.account.Account.{Account}
 use Rattle.rounds.specs.Account.{LayNoted, ServiceNoted}
 use Rattle.rounds.proofs.Laws.Standing.{askedIn, Manned}

@@ -3,7 +3,7 @@
 --   serves-misses, round-misses, rounds-misses == they grow by those of the services of a round, of the round, of so many rounds
 --   run-misses     == so those of a run are its misses
 use Prim.Native.Nat.{ℕ, zero, suc, _+_}
-use mathlib.Core.Path.{_≡_, refl, ap, _∙_}
+use mathlib.Core.Path.{_≡_, refl, _∙_}
 use mathlib.Core.Bool.{Bool, true, false}
 use mathlib.Core.List.{List, [], _∷_}
 use native.Mathlib.Omega.{arith}

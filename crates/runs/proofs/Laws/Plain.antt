@@ -1,22 +1,26 @@
 -- The run of document 01 in its own terms, a plan, a number of workers that is the same in every round, and choices: it is the run of
--- the setting that has these three and nothing else.
+-- the setting that has these three and nothing else. A service is told by its cases, a miss of either kind and a steal.
 --   plainLay, .., plainRun == as `lay`, .., `run` of specs/, of the three apart
+--   serve-plain            == a service is the one that is told by its cases
 --   run-plain              == the two are the same function
 use Prim.Native.Nat.{ℕ, zero, suc, _%_}
 use mathlib.Core.Path.{_≡_, refl, ap, _∙_}
 use mathlib.Core.Bool.{Bool, true, false}
-use mathlib.Core.List.{List}
+use mathlib.Core.List.{List, [], _∷_}
 use lib.ListN.{length, getD, set}
+use Rattle.runs.specs.declared.taken.Taken.{Taken}
+use Rattle.runs.specs.declared.taken.Taken.the-variants.{Bare, IdleVictim}
 use Rattle.runs.specs.declared.worker.Worker.{Worker}
 use Rattle.runs.specs.declared.worker.Worker.the-variants.{Idle, Holding, Waiting}
 use Rattle.plan.specs.Plan.{Plan, total}
 use Rattle.plan_measure.proofs.Laws.Work.{work-total}
 use Rattle.runs.specs.Setting.{setting, countIn}
-use Rattle.runs.specs.Tally.{withRequest}
-use Rattle.runs.specs.State.{State, start}
+use Rattle.runs.specs.Tally.{withRequest, withSteal, withBare, withIdleVictim, withService}
+use Rattle.runs.specs.State.{State, workerOf, holds, dequeOf, start}
 use Rattle.runs.specs.Turn.{turns}
-use Rattle.runs.specs.Steal.{laid, lay, lays, oldest, serve, serves}
+use Rattle.runs.specs.Steal.{laid, lay, lays, oldest, dropTop, topOf, takeTop, thief, given, serve, serves}
 use Rattle.runs.specs.Run.{ended, round, rounds, run}
+use Rattle.runs.proofs.Laws.Stores.{empty-kept}
 
 unfoldable plainLay : List ℕ → ℕ → ℕ → Worker → State → State
 plainLay choices r w Idle s =
@@ -36,9 +40,35 @@ unfolding plainLay
 plainLays choices r zero began s = s
 plainLays choices r (suc k) began s = plainLay choices r k (getD began k Idle) (plainLays choices r k began s)
 
+-- a miss, which leaves the deques as they were, and a steal
+unfoldable plainGiven : ℕ → ℕ → Worker → List ℕ → State → State
+plainGiven v w victim [] s =
+    let t = s .tally in
+    record {
+      next = s .next;
+      workers = set (s .workers) w Idle;
+      deques = s .deques;
+      rows = s .rows;
+      tally = elim victim [ Holding j ↦ withBare t | Idle ↦ withIdleVictim t | Waiting u l ↦ withIdleVictim t ];
+    }
+plainGiven v w victim (x ∷ d) s =
+    record {
+      next = s .next;
+      workers = set (s .workers) w (Holding (topOf x d));
+      deques = set (s .deques) v (dropTop (x ∷ d));
+      rows = s .rows;
+      tally = withSteal (s .tally);
+    }
+
+unfoldable plainServe : ℕ → ℕ → State → State
+unfolding plainGiven
+plainServe v zero s = s
+plainServe v (suc w) s = plainGiven v w (workerOf s v) (dequeOf s v) s
+
 unfoldable plainServes : ℕ → ℕ → State → State
+unfolding plainServe
 plainServes n zero s = s
-plainServes n (suc k) s = let t = plainServes n k s in serve k (oldest k n (t .workers) .who) t
+plainServes n (suc k) s = let t = plainServes n k s in plainServe k (oldest k n (t .workers) .who) t
 
 unfoldable plainRound : Plan → ℕ → List ℕ → State → State
 unfolding plainLays plainServes
@@ -61,6 +91,22 @@ chosen : (b : Bool) (s : State) {t u : State} → t ≡ u
 chosen true s e = refl
 chosen false s e = e
 
+abbrev served : ℕ → Taken → State → List (List ℕ) → State
+served w x s ds =
+    record { next = s .next; workers = set (s .workers) w (thief x); deques = ds; rows = s .rows; tally = withService (s .tally) x }
+
+serve-plain : (v who : ℕ) (s : State) → serve v who s ≡ plainServe v who s
+unfolding serve given plainServe plainGiven
+serve-plain v zero s = refl
+serve-plain v (suc w) s = go (dequeOf s v) refl (workerOf s v)
+  where
+    go : (d : List ℕ) → dequeOf s v ≡ d → (x : Worker)
+        → served w (takeTop d (holds x)) s (set (s .deques) v (dropTop d)) ≡ plainGiven v w x d s
+    go (y ∷ d) e x = refl
+    go [] e Idle = ap (served w IdleVictim s) (empty-kept s v e)
+    go [] e (Holding j) = ap (served w Bare s) (empty-kept s v e)
+    go [] e (Waiting u l) = ap (served w IdleVictim s) (empty-kept s v e)
+
 module _ (p : Plan) (n : ℕ) (choices : List ℕ) where
   lay-plain : (r w : ℕ) (x : Worker) (s : State) → lay (setting p n choices) r w x s ≡ plainLay choices r w x s
   unfolding lay laid plainLay
@@ -77,7 +123,9 @@ module _ (p : Plan) (n : ℕ) (choices : List ℕ) where
   serves-plain : (r k : ℕ) (s : State) → serves (setting p n choices) r k s ≡ plainServes n k s
   unfolding serves plainServes countIn
   serves-plain r zero s = refl
-  serves-plain r (suc k) s = ap (λ t. serve k (oldest k n (t .workers) .who) t) (serves-plain r k s)
+  serves-plain r (suc k) s =
+      let t = serves (setting p n choices) r k s in
+      serve-plain k (oldest k n (t .workers) .who) t ∙ ap (λ t. plainServe k (oldest k n (t .workers) .who) t) (serves-plain r k s)
 
   round-plain : (s : State) → round (setting p n choices) s ≡ plainRound p n choices s
   unfolding round plainRound countIn

@@ -1,6 +1,7 @@
 -- What a turn does to the counts, and what a request and a service leave as it was: all that a schedule and the counts of turns rest on.
 --   Took r s t               == t has one turn more than s, of round r, and the requests, steals and misses of both kinds of s
 --   Rests s t                == t has the actions, the rows and the counts of turns of s
+--   service-keeps            == a service leaves all counts but those of what it met
 --   turned-took              == `Took` of a turn of a run
 --   laid-rests, served-rests == `Rests` of a request and of a service
 use Prim.Native.Nat.{ℕ, zero, suc, _+_}
@@ -10,13 +11,15 @@ use native.Mathlib.Omega.{arith}
 use lib.ListN.{getD}
 use Rattle.runs.specs.declared.taken.Taken.{Taken}
 use Rattle.runs.specs.declared.taken.Taken.the-variants.{Job, Bare, IdleVictim}
+use Rattle.runs.specs.declared.tally.Tally.{Tally}
 use Rattle.runs.specs.declared.worker.Worker.{Worker}
 use Rattle.runs.specs.declared.worker.Worker.the-variants.{Idle, Holding, Waiting}
 use Rattle.plan.specs.Plan.{Plan}
 use Rattle.runs.specs.Setting.{Setting}
-use Rattle.runs.specs.State.{State, workerOf, holds, dequeOf}
+use Rattle.runs.specs.State.{State}
+use Rattle.runs.specs.Tally.{withService}
 use Rattle.runs.specs.Turn.{turn, idled, turnOf}
-use Rattle.runs.specs.Steal.{laid, lay, takeTop, given, serve}
+use Rattle.runs.specs.Steal.{laid, lay, takenFrom, given, serve}
 use Rattle.runs.specs.Parts.{pickOf}
 use Rattle.runs.specs.Trace.{turning, laying, serving, Trace}
 
@@ -45,22 +48,31 @@ lay-rests S r w Idle s = record { next = refl; rows = refl; rounds = refl; actio
 lay-rests S r w (Holding j) s = same-rests s
 lay-rests S r w (Waiting v l) s = same-rests s
 
+pub service-keeps : (x : Taken) (t : Tally) → let u = withService t x in
+    (u .rounds ≡ t .rounds) × (u .actions ≡ t .actions) × (u .idle ≡ t .idle) × (u .requests ≡ t .requests) × (u .peak ≡ t .peak)
+service-keeps (Job j) t = (refl, refl, refl, refl, refl)
+service-keeps Bare t = (refl, refl, refl, refl, refl)
+service-keeps IdleVictim t = (refl, refl, refl, refl, refl)
+
 given-rests : (v w : ℕ) (x : Taken) (s : State) → Rests s (given v w x s)
 unfolding given
-given-rests v w (Job j) s = record { next = refl; rows = refl; rounds = refl; actions = refl; idle = refl; peak = refl }
-given-rests v w Bare s = record { next = refl; rows = refl; rounds = refl; actions = refl; idle = refl; peak = refl }
-given-rests v w IdleVictim s = record { next = refl; rows = refl; rounds = refl; actions = refl; idle = refl; peak = refl }
+given-rests v w x s =
+    let (rounds, actions, idle, requests, peak) = service-keeps x (s .tally) in
+    record { next = refl; rows = refl; rounds = rounds; actions = actions; idle = idle; peak = peak }
 
 pub serve-rests : (v who : ℕ) (s : State) → Rests s (serve v who s)
 unfolding serve
 serve-rests v zero s = same-rests s
-serve-rests v (suc w) s = given-rests v w (takeTop (dequeOf s v) (holds (workerOf s v))) s
+serve-rests v (suc w) s = given-rests v w (takenFrom s v) s
 
 pub turn-took : (p : Plan) (r w : ℕ) (x : Worker) (s : State) → Took r s (turnOf p r w x s)
 unfolding turnOf turn idled
-turn-took p r w Idle s = record { rounds = refl; turns = omega arith; requests = refl; steals = refl; bare = refl; idle-victim = refl }
-turn-took p r w (Holding j) s = record { rounds = refl; turns = omega arith; requests = refl; steals = refl; bare = refl; idle-victim = refl }
-turn-took p r w (Waiting v l) s = record { rounds = refl; turns = omega arith; requests = refl; steals = refl; bare = refl; idle-victim = refl }
+turn-took p r w Idle s =
+    record { rounds = refl; turns = omega arith; requests = refl; steals = refl; bare = refl; idle-victim = refl }
+turn-took p r w (Holding j) s =
+    record { rounds = refl; turns = omega arith; requests = refl; steals = refl; bare = refl; idle-victim = refl }
+turn-took p r w (Waiting v l) s =
+    record { rounds = refl; turns = omega arith; requests = refl; steals = refl; bare = refl; idle-victim = refl }
 
 -- the steps of a run
 module _ {S : Setting} {r k : ℕ} {b : List Worker} {s : State} where

@@ -9,7 +9,7 @@ use mathlib.Core.List.{List, [], _∷_, _++_}
 use native.Mathlib.Omega.{arith}
 use native.Mathlib.Decide.{ℕ-discrete}
 use lib.ListN.{set, length-set}
-use lib.Seq.{getD-set-same, getD-set-other, set-getD}
+use lib.Seq.{getD-set-same, getD-set-other}
 use Rattle.runs.specs.declared.taken.Taken.the-variants.{Job}
 use Rattle.runs.specs.declared.tally.Tally.{Tally}
 use Rattle.runs.specs.declared.worker.Worker.{Worker}
@@ -24,7 +24,7 @@ use Rattle.lines.proofs.Laws.Steal.{steal-good}
 use Rattle.plan.specs.Rules.{Accepted}
 use Rattle.courses.proofs.Laws.PlanShape.{shape, shape-valid}
 use Rattle.runs.proofs.Laws.Lined.{lineIn, lineOf, Sound, line-of, held-or-empty}
-use Rattle.runs.proofs.Laws.Stores.{victimOf}
+use Rattle.runs.proofs.Laws.Stores.{victimOf, empty-kept}
 
 -- the state with other workers
 abbrev withWorkers : State → List Worker → Tally → State
@@ -137,7 +137,7 @@ module _ {p : Plan} (ok : Accepted p) {n : ℕ} (most : n ≤ 16) {s : State} (s
     unfolding given
     missed-sound q held =
         let same : set (s .deques) v (dropTop (dequeOf s v)) ≡ s .deques =
-        ap (λ d. set (s .deques) v (dropTop d)) q ∙ ap (set (s .deques) v) (sym q) ∙ set-getD (s .deques) v [] in
+        ap (λ d. set (s .deques) v (dropTop d)) q ∙ empty-kept s v q in
         rw (same, nothing held) (free-sound most sound c idle Idle (λ d. refl) (given v w (takeTop [] held) s .tally))
       where
         nothing : (held : Bool) → thief (takeTop [] held) ≡ Idle

@@ -5,7 +5,8 @@
 --                     the round began, holds after k's turn
 --   laid-workers   == what holds of the workers, and of those with one that waits in place of a worker k that was idle as the round
 --                     began, holds after k's request
---   thief-waits    == who was served does not wait
+--   empty-kept     == an empty deque that is stored again changes none
+--   served-calm    == who was served does not wait
 --   served-workers == what holds of the workers if none is served, and of those with one that does not wait in place of the one that
 --                     is, holds after the service
 use Prim.Native.Nat.{ℕ, zero, suc, _%_}
@@ -14,6 +15,7 @@ use mathlib.Core.Bool.{Bool, true, false}
 use mathlib.Core.List.{List, [], _∷_}
 use lib.Dec.{ltb}
 use lib.ListN.{length, getD, set}
+use lib.Seq.{set-getD}
 use Rattle.plan.specs.Test.{both}
 use Rattle.plan.specs.Plan.{Plan, size, action}
 use Rattle.courses.specs.Ready.{ready}
@@ -22,12 +24,12 @@ use Rattle.runs.specs.declared.taken.Taken.the-variants.{Job, Bare, Idle
 use Rattle.runs.specs.declared.worker.Worker.{Worker}
 use Rattle.runs.specs.declared.worker.Worker.the-variants.{Idle, Holding, Waiting}
 use Rattle.runs.specs.Setting.{Setting}
-use Rattle.runs.specs.State.{State, nextOf, workerOf, holds, dequeOf}
+use Rattle.runs.specs.State.{State, nextOf, dequeOf}
 use Rattle.runs.specs.Turn.{seatAfter, turn, idled, turnOf}
 use Rattle.runs.specs.Parts.{afterOf, aboveOf, pickOf}
 use Rattle.runs.specs.Trace.{turning, laying, serving, Trace}
 use Rattle.runs.proofs.Laws.TurnSound.{stay, seat-spawn, seat-none}
-use Rattle.runs.specs.Steal.{laid, lay, takeTop, thief, given, serve, waits}
+use Rattle.runs.specs.Steal.{laid, lay, takenFrom, thief, given, serve, waits}
 
 abbrev pub victimOf : Setting → State → ℕ
 victimOf S s = getD (S .choices) (s .tally .requests % length (S .choices)) 0
@@ -44,10 +46,13 @@ seat-waits p after j i d = go (action p j i .spawn) refl
     go (suc c) e = rw (seat-spawn p after j i d e)
     go zero e = rw (seat-none p after j i d e) (stay-waits (both (ltb (suc i) (size p j)) (ready p after j)) j d)
 
-pub thief-waits : (x : Taken) → waits (thief x) ≡ 0
-thief-waits (Job j) = refl
-thief-waits Bare = refl
-thief-waits IdleVictim = refl
+pub empty-kept : (s : State) (v : ℕ) → dequeOf s v ≡ [] → set (s .deques) v [] ≡ s .deques
+empty-kept s v e = rw e at (set-getD (s .deques) v [])
+
+pub served-calm : (x : Taken) → waits (thief x) ≡ 0
+served-calm (Job j) = refl
+served-calm Bare = refl
+served-calm IdleVictim = refl
 
 module _ (P : List Worker → Type 0) where
   turn-workers : (p : Plan) (r k : ℕ) (x : Worker) (s : State) → P (s .workers)
@@ -68,7 +73,7 @@ module _ (P : List Worker → Type 0) where
       → ((w : ℕ) (y : Worker) → who ≡ suc w → waits y ≡ 0 → P (set (s .workers) w y)) → P (serve v who s .workers)
   unfolding serve given
   serve-workers v zero s i f = i refl
-  serve-workers v (suc w) s i f = let x = takeTop (dequeOf s v) (holds (workerOf s v)) in f w (thief x) refl (thief-waits x)
+  serve-workers v (suc w) s i f = let x = takenFrom s v in f w (thief x) refl (served-calm x)
 
   -- the same at the steps of a run
   module _ {S : Setting} {r k : ℕ} {b : List Worker} {s : State} where

@@ -9,19 +9,17 @@ use mathlib.Core.List.{List}
 use native.Mathlib.Nat.{mul-zero, mul-suc}
 use native.Mathlib.Omega.{arith}
 use lib.ListN.{getD}
-use Rattle.runs.specs.declared.taken.Taken.{Taken}
-use Rattle.runs.specs.declared.taken.Taken.the-variants.{Job, Bare, IdleVictim}
 use Rattle.runs.specs.declared.tally.Tally.{Tally}
 use Rattle.runs.specs.declared.worker.Worker.{Worker}
 use Rattle.runs.specs.declared.worker.Worker.the-variants.{Idle, Holding, Waiting}
 use Rattle.runs.specs.Setting.{Setting, countIn}
-use Rattle.runs.specs.State.{State, workerOf, holds, dequeOf, start}
+use Rattle.runs.specs.State.{State, start}
 use Rattle.runs.specs.Turn.{turn, turnOf}
-use Rattle.runs.specs.Steal.{laid as laidBy, lay, takeTop, given, serve}
+use Rattle.runs.specs.Steal.{laid as laidBy, lay, takenFrom, given, serve}
 use Rattle.runs.specs.Parts.{pickOf}
 use Rattle.runs.specs.Trace.{Stage, turning, laying, serving, Trace, begins, turned, goes-on, laid, all-laid, served, next-round}
 use Rattle.runs.proofs.Laws.Fit.{Fit, count-most, count-within, count-is}
-use Rattle.runs.proofs.Laws.Rests.{turned-took, laid-rests, served-rests}
+use Rattle.runs.proofs.Laws.Rests.{service-keeps, turned-took, laid-rests, served-rests}
 use Rattle.runs.proofs.Laws.Rounds.{began-busy}
 
 unfoldable pub counts : Setting → ℕ → ℕ
@@ -54,12 +52,7 @@ Requested S (serving k) r q = q ≤ counts S r
 pub serve-requests : (v who : ℕ) (s : State) → serve v who s .tally .requests ≡ s .tally .requests
 unfolding serve given
 serve-requests v zero s = refl
-serve-requests v (suc w) s = go (takeTop (dequeOf s v) (holds (workerOf s v)))
-  where
-    go : (x : Taken) → given v w x s .tally .requests ≡ s .tally .requests
-    go (Job j) = refl
-    go Bare = refl
-    go IdleVictim = refl
+serve-requests v (suc w) s = service-keeps (takenFrom s v) (s .tally) .3
 
 lay-requests : (S : Setting) (r w : ℕ) (x : Worker) (s : State) → lay S r w x s .tally .requests ≤ suc (s .tally .requests)
 unfolding lay laidBy

@@ -17,8 +17,8 @@ use Rattle.runs.specs.declared.taken.Taken.the-variants.{Job, Bare, Idle
 use Rattle.runs.specs.declared.worker.Worker.{Worker}
 use Rattle.runs.specs.declared.worker.Worker.the-variants.{Idle, Holding, Waiting}
 use Rattle.runs.specs.Setting.{Setting, countIn}
-use Rattle.runs.specs.State.{State, workerOf, holds, dequeOf, start}
-use Rattle.runs.specs.Steal.{laid as laidBy, lay, takeTop, given, serve, waits, waiting}
+use Rattle.runs.specs.State.{State, workerOf, start}
+use Rattle.runs.specs.Steal.{laid as laidBy, lay, takenFrom, given, serve, waits, waiting}
 use Rattle.runs.specs.Parts.{Picks, pickOf}
 use Rattle.runs.specs.Trace.{Stage, Trace, begins, turned, goes-on, laid, all-laid, served, next-round}
 use Rattle.runs.proofs.Laws.Fit.{Fit, count-next}
@@ -72,7 +72,7 @@ module _ {n : ℕ} (s : State) (placed : n ≤ length (s .workers)) where
   serve-settled v zero picks i = i
   serve-settled v (suc w) picks i =
       let (h, l, e) = picks w refl in
-      given-settled v w h (ap waits e) i (takeTop (dequeOf s v) (holds (workerOf s v)))
+      given-settled v w h (ap waits e) i (takenFrom s v)
 
 module _ {S : Setting} (fit : Fit S) where
   open Setting S using (plan)

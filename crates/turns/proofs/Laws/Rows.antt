@@ -18,10 +18,9 @@ use Rattle.courses.specs.Row.{place}
 use Rattle.runs.specs.declared.worker.Worker.{Worker}
 use Rattle.runs.proofs.worker.Worker.{the-type}
 use Rattle.runs.specs.declared.worker.Worker.the-variants.{Idle, Holding, Waiting}
-use Rattle.runs.specs.State.{State, nextOf}
+use Rattle.runs.specs.State.{State, nextOf, holds}
 use Rattle.runs.specs.Turn.{turnOf}
 use Rattle.turns.specs.declared.turn.Turned.{Turned}
-use Rattle.turns.specs.Worker.{holds}
 use Rattle.turns.specs.Progress.{doneOf}
 use Rattle.turns.specs.Rows.{withRow, Rowed}
 use Rattle.turns.specs.Moments.{Moment, Acting, Acted, Turning, TurnTaken}

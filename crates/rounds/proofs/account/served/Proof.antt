@@ -9,8 +9,8 @@ use Rattle.rounds.proofs.account.served.Tie as tie
 still-asked-requires : tie.Need-still-asked-requires
 still-asked-requires c κs = search needs
 
-job-in-requires : tie.Need-job-in-requires
-job-in-requires c κs = tt
+is-job-requires : tie.Need-is-job-requires
+is-job-requires c κs = tt
 
 with-requires : tie.Need-with-requires
 with-requires c κs = search needs
@@ -23,13 +23,13 @@ returns c =
     let j = c .before .before .before in
     let s = j .before in
     service-noted-job (s .before .pre) (s .still-asked .ensures) (s .before .args .taken)
-    (sym (j .job-in .ensures) ∙ c .before .before .if1 .taken) (c .with-steal .ensures) (c .before .with .ensures)
+    (sym (j .is-job .ensures) ∙ c .before .before .if1 .taken) (c .with-steal .ensures) (c .before .with .ensures)
 
 with-requires-2 : tie.Need-with-requires-2
 with-requires-2 c κs = search needs
 
-bares-in-requires : tie.Need-bares-in-requires
-bares-in-requires c κs = tt
+bare-of-requires : tie.Need-bare-of-requires
+bare-of-requires c κs = tt
 
 with-miss-requires : tie.Need-with-miss-requires
 with-miss-requires c κs = search needs
@@ -39,19 +39,19 @@ returns-2 c =
     let j = c .before .before .before .before in
     let s = j .before in
     service-noted-missed (s .before .pre) (s .still-asked .ensures) (s .before .args .taken)
-    (sym (j .job-in .ensures) ∙ c .before .before .before .if1 .left)
-    (c .with-miss .ensures ∙ ap (withMiss _) (c .before .bares-in .ensures .0)) (c .before .before .with2 .ensures)
+    (sym (j .is-job .ensures) ∙ c .before .before .before .if1 .left)
+    (c .with-miss .ensures ∙ ap (withMiss _) (c .before .bare-of .ensures .0)) (c .before .before .with2 .ensures)
 
 pub served-spec : {M : Type 1} → statement M
 served-spec =
     tie.close
     (tie.spec
     still-asked-requires
-    job-in-requires
+    is-job-requires
     with-requires
     with-steal-requires
     returns
     with-requires-2
-    bares-in-requires
+    bare-of-requires
     with-miss-requires
     returns-2)

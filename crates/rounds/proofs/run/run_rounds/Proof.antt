@@ -229,17 +229,17 @@ thief-requires : tie.Need-thief-requires Inv-loop2 μ-loop2 Inv-loop3 μ-loop3 I
 thief-requires c κs = tt
 
 -- the worker that is served
-thief : (c : tie.After-serve Inv-loop2 μ-loop2 Inv-loop3 μ-loop3 Inv-loop4 μ-loop4 Inv-loop μ-loop) → c .serve .result .who < 16
-thief c =
+who-known : (c : tie.After-serve Inv-loop2 μ-loop2 Inv-loop3 μ-loop3 Inv-loop4 μ-loop4 Inv-loop μ-loop) → c .serve .result .who < 16
+who-known c =
     let w = c .before .before .before in
     let (p, f, z) = one-of (w .before .before .loop4 .inv) in
     c .serve .ensures .0 _ (serves-serving f z (w .lowest3 .ensures)) .known
 
 mul-workers-3 : tie.Need-mul-workers-3 Inv-loop2 μ-loop2 Inv-loop3 μ-loop3 Inv-loop4 μ-loop4 Inv-loop μ-loop
-mul-workers-3 c = omega (arith, thief (c .before))
+mul-workers-3 c = omega (arith, who-known (c .before))
 
 array-set-from-workers-4 : tie.Need-array-set-from-workers-4 Inv-loop2 μ-loop2 Inv-loop3 μ-loop3 Inv-loop4 μ-loop4 Inv-loop μ-loop
-array-set-from-workers-4 c = thief (c .before)
+array-set-from-workers-4 c = who-known (c .before)
 
 rest-requires-3 : tie.Need-rest-requires-3 Inv-loop2 μ-loop2 Inv-loop3 μ-loop3 Inv-loop4 μ-loop4 Inv-loop μ-loop
 rest-requires-3 c κs = omega arith
