@@ -27,7 +27,7 @@ returns c =
     let (gone, beside) = t .before .before .before .leave-line .ensures in (
       λ q s. gone q (s .leaving),
       beside,
-      rw (← t .before .has .ensures) (t .take-top .ensures),
+      rw (t .before .has .ensures) at (t .take-top .ensures),
       rw (← c .before .waiting-at .ensures) (c .served .ensures),
     )
 
