@@ -21,7 +21,7 @@ use Rattle.runs.specs.declared.taken.Taken.{Taken}
 use Rattle.runs.specs.declared.worker.Worker.{Worker}
 use Rattle.runs.specs.declared.worker.Worker.the-variants.{Idle, Waiting}
 use Rattle.runs.specs.Setting.{Setting, countIn}
-use Rattle.runs.specs.State.{State, workerOf, holds, dequeOf}
+use Rattle.runs.specs.State.{State, workerOf, holds}
 use Rattle.runs.specs.Steal.{laid, lay, lays, oldest, takenFrom, thief, given, serve, serves, waits}
 use Rattle.runs.specs.Run.{ended, rounds, run}
 use Rattle.runs.specs.Trace.{turning, laying, serving, goes-on, all-laid, next-round}
