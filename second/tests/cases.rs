@@ -209,6 +209,21 @@ fn kinds_in_cases_5_and_6() {
     assert_eq!((t.bare, t.idle_victim), (4, 0));
 }
 
+/// Rounds, actions, idle turns, requests, steals, bare, idle-victim and peak.
+fn counts(rows: &[u16], workers: u32, choices: &[u8]) -> [u32; 8] {
+    let t = tally_of(&plan_of(rows), workers, choices).unwrap();
+    [
+        t.rounds,
+        t.actions,
+        t.idle,
+        t.requests,
+        t.steals,
+        t.bare,
+        t.idle_victim,
+        t.peak,
+    ]
+}
+
 /// Job 0 spawns job 1 at 0 and waits for its only action at 2.
 const G_ROWS: [u16; 16] = [
     0, 1, 2, 0, //
@@ -223,20 +238,8 @@ const G_ROWS: [u16; 16] = [
 /// since 1.0 came before; worker 2 asks it again: bare. Round 3: 0.2.
 #[test]
 fn a_victim_given_a_job_in_this_half_is_bare() {
-    let tally = tally_of(&plan_of(&G_ROWS), 3, &[0, 1, 1]).unwrap();
-    assert_eq!(
-        tally,
-        Tally {
-            rounds: 3,
-            actions: 4,
-            idle: 5,
-            requests: 3,
-            steals: 1,
-            bare: 2,
-            idle_victim: 0,
-            peak: 2
-        }
-    );
+    let wanted = [3, 4, 5, 3, 1, 2, 0, 2];
+    assert_eq!(counts(&G_ROWS, 3, &[0, 1, 1]), wanted);
 }
 
 /// Round 1: workers 1 and 2 ask worker 0, which gives job 0 to worker 1; the
@@ -245,40 +248,16 @@ fn a_victim_given_a_job_in_this_half_is_bare() {
 /// but holds none as it serves: idle-victim. Round 3: worker 1 does 0.2.
 #[test]
 fn a_victim_that_lost_its_job_in_this_round_is_idle() {
-    let tally = tally_of(&plan_of(&G_ROWS), 3, &[0]).unwrap();
-    assert_eq!(
-        tally,
-        Tally {
-            rounds: 3,
-            actions: 4,
-            idle: 5,
-            requests: 2,
-            steals: 1,
-            bare: 0,
-            idle_victim: 1,
-            peak: 2
-        }
-    );
+    let wanted = [3, 4, 5, 2, 1, 0, 1, 2];
+    assert_eq!(counts(&G_ROWS, 3, &[0]), wanted);
 }
 
 /// Worker 0 does 0.0, 1.0, 0.1 and 0.2, one a round. In each round but the
 /// last worker 1 asks itself.
 #[test]
 fn a_worker_that_asks_itself_finds_an_idle_victim() {
-    let tally = tally_of(&plan_of(&G_ROWS), 2, &[1]).unwrap();
-    assert_eq!(
-        tally,
-        Tally {
-            rounds: 4,
-            actions: 4,
-            idle: 4,
-            requests: 3,
-            steals: 0,
-            bare: 0,
-            idle_victim: 3,
-            peak: 2
-        }
-    );
+    let wanted = [4, 4, 4, 3, 0, 0, 3, 2];
+    assert_eq!(counts(&G_ROWS, 2, &[1]), wanted);
 }
 
 /// Job 0 spawns job 1 at 0 and job 2 at 1, and waits for both at 3.
@@ -301,18 +280,6 @@ const H_ROWS: [u16; 28] = [
 /// ends job 2, so worker 1 takes it. Worker 2 asks worker 1: bare. Round 5: 0.3.
 #[test]
 fn a_victim_given_a_job_later_in_this_half_is_idle() {
-    let tally = tally_of(&plan_of(&H_ROWS), 3, &[0, 0, 1, 0, 1]).unwrap();
-    assert_eq!(
-        tally,
-        Tally {
-            rounds: 5,
-            actions: 7,
-            idle: 8,
-            requests: 5,
-            steals: 2,
-            bare: 1,
-            idle_victim: 2,
-            peak: 2
-        }
-    );
+    let wanted = [5, 7, 8, 5, 2, 1, 2, 2];
+    assert_eq!(counts(&H_ROWS, 3, &[0, 0, 1, 0, 1]), wanted);
 }

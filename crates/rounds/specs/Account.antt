@@ -1,4 +1,5 @@
 -- The account of a run: what each event makes of it. Functions that are no entries cite this file.
+--   isIdle x            == the worker x is idle: it neither holds a job nor waits for one
 --   opened n weight     == the account as a run of n workers begins, where job 0's frame weighs so much
 --   rested a r turns    == the account a after so many idle turns of round r, one of whose turns has been taken
 --   Turnable, TurnNoted == worker w is about to be noted after its turn in round r, and `gap` idle turns before it; a′ has noted it
@@ -17,12 +18,17 @@ use Rattle.crew.specs.Line.{Leaving}
 use Rattle.runs.specs.declared.taken.Taken.{Taken}
 use Rattle.runs.specs.declared.taken.Taken.the-variants.{Job, Bare, IdleVictim}
 use Rattle.runs.specs.declared.worker.Worker.{Worker}
+use Rattle.runs.specs.declared.worker.Worker.the-variants.{Idle, Holding, Waiting}
 use Rattle.runs.specs.State.{holds}
 use Rattle.runs.specs.Tally.{noCounts, withAction, withRequest, withService}
 use Rattle.runs.specs.Steal.{thief}
-use Rattle.turns.specs.Worker.{isIdle}
 use Rattle.turns.specs.Count.{Countable, Restable, withIdles}
 use Rattle.rounds.specs.declared.account.Account.{Account}
+
+abbrev pub isIdle : Worker → Bool
+isIdle Idle = true
+isIdle (Holding j) = false
+isIdle (Waiting v l) = false
 
 abbrev pub opened : ℕ → ℕ → Account
 opened n weight = record { weight = weight; holders = 1; idlers = 2 ^ n - 2; victims = 0; tally = noCounts weight }

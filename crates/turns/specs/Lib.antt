@@ -1,5 +1,4 @@
 -- What the functions of a turn are given and leave; none of them is an entry.
-pub mod Worker
 pub mod Count
 pub mod Progress
 pub mod Rows

@@ -13,10 +13,11 @@ use native.Mathlib.Nat.{zero-add}
 use native.Mathlib.Omega.{arith}
 use native.Mathlib.Decide.{ℕ-discrete}
 use lib.ListN.{length, getD, set, length-set}
-use lib.Seq.{getD-set-same, getD-set-other, set-getD}
+use lib.Seq.{getD-set-same, getD-set-other}
 use Rattle.runs.specs.declared.taken.Taken.the-variants.{Job}
 use Rattle.runs.specs.declared.worker.Worker.the-variants.{Idle, Holding}
 use Rattle.runs.specs.Steal.{dropTop, topOf, takeTop}
+use Rattle.runs.proofs.Laws.Stores.{empty-kept}
 use Rattle.deques.specs.Dequed.{jobAt, topAt, lenAt, dequeAt, Dequed, Pushing, Pushed, TookBottom, TookTop}
 
 -- a deque is as its places are
@@ -83,12 +84,13 @@ module _ {l : List ℕ} {ds : List (List ℕ)} (q : Dequed l ds) (w : ℕ) (h : 
       job : (i : ℕ) → i < lenAt l w → jobAt (set l (4112 + w) n) w (topAt l w + i) ≡ jobAt l w (topAt l w + i)
       job i m = getD-set-other l (4112 + w) (w * 256 + (topAt l w + i)) n 0 (λ e. omega (arith, q .room w h))
 
+  -- a deque without a job is empty, and stays so
+  none-kept : 0 ≡ lenAt l w → (getD ds w [] ≡ []) × (set ds w [] ≡ ds)
+  none-kept e = let z : getD ds w [] ≡ [] = sym (deque-of 0 e) in (z, empty-kept ds w z)
+
   -- no job, or the bottom one
   pub bottom-none : 0 ≡ lenAt l w → TookBottom w Idle l ds
-  bottom-none e =
-      let z : getD ds w [] ≡ [] = sym (deque-of 0 e) in
-      let k : set ds w [] ≡ ds = rw z at (set-getD ds w []) in
-      rw (z, k) (refl, q)
+  bottom-none e = let (none, kept) = none-kept e in rw (none, kept) (refl, q)
 
   pub bottom-taken : (n : ℕ) → n ≡ lenAt l w → n ≢ 0
       → TookBottom w (Holding (jobAt l w (topAt l w + (n - 1)))) (set l (4112 + w) (n - 1)) ds
@@ -99,10 +101,7 @@ module _ {l : List ℕ} {ds : List (List ℕ)} (q : Dequed l ds) (w : ℕ) (h : 
 
   -- no job, or the top one
   pub top-none : 0 ≡ lenAt l w → (held : Bool) → TookTop w held (takeTop [] held) l ds
-  top-none e held =
-      let z : getD ds w [] ≡ [] = sym (deque-of 0 e) in
-      let k : set ds w [] ≡ ds = rw z at (set-getD ds w []) in
-      rw (z, k) (refl, q)
+  top-none e held = let (none, kept) = none-kept e in rw (none, kept) (refl, q)
 
   pub top-taken : (n : ℕ) → n ≡ lenAt l w → n ≢ 0 → (held : Bool)
       → TookTop w held (Job (jobAt l w (topAt l w))) (set (set l (4096 + w) (topAt l w + 1)) (4112 + w) (n - 1)) ds

@@ -32,10 +32,9 @@ use Rattle.runs.proofs.Laws.Coursed.{start-weight}
 use Rattle.crew.proofs.Laws.Crews.{crewed-none, crewed-first, crewed-others}
 use Rattle.crew.proofs.Laws.Lines.{line-first-zero}
 use Rattle.deques.specs.Dequed.{lenAt, dequeAt, Dequed}
-use Rattle.turns.specs.Worker.{isIdle}
 use Rattle.turns.specs.Progress.{withMissing, missingAt, missingTo}
 use Rattle.turns.proofs.Laws.Missing.{missing-start}
-use Rattle.rounds.specs.Account.{opened}
+use Rattle.rounds.specs.Account.{isIdle, opened}
 use Rattle.rounds.specs.Rounds.{Started, RunIn, RunGiven}
 use Rattle.rounds.proofs.Laws.Standing.{Queued, Manned, Asking, Done, Between}
 

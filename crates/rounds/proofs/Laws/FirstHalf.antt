@@ -39,13 +39,12 @@ use Rattle.runs.proofs.Laws.Whole.{round-last, rounds-stop, rounds-on}
 use Rattle.crew.specs.Crew.{Lowest, Rest}
 use Rattle.crew.proofs.Laws.Walks.{left-start, left-known, left-ahead, left-test, left-next}
 use Rattle.turns.specs.declared.turn.Turned.{Turned}
-use Rattle.turns.specs.Worker.{isIdle}
 use Rattle.turns.specs.Count.{Restable}
 use Rattle.turns.specs.Progress.{doneOf}
 use Rattle.turns.specs.Moments.{InRun, Moment, Turning, TurnTaken}
 use Rattle.turns.proofs.Laws.Running.{run-fit, run-sound, run-counts, run-countable, run-restable, run-turns}
 use Rattle.rounds.specs.declared.account.Account.{Account}
-use Rattle.rounds.specs.Account.{rested, Turnable, TurnNoted}
+use Rattle.rounds.specs.Account.{isIdle, rested, Turnable, TurnNoted}
 use Rattle.rounds.specs.Rounds.{RunLeft}
 use Rattle.rounds.proofs.Laws.Standing.{Fitted, Manned, Done, Begun, Between, InTurns, InLays, afterTurns}
 use Rattle.rounds.proofs.Laws.Halves.{turns-requests, done-kept}

@@ -19,8 +19,8 @@ use Rattle.runs.specs.Turn.{turns}
 use Rattle.runs.specs.Steal.{laid, lay, lays, serves}
 use Rattle.runs.specs.Parts.{pickOf}
 use Rattle.runs.proofs.Laws.Rests.{Rests, lay-rests, serve-rests, turn-took}
-use Rattle.turns.specs.Worker.{isIdle}
 use Rattle.turns.proofs.Laws.Rows.{rowed-still}
+use Rattle.rounds.specs.Account.{isIdle}
 use Rattle.rounds.proofs.Laws.Standing.{Done}
 
 abbrev pub Kept : State → State → Type 0

@@ -18,11 +18,10 @@ use Rattle.runs.specs.State.{State, workerOf, holds}
 use Rattle.runs.specs.Turn.{turn, turnOf}
 use Rattle.crew.proofs.Laws.Crews.{crewed-mark}
 use Rattle.turns.specs.declared.turn.Turned.{Turned}
-use Rattle.turns.specs.Worker.{isIdle}
 use Rattle.turns.specs.Count.{withIdles}
 use Rattle.turns.specs.Moments.{After}
 use Rattle.rounds.specs.declared.account.Account.{Account}
-use Rattle.rounds.specs.Account.{rested, TurnNoted}
+use Rattle.rounds.specs.Account.{isIdle, rested, TurnNoted}
 use Rattle.rounds.proofs.Laws.Standing.{Manned}
 use Rattle.rounds.proofs.Laws.Idling.{Idled}
 

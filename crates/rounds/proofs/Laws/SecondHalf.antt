@@ -38,13 +38,12 @@ use Rattle.crew.specs.Line.{waitingAt, LiningUp, LinedUp, Leaving, Gone, Beside
 use Rattle.crew.proofs.Laws.Walks.{left-start, left-known, left-ahead, left-test, left-next}
 use Rattle.crew.proofs.Laws.Folds.{fold-skip-to, fold-skip-next, fold-skip-end}
 use Rattle.deques.specs.Dequed.{Dequed, TookTop}
-use Rattle.turns.specs.Worker.{isIdle}
 use Rattle.turns.specs.Count.{Countable}
 use Rattle.turns.specs.Moments.{InRun}
 use Rattle.turns.proofs.Laws.Running.{run-fit, run-sound, run-counts, run-countable, run-choices, run-few, run-chosen}
 use Rattle.turns.proofs.Laws.Running.{run-at, run-turns, run-lays, run-serves}
 use Rattle.rounds.specs.declared.account.Account.{Account}
-use Rattle.rounds.specs.Account.{LayNoted, Serving, ServiceNoted}
+use Rattle.rounds.specs.Account.{isIdle, LayNoted, Serving, ServiceNoted}
 use Rattle.rounds.proofs.Laws.Standing.{Fitted, idleIn, askedIn, Asking, Begun, half, afterLays, afterServes}
 use Rattle.rounds.proofs.Laws.Standing.{Between, InLays, InServes}
 use Rattle.rounds.proofs.Laws.Halves.{lay-none, lays-deques, second-kept, done-kept}

@@ -36,9 +36,9 @@ use Rattle.runs.proofs.Laws.Least.{rank}
 use Rattle.crew.specs.Line.{waitingAt, LineAt}
 use Rattle.crew.proofs.Laws.Walks.{Crewed, Left}
 use Rattle.deques.specs.Dequed.{Dequed}
-use Rattle.turns.specs.Worker.{isIdle}
 use Rattle.turns.specs.Progress.{Progressed}
 use Rattle.turns.specs.Rows.{Rowed}
+use Rattle.rounds.specs.Account.{isIdle}
 use Rattle.rounds.specs.declared.account.Account.{Account}
 use Rattle.rounds.specs.Rounds.{RunGiven}
 

@@ -26,9 +26,8 @@ use Rattle.crew.specs.Crew.{Marked}
 use Rattle.crew.specs.Line.{waitingAt, Beside}
 use Rattle.crew.proofs.Laws.Walks.{Crewed}
 use Rattle.crew.proofs.Laws.Crews.{crewed-at, crewed-mark, crewed-same}
-use Rattle.turns.specs.Worker.{isIdle}
 use Rattle.rounds.specs.declared.account.Account.{Account}
-use Rattle.rounds.specs.Account.{LayNoted, ServiceNoted}
+use Rattle.rounds.specs.Account.{isIdle, LayNoted, ServiceNoted}
 use Rattle.rounds.proofs.Laws.Standing.{askedIn, Manned}
 
 pub idle-is : (x : Worker) → isIdle x ≡ true → x ≡ Idle

@@ -103,9 +103,9 @@ serve-plain v (suc w) s = go (dequeOf s v) refl (workerOf s v)
     go : (d : List ℕ) → dequeOf s v ≡ d → (x : Worker)
         → served w (takeTop d (holds x)) s (set (s .deques) v (dropTop d)) ≡ plainGiven v w x d s
     go (y ∷ d) e x = refl
-    go [] e Idle = ap (served w IdleVictim s) (empty-kept s v e)
-    go [] e (Holding j) = ap (served w Bare s) (empty-kept s v e)
-    go [] e (Waiting u l) = ap (served w IdleVictim s) (empty-kept s v e)
+    go [] e Idle = ap (served w IdleVictim s) (empty-kept (s .deques) v e)
+    go [] e (Holding j) = ap (served w Bare s) (empty-kept (s .deques) v e)
+    go [] e (Waiting u l) = ap (served w IdleVictim s) (empty-kept (s .deques) v e)
 
 module _ (p : Plan) (n : ℕ) (choices : List ℕ) where
   lay-plain : (r w : ℕ) (x : Worker) (s : State) → lay (setting p n choices) r w x s ≡ plainLay choices r w x s

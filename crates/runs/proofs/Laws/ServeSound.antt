@@ -137,7 +137,7 @@ module _ {p : Plan} (ok : Accepted p) {n : ℕ} (most : n ≤ 16) {s : State} (s
     unfolding given
     missed-sound q held =
         let same : set (s .deques) v (dropTop (dequeOf s v)) ≡ s .deques =
-        ap (λ d. set (s .deques) v (dropTop d)) q ∙ empty-kept s v q in
+        ap (λ d. set (s .deques) v (dropTop d)) q ∙ empty-kept (s .deques) v q in
         rw (same, nothing held) (free-sound most sound c idle Idle (λ d. refl) (given v w (takeTop [] held) s .tally))
       where
         nothing : (held : Bool) → thief (takeTop [] held) ≡ Idle

@@ -24,7 +24,7 @@ use Rattle.runs.specs.declared.taken.Taken.the-variants.{Job, Bare, Idle
 use Rattle.runs.specs.declared.worker.Worker.{Worker}
 use Rattle.runs.specs.declared.worker.Worker.the-variants.{Idle, Holding, Waiting}
 use Rattle.runs.specs.Setting.{Setting}
-use Rattle.runs.specs.State.{State, nextOf, dequeOf}
+use Rattle.runs.specs.State.{State, nextOf}
 use Rattle.runs.specs.Turn.{seatAfter, turn, idled, turnOf}
 use Rattle.runs.specs.Parts.{afterOf, aboveOf, pickOf}
 use Rattle.runs.specs.Trace.{turning, laying, serving, Trace}
@@ -46,8 +46,8 @@ seat-waits p after j i d = go (action p j i .spawn) refl
     go (suc c) e = rw (seat-spawn p after j i d e)
     go zero e = rw (seat-none p after j i d e) (stay-waits (both (ltb (suc i) (size p j)) (ready p after j)) j d)
 
-pub empty-kept : (s : State) (v : ℕ) → dequeOf s v ≡ [] → set (s .deques) v [] ≡ s .deques
-empty-kept s v e = rw e at (set-getD (s .deques) v [])
+pub empty-kept : (ds : List (List ℕ)) (v : ℕ) → getD ds v [] ≡ [] → set ds v [] ≡ ds
+empty-kept ds v e = rw e at (set-getD ds v [])
 
 pub served-calm : (x : Taken) → waits (thief x) ≡ 0
 served-calm (Job j) = refl
