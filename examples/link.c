@@ -1,4 +1,4 @@
-/* A plan of eight actions run on two workers through the library for C:
+/* A plan of eight actions run on two workers through the library for C, as it stands and then with costs:
      rt staticlib cabi && gcc examples/link.c -Iinclude target/staticlib/libcabi.a -o link && ./link */
 #include "dorewhanga.h"
 #include <stdio.h>
@@ -7,29 +7,63 @@
    both last actions join position 4 */
 static const uint8_t plan[] = {0x01, 0x01, 0x80, 0x02, 0x02, 0xC0, 0x44, 0x08, 0x00,
                                0x00, 0x60, 0x42, 0x08, 0x00, 0x04, 0x02, 0x82, 0x00};
+/* the rounds that each of the eight actions is to take */
+static const uint16_t costs[] = {2, 1, 3, 1, 2, 4, 1, 5};
 static const uint8_t choices[] = {0, 1};
+static uint16_t rows[DW_ROWS_LENGTH];
+static uint8_t with_costs[DW_PLAN_LENGTH];
 static uint8_t schedule[DW_SCHEDULE_LENGTH];
 
-int main(void) {
-    dw_measures m = dw_measure(plan, sizeof plan);
-    dw_tally t = dw_run(plan, sizeof plan, 2, choices, sizeof choices, schedule, sizeof schedule);
-    if (m.refused || t.refused) {
-        printf("refused %u\n", (unsigned)(m.refused ? m.refused : t.refused));
-        return 1;
-    }
+/* the number in so many bits from place `at` on, the most significant first */
+static unsigned field(const uint8_t *bytes, size_t at, size_t width) {
+    unsigned number = 0;
+    for (size_t end = at + width; at < end; at++)
+        number = number * 2 + (bytes[at / 8] >> (7 - at % 8) & 1u);
+    return number;
+}
+
+/* runs a plan of either form and checks its schedule: 0, or the number of the refusal */
+static uint32_t build(const uint8_t *bytes, size_t len) {
+    dw_measures m = dw_measure(bytes, len);
+    dw_tally t = dw_run(bytes, len, 2, choices, sizeof choices, schedule, sizeof schedule);
+    if (m.refused || t.refused)
+        return m.refused ? m.refused : t.refused;
+    printf("total %u\nwork %u\n", (unsigned)m.total, (unsigned)m.work);
     printf("rounds %u\nactions %u\nlongest %u\npath %u\npeak %u\n", (unsigned)t.rounds, (unsigned)t.actions,
            (unsigned)m.longest, (unsigned)m.path, (unsigned)t.peak);
     printf("idle %u\nrequests %u\nsteals %u\nbare %u\nidle-victim %u\n", (unsigned)t.idle, (unsigned)t.requests,
            (unsigned)t.steals, (unsigned)t.bare, (unsigned)t.idle_victim);
-    for (uint32_t k = 0; k < t.actions; k++) {
-        const uint8_t *row = schedule + 4 + 2 * k;
-        printf("action %u: round %d, worker %d\n", (unsigned)k, row[0] * 16 + row[1] / 16, row[1] % 16);
+    size_t width = bytes[0] == 1 ? 12 : 16;
+    for (uint32_t k = 0; k < m.total; k++) {
+        size_t at = 32 + (width + 4) * k;
+        printf("action %u: last round %u, worker %u\n", (unsigned)k, field(schedule, at, width),
+               field(schedule, at + width, 4));
     }
-    uint32_t refused = dw_check(plan, sizeof plan, schedule, 4 + 2 * (size_t)t.actions);
+    uint32_t refused = dw_check(bytes, len, schedule, 4 + ((width + 4) * m.total + 7) / 8);
+    if (!refused)
+        printf("the schedule keeps the rules\n");
+    return refused;
+}
+
+/* the same plan in form 2: its table is opened, gets the costs, and is closed again */
+static dw_count add_costs(void) {
+    dw_count opened = dw_plan_to_table(plan, sizeof plan, rows, DW_ROWS_LENGTH);
+    if (opened.refused)
+        return opened;
+    for (uint32_t k = 0; k < opened.count; k++)
+        rows[5 * k + 4] = costs[k];
+    return dw_table_to_plan(2, rows, 5 * (size_t)opened.count, with_costs, sizeof with_costs);
+}
+
+int main(void) {
+    uint32_t refused = build(plan, sizeof plan);
+    if (!refused) {
+        dw_count closed = add_costs();
+        refused = closed.refused ? closed.refused : build(with_costs, closed.count);
+    }
     if (refused) {
-        printf("the schedule is refused %u\n", (unsigned)refused);
+        printf("refused %u\n", (unsigned)refused);
         return 1;
     }
-    printf("the schedule keeps the rules\n");
     return 0;
 }

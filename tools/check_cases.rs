@@ -1,27 +1,42 @@
 //! Schedules, and what checking them must give: document 01's case, each part of refusal 11 and each rule of 12 by itself, the
 //! order of the refusals, and schedules that runs have written. A second checker, with each slip that it may have, shows that
-//! some case tells every slip apart.
-use crate::plans::{chain, e, f, input, join, large, one, plan, spawn, Action, Bits, Job, NONE};
+//! some case tells every slip apart. The same of form 2, where an action takes up a span of rounds (document 02, L5).
+use crate::plans::{
+    chain, costed, e, e2, f, f2, input, join, large, one, plan, plan_2, plan_of, spawn, Action, Bits, Job, NONE,
+};
 use crate::Cases;
 
-/// A round and a worker.
+/// A round, the last of an action's, and a worker.
 type Row = (u32, u32);
 
-fn headed(form: u32, workers: u32, actions: u32, zeros: u32, rows: &[Row]) -> Vec<u8> {
+/// A schedule whose rounds have `width` bits, 12 or 16.
+fn laid(width: u32, form: u32, workers: u32, actions: u32, zeros: u32, rows: &[Row]) -> Vec<u8> {
     let mut b = Bits(vec![]);
     b.put(8, form);
     b.put(5, workers);
     b.put(12, actions);
     b.put(7, zeros);
     for &(round, worker) in rows {
-        b.put(12, round);
+        b.put(width, round);
         b.put(4, worker);
     }
     b.bytes()
 }
 
+fn headed(form: u32, workers: u32, actions: u32, zeros: u32, rows: &[Row]) -> Vec<u8> {
+    laid(12, form, workers, actions, zeros, rows)
+}
+
+fn headed_2(form: u32, workers: u32, actions: u32, zeros: u32, rows: &[Row]) -> Vec<u8> {
+    laid(16, form, workers, actions, zeros, rows)
+}
+
 fn schedule(workers: u32, rows: &[Row]) -> Vec<u8> {
     headed(1, workers, rows.len() as u32, 0, rows)
+}
+
+fn schedule_2(workers: u32, rows: &[Row]) -> Vec<u8> {
+    headed_2(2, workers, rows.len() as u32, 0, rows)
 }
 
 fn with(rows: &[Row], changes: &[(usize, Row)]) -> Vec<Row> {
@@ -41,6 +56,13 @@ fn spread() -> Vec<Row> {
 }
 
 const F2: [Row; 7] = [(1, 0), (2, 0), (9, 0), (2, 1), (3, 1), (4, 1), (5, 1)];
+
+/// Plan E2 with two workers: 0.0 in rounds 1 to 2, 0.1 in 4, 0.2 in 5 to 7, 0.3 in 9, 0.4 in 13 to 14; 1.0 in 3 to 6, 1.1 in 7; 2.0 in 8
+/// to 12.
+const E2_ROWS: [Row; 8] = [(2, 0), (4, 1), (7, 1), (9, 0), (14, 1), (6, 0), (7, 0), (12, 1)];
+
+/// Plan F with costs on two workers: 0.0 in rounds 1 to 2, 0.1 in 3 to 5, 0.2 in 10; 1.0 in 3, 1.1 in 4 to 5, 1.2 in 6, 1.3 in 7 to 9.
+const F2_ROWS: [Row; 7] = [(2, 0), (5, 1), (10, 0), (3, 0), (5, 0), (6, 0), (9, 0)];
 
 /// Job 0 spawns n jobs of one action, one after the other; then an action that nothing enters, and one for each 8 joins.
 fn fan(n: u32) -> Vec<Job> {
@@ -122,9 +144,21 @@ enum Slip {
     WorkerAtCountPasses,
     FirstWorkerOnly,
     RulesBeforeForm,
+    FillBitPasses(u32),
+    EitherForm,
+    RoundsOf12Bits,
+    EarlyBeginPasses,
+    ClashByLastRound,
+    ClashByFirstRound,
+    ClashWithTheLaterRow,
+    ClashWithTheEarlierRow,
+    NeighbouringSpansClash,
+    OrderByLastRound,
+    OrderByFirstRound,
+    SpansOfOneMore,
 }
 
-const SLIPS: [Slip; 35] = [
+const SLIPS: [Slip; 50] = [
     Slip::LongerPasses,
     Slip::ShorterPasses,
     Slip::FormPasses,
@@ -160,6 +194,21 @@ const SLIPS: [Slip; 35] = [
     Slip::WorkerAtCountPasses,
     Slip::FirstWorkerOnly,
     Slip::RulesBeforeForm,
+    Slip::FillBitPasses(0),
+    Slip::FillBitPasses(1),
+    Slip::FillBitPasses(2),
+    Slip::FillBitPasses(3),
+    Slip::EitherForm,
+    Slip::RoundsOf12Bits,
+    Slip::EarlyBeginPasses,
+    Slip::ClashByLastRound,
+    Slip::ClashByFirstRound,
+    Slip::ClashWithTheLaterRow,
+    Slip::ClashWithTheEarlierRow,
+    Slip::NeighbouringSpansClash,
+    Slip::OrderByLastRound,
+    Slip::OrderByFirstRound,
+    Slip::SpansOfOneMore,
 ];
 
 /// The places of actions, each with that of one that it must follow.
@@ -168,7 +217,7 @@ fn pairs(jobs: &[Job], slip: Slip) -> Vec<(usize, usize)> {
     let mut parent = vec![0; jobs.len()];
     let (mut orders, mut spawns, mut joins) = (vec![], vec![], vec![]);
     for (j, (_, actions)) in jobs.iter().enumerate() {
-        for (i, &(child, target)) in actions.iter().enumerate() {
+        for (i, &(child, target, _)) in actions.iter().enumerate() {
             let here = first[j] + i;
             if i > 0 {
                 orders.push((here, here - 1));
@@ -203,34 +252,53 @@ fn pairs(jobs: &[Job], slip: Slip) -> Vec<(usize, usize)> {
 }
 
 /// 0 for accepted, 11 or 12.
-fn judge(jobs: &[Job], s: &[u8], slip: Slip) -> u32 {
-    let n: usize = jobs.iter().map(|j| j.1.len()).sum();
-    let long = 4 + 2 * n;
+fn judge(form: u32, jobs: &[Job], s: &[u8], slip: Slip) -> u32 {
+    let costs: Vec<u32> = jobs.iter().flat_map(|job| &job.1).map(|action| action.2).collect();
+    let n = costs.len();
     let bit = |i: usize| s.get(i / 8).map_or(0, |b| (b >> (7 - i % 8) & 1) as u32);
     let field = |at: usize, width: usize| (at..at + width).fold(0, |x, i| x * 2 + bit(i));
+    let form = if slip == Slip::EitherForm { field(0, 8) } else { form };
+    let width = if form == 2 { 16 } else { 12 };
+    let row = width + 4;
+    let end = 32 + row * n;
+    let long = (end + 7) / 8;
     let (workers, actions) = (field(8, 5), field(13, 12) as usize);
-    let rows: Vec<Row> = (0..n).map(|k| (field(32 + 16 * k, 12), field(44 + 16 * k, 4))).collect();
+    let mut rows: Vec<Row> = (0..n).map(|k| (field(32 + row * k, width), field(32 + width + row * k, 4))).collect();
     let no_round = |k: &usize| match slip {
         Slip::FirstRoundPasses if *k == 0 => false,
         Slip::MiddleRoundPasses if 0 < *k && *k + 1 < n => false,
         Slip::LastRoundPasses if *k + 1 == n => false,
         _ => rows[*k].0 == 0,
     };
-    let form = (s.len() > long && slip != Slip::LongerPasses)
+    let bad = (s.len() > long && slip != Slip::LongerPasses)
         || (s.len() < long && slip != Slip::ShorterPasses)
-        || (field(0, 8) != 1 && slip != Slip::FormPasses)
+        || (field(0, 8) != form && slip != Slip::FormPasses)
         || (workers == 0 && slip != Slip::NoWorkerPasses)
         || (workers > 16 && slip != Slip::ManyWorkersPass)
         || (actions < n && slip != Slip::FewerActionsPass)
         || (actions > n && slip != Slip::MoreActionsPass)
         || (0..7).any(|i| field(25 + i, 1) == 1 && slip != Slip::ZeroBitPasses(i as u32))
+        || (0..8 * long - end).any(|i| bit(end + i) == 1 && slip != Slip::FillBitPasses(i as u32))
         || (0..n).any(|k| no_round(&k));
+    if slip == Slip::RoundsOf12Bits {
+        rows.iter_mut().for_each(|row| row.0 %= 4096);
+    }
+    // The last round of an action and the round before its first.
+    let last = |k: usize| rows[k].0 as i32;
+    let before = |k: usize| last(k) - costs[k] as i32 - (slip == Slip::SpansOfOneMore && costs[k] > 1) as i32;
     let clash = |a: usize, b: usize| {
-        let (x, y) = (rows[a], rows[b]);
+        let common = match slip {
+            Slip::ClashByLastRound => last(a) == last(b),
+            Slip::ClashByFirstRound => before(a) == before(b),
+            Slip::ClashWithTheLaterRow => before(b) < last(a) && last(a) <= last(b),
+            Slip::ClashWithTheEarlierRow => before(a) < last(b) && last(b) <= last(a),
+            Slip::NeighbouringSpansClash => before(a) <= last(b) && before(b) <= last(a),
+            _ => before(a) < last(b) && before(b) < last(a),
+        };
         let same = match slip {
-            Slip::ClashByRound => x.0 == y.0,
-            Slip::ClashByWorker => x.1 == y.1,
-            _ => x == y,
+            Slip::ClashByRound => common,
+            Slip::ClashByWorker => rows[a].1 == rows[b].1,
+            _ => common && rows[a].1 == rows[b].1,
         };
         same && match slip {
             Slip::ClashPasses => false,
@@ -240,10 +308,12 @@ fn judge(jobs: &[Job], s: &[u8], slip: Slip) -> u32 {
             _ => true,
         }
     };
-    let early = |later: usize, before: usize| match slip {
-        Slip::SameRoundPasses => rows[later].0 < rows[before].0,
-        Slip::EarlierRoundPasses => rows[later].0 == rows[before].0,
-        _ => rows[later].0 <= rows[before].0,
+    let early = |later: usize, earlier: usize| match slip {
+        Slip::SameRoundPasses => before(later) + 1 < last(earlier),
+        Slip::EarlierRoundPasses => before(later) + 1 == last(earlier),
+        Slip::OrderByLastRound => last(later) <= last(earlier),
+        Slip::OrderByFirstRound => before(later) <= before(earlier),
+        _ => before(later) < last(earlier),
     };
     let stranger = |k: usize| match slip {
         Slip::WorkerPasses => false,
@@ -251,10 +321,11 @@ fn judge(jobs: &[Job], s: &[u8], slip: Slip) -> u32 {
         Slip::FirstWorkerOnly => k == 0 && rows[k].1 >= workers,
         _ => rows[k].1 >= workers,
     };
-    let rule = (0..n).any(|a| (a + 1..n).any(|b| clash(a, b)))
-        || pairs(jobs, slip).iter().any(|&(later, before)| early(later, before))
+    let rule = (0..n).any(|k| before(k) < 0 && slip != Slip::EarlyBeginPasses)
+        || (0..n).any(|a| (a + 1..n).any(|b| clash(a, b)))
+        || pairs(jobs, slip).iter().any(|&(later, earlier)| early(later, earlier))
         || (0..n).any(stranger);
-    match (form, rule) {
+    match (bad, rule) {
         (true, true) if slip == Slip::RulesBeforeForm => 12,
         (true, _) => 11,
         (_, true) => 12,
@@ -279,13 +350,21 @@ impl Schedules<'_> {
         self.save("check", name, input, answer);
     }
 
-    /// A case whose plan is accepted.
-    fn case(&mut self, name: &str, jobs: &[Job], schedule: &[u8], answer: u32) {
-        assert_eq!(judge(jobs, schedule, Slip::None), answer, "{name}");
+    /// A case whose plan, in a form, is accepted.
+    fn judged(&mut self, form: u32, name: &str, jobs: &[Job], schedule: &[u8], answer: u32) {
+        assert_eq!(judge(form, jobs, schedule, Slip::None), answer, "{name}");
         for (k, &slip) in SLIPS.iter().enumerate() {
-            self.told[k] += (judge(jobs, schedule, slip) != answer) as usize;
+            self.told[k] += (judge(form, jobs, schedule, slip) != answer) as usize;
         }
-        self.bytes(name, &plan(jobs), schedule, answer);
+        self.bytes(name, &plan_of(form, jobs), schedule, answer);
+    }
+
+    fn case(&mut self, name: &str, jobs: &[Job], schedule: &[u8], answer: u32) {
+        self.judged(1, name, jobs, schedule, answer);
+    }
+
+    fn case_2(&mut self, name: &str, jobs: &[Job], schedule: &[u8], answer: u32) {
+        self.judged(2, name, jobs, schedule, answer);
     }
 
     fn keeps(&mut self, name: &str, jobs: &[Job], workers: u32, rows: &[Row]) {
@@ -296,14 +375,31 @@ impl Schedules<'_> {
         self.case(name, jobs, &schedule(workers, rows), 12);
     }
 
-    /// A run, and the check of the schedule that it writes.
-    fn own(&mut self, name: &str, jobs: &[Job], workers: u8, choices: &[u8]) {
+    fn keeps_2(&mut self, name: &str, jobs: &[Job], workers: u32, rows: &[Row]) {
+        self.case_2(name, jobs, &schedule_2(workers, rows), 0);
+    }
+
+    fn breaks_2(&mut self, name: &str, jobs: &[Job], workers: u32, rows: &[Row]) {
+        self.case_2(name, jobs, &schedule_2(workers, rows), 12);
+    }
+
+    /// A run of a plan, in a form, and the check of the schedule that it writes.
+    fn own_in(&mut self, form: u32, name: &str, jobs: &[Job], workers: u8, choices: &[u8]) {
         let chosen = match choices.len() {
             0 => "none".into(),
             16 => "all".into(),
             _ => choices.iter().map(|c| c.to_string()).collect::<Vec<_>>().join("_"),
         };
-        self.save("own", &format!("{name}_with_{workers}_choosing_{chosen}"), input(workers, choices, &plan(jobs)), 0);
+        let input = input(workers, choices, &plan_of(form, jobs));
+        self.save("own", &format!("{name}_with_{workers}_choosing_{chosen}"), input, 0);
+    }
+
+    fn own(&mut self, name: &str, jobs: &[Job], workers: u8, choices: &[u8]) {
+        self.own_in(1, name, jobs, workers, choices);
+    }
+
+    fn own_2(&mut self, name: &str, jobs: &[Job], workers: u8, choices: &[u8]) {
+        self.own_in(2, name, jobs, workers, choices);
     }
 }
 
@@ -462,10 +558,10 @@ fn order(c: &mut Schedules) {
     no_second[0].1[2] = NONE;
     let mut third = e();
     third[2].1[0] = join(3);
-    // case 7, a plan cut short, form 2, frame 0, job 2 never spawned, case 9, case 8
+    // case 7, a plan cut short, form 3, frame 0, job 2 never spawned, case 9, case 8
     c.bytes("no_plan_and_bad_schedule", &[], &bad, 1);
     c.bytes("plan_cut_short_and_bad_schedule", &bytes[..17], &bad, 1);
-    c.bytes("plan_of_form_2_and_bad_schedule", &changed(0, 2), &bad, 2);
+    c.bytes("plan_of_form_3_and_bad_schedule", &changed(0, 3), &bad, 2);
     c.bytes("frame_0_and_bad_schedule", &plan(&no_frame), &bad, 3);
     c.bytes("job_never_spawned_and_bad_schedule", &plan(&no_second), &bad, 4);
     c.bytes("join_after_spawn_and_bad_schedule", &plan(&third), &bad, 5);
@@ -496,6 +592,127 @@ fn runs(c: &mut Schedules) {
     c.own("2048_actions", &largest(), 16, &[0, 1, 2]);
 }
 
+/// Schedules of form 2 that are accepted, and the parts of refusal 11.
+fn form_2(c: &mut Schedules) {
+    // Accepted: spans that follow each other at once, and spans apart.
+    let own = schedule_2(2, &E2_ROWS);
+    let written = [
+        0x02, 0x10, 0x04, 0, 0, 0x02, 0, 0, 0x41, 0, 0x07, 0x10, 0, 0x90, 0, 0x0E, 0x10, 0, 0x60, 0, 0x07, 0, 0, 0xC1,
+    ];
+    assert_eq!(own, written);
+    c.keeps_2("e2_rows", &e2(), 2, &E2_ROWS);
+    c.keeps_2("f2_rows", &f2(), 2, &F2_ROWS);
+    c.keeps_2("e_in_form_2", &e(), 2, &E4);
+    let apart: Vec<Row> = E2_ROWS.iter().map(|&(r, w)| (100 * r, w)).collect();
+    c.keeps_2("e2_spread_out", &e2(), 2, &apart);
+    let late: Vec<Row> = E2_ROWS.iter().map(|&(r, w)| (65521 + r, w)).collect();
+    c.keeps_2("e2_up_to_round_65535", &e2(), 2, &late);
+    c.keeps_2("e2_by_one_worker", &e2(), 1, &[(2, 0), (8, 0), (11, 0), (17, 0), (19, 0), (6, 0), (7, 0), (16, 0)]);
+    c.keeps_2("e2_header_of_16_workers", &e2(), 16, &E2_ROWS);
+    // two rounds are 4,096 apart
+    c.keeps_2("f2_in_round_4101", &f2(), 2, &with(&F2_ROWS, &[(1, (4101, 0)), (2, (4110, 0))]));
+    c.keeps_2("one_of_3_in_round_3", &costed(one(), &[3]), 1, &[(3, 0)]);
+    c.keeps_2("one_of_15_by_worker_15_in_round_65535", &costed(one(), &[15]), 16, &[(65535, 15)]);
+    let all: Vec<Row> = largest_rows().iter().map(|&(r, w)| (15 * r, w)).collect();
+    c.keeps_2("2048_actions_of_15", &costed(largest(), &[15]), 9, &all);
+
+    // Lengths, and the other form.
+    c.case_2("e2_one_byte_short", &e2(), &own[..23], 11);
+    c.case_2("e2_one_byte_long", &e2(), &[&own[..], &[0]].concat(), 11);
+    c.case_2("e2_empty_schedule", &e2(), &[], 11);
+    c.case_2("e2_header_alone", &e2(), &own[..4], 11);
+    c.case_2("f2_one_byte_short", &f2(), &schedule_2(2, &F2_ROWS)[..21], 11);
+    c.case_2("e2_schedule_of_form_1", &e2(), &schedule(2, &E2_ROWS), 11);
+    c.case_2("e2_form_1_in_the_header", &e2(), &headed_2(1, 2, 8, 0, &E2_ROWS), 11);
+    c.case_2("e2_form_2_before_rows_of_form_1", &e2(), &headed(2, 2, 8, 0, &E2_ROWS), 11);
+    c.case_2("e2_form_3", &e2(), &headed_2(3, 2, 8, 0, &E2_ROWS), 11);
+    c.case("e_schedule_of_form_2", &e(), &schedule_2(2, &E4), 11);
+
+    // The header's counts, where 19 is the number of worked turns, and its zero bits.
+    c.case_2("e2_workers_0", &e2(), &headed_2(2, 0, 8, 0, &E2_ROWS), 11);
+    c.case_2("e2_workers_17", &e2(), &headed_2(2, 17, 8, 0, &E2_ROWS), 11);
+    c.case_2("e2_actions_19", &e2(), &headed_2(2, 2, 19, 0, &E2_ROWS), 11);
+    c.case_2("e2_zero_bit_6_set", &e2(), &headed_2(2, 2, 8, 1, &E2_ROWS), 11);
+
+    // Rounds of 0.
+    for (place, k) in [("first", 0), ("middle", 5), ("last", 7)] {
+        c.case_2(&format!("e2_round_0_{place}"), &e2(), &schedule_2(2, &with(&E2_ROWS, &[(k, (0, 1))])), 11);
+    }
+
+    // Fill bits: seven rows leave four.
+    for bit in 0..4 {
+        let mut filled = schedule_2(2, &F2_ROWS);
+        filled[21] |= 8 >> bit;
+        c.case_2(&format!("f2_fill_bit_{bit}_set"), &f2(), &filled, 11);
+    }
+}
+
+/// Each rule of refusal 12 in form 2, and the order of the refusals.
+fn spans(c: &mut Schedules) {
+    // Spans that begin before round 1.
+    c.breaks_2("one_of_3_in_round_2", &costed(one(), &[3]), 1, &[(2, 0)]);
+    c.breaks_2("one_of_15_in_round_1", &costed(one(), &[15]), 1, &[(1, 0)]);
+    c.breaks_2("e2_begins_in_round_0", &e2(), 2, &with(&E2_ROWS, &[(0, (1, 0))]));
+
+    // Clashes, though no two rows are equal: 2.0 is in rounds 8 to 12, and 0.2 in 5 to 7.
+    let clash = with(&E2_ROWS, &[(3, (9, 1))]);
+    c.breaks_2("e2_clash_within_a_span", &e2(), 2, &clash);
+    c.breaks_2("e2_clash_in_the_first_round_of_a_span", &e2(), 2, &with(&E2_ROWS, &[(3, (8, 1))]));
+    c.breaks_2("e2_clash_in_the_last_round_of_a_span", &e2(), 2, &with(&E2_ROWS, &[(3, (12, 1))]));
+    c.breaks_2("e2_clash_of_an_earlier_row", &e2(), 2, &with(&E2_ROWS, &[(6, (10, 1))]));
+    c.breaks_2("e2_clash_of_spans_that_lap_over", &e2(), 2, &with(&E2_ROWS, &[(5, (6, 1)), (6, (7, 0))]));
+    let together = [(2, (8, 0)), (3, (9, 2)), (4, (15, 1)), (5, (9, 0)), (6, (10, 0)), (7, (13, 1))];
+    c.breaks_2("e2_clash_of_spans_that_begin_together", &e2(), 3, &with(&E2_ROWS, &together));
+    c.breaks_2("f2_clash_of_spans_that_lap_over", &f2(), 2, &with(&F2_ROWS, &[(1, (6, 0))]));
+    c.breaks_2("f2_clash_with_the_end_of_a_later_row", &f2(), 2, &with(&F2_ROWS, &[(1, (10, 0)), (2, (11, 1))]));
+    c.breaks_2("f2_clash_with_the_beginning_of_a_later_row", &f2(), 2, &with(&F2_ROWS, &[(1, (7, 0)), (4, (5, 1)), (5, (6, 1))]));
+    c.keeps_2("f2_no_clash_behind_all_spans", &f2(), 2, &with(&F2_ROWS, &[(1, (12, 0)), (2, (13, 0))]));
+    let between = [(1, (6, 0)), (2, (13, 1)), (4, (8, 0)), (5, (9, 0)), (6, (12, 0))];
+    c.keeps_2("f2_no_clash_between_two_spans", &f2(), 2, &with(&F2_ROWS, &between));
+    let all: Vec<Row> = largest_rows().iter().map(|&(r, w)| (15 * r, w)).collect();
+    c.breaks_2("clash_of_2048_of_15", &costed(largest(), &[15]), 9, &with(&all, &[(2047, (247, 7))]));
+
+    // Order: an action begins in the last round of the one before it in its job, of its job's spawner, of one that joins it.
+    c.keeps_2("e2_job_0_begins_a_round_later", &e2(), 3, &with(&E2_ROWS, &[(2, (7, 2))]));
+    c.breaks_2("e2_begins_in_the_last_round_of_the_one_before", &e2(), 3, &with(&E2_ROWS, &[(2, (6, 2))]));
+    c.breaks_2("e2_begins_in_the_last_round_of_its_spawner", &e2(), 3, &with(&E2_ROWS, &[(5, (5, 2))]));
+    c.breaks_2("e2_begins_in_the_last_round_of_a_join", &e2(), 3, &with(&E2_ROWS, &[(4, (13, 2))]));
+    c.breaks_2("e2_begins_in_the_last_round_of_the_other_join", &e2(), 3, &with(&E2_ROWS, &[(6, (13, 2))]));
+    c.breaks_2("e2_begins_within_a_join", &e2(), 3, &with(&E2_ROWS, &[(4, (12, 2)), (7, (12, 1))]));
+    c.breaks_2("e2_ends_before_its_spawner", &e2(), 3, &with(&E2_ROWS, &[(7, (6, 2))]));
+
+    // Worker numbers.
+    c.breaks_2("e2_worker_1_of_1", &e2(), 1, &E2_ROWS);
+    c.breaks_2("e2_worker_2_of_2_last", &e2(), 2, &with(&E2_ROWS, &[(7, (12, 2))]));
+
+    // 11 before 12, and the plan's refusals before both.
+    c.case_2("e2_clash_and_one_byte_long", &e2(), &[&schedule_2(2, &clash)[..], &[0]].concat(), 11);
+    c.case_2("e2_begins_in_round_0_and_round_0_last", &e2(), &schedule_2(2, &with(&E2_ROWS, &[(0, (1, 0)), (7, (0, 1))])), 11);
+    let mut filled = schedule_2(2, &with(&F2_ROWS, &[(1, (6, 0))]));
+    filled[21] |= 1;
+    c.case_2("f2_clash_and_fill_bit", &f2(), &filled, 11);
+    let mut free = e2();
+    free[2].1[0].2 = 0;
+    c.bytes("cost_0_and_bad_schedule", &plan_2(&free), &headed_2(0, 0, 0, 127, &[(0, 15)]), 3);
+    c.bytes("cost_0_and_e2_rows", &plan_2(&free), &schedule_2(2, &E2_ROWS), 3);
+}
+
+/// Schedules that runs of form 2 have written: all are accepted.
+fn runs_2(c: &mut Schedules) {
+    let all: Vec<u8> = (0..16).collect();
+    for (workers, choices) in [(1, &[][..]), (2, &[0, 1]), (3, &[2, 1, 0]), (16, &all)] {
+        c.own_2("e2", &e2(), workers, choices);
+        c.own_2("f2", &f2(), workers, choices);
+    }
+    c.own_2("e_in_form_2", &e(), 2, &[0, 1]);
+    c.own_2("one_of_3", &costed(one(), &[3]), 1, &[]);
+    let costs = [3, 1, 15, 2, 7, 1, 4];
+    c.own_2("wide_with_costs", &costed(fan(100), &costs), 16, &all);
+    c.own_2("deep_with_costs", &costed(chain(100), &costs), 16, &all);
+    c.own_2("2048_actions_of_15", &costed(largest(), &[15]), 1, &[]);
+    c.own_2("2048_actions_of_15", &costed(largest(), &[15]), 16, &[0, 1, 2]);
+}
+
 pub fn all(cases: &mut Cases) {
     let mut c = Schedules { cases, told: vec![0; SLIPS.len()] };
     accepted(&mut c);
@@ -503,6 +720,9 @@ pub fn all(cases: &mut Cases) {
     rules(&mut c);
     order(&mut c);
     runs(&mut c);
+    form_2(&mut c);
+    spans(&mut c);
+    runs_2(&mut c);
     for (slip, told) in SLIPS.iter().zip(c.told) {
         println!("{slip:?}: told apart by {told} cases");
         assert!(told > 0, "no case tells {:?} apart", slip);

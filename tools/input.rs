@@ -12,15 +12,25 @@
 //!     [LABEL:] join LABEL              an action that sends a join to the action LABEL of the parent
 //!     [LABEL:] spawn NAME join LABEL   an action that does both
 //!
-//! and `#` begins a comment. Nothing but names is checked here: a plan that breaks a rule is written as it stands, and
-//! `buildrun` refuses it with its number.
+//! and `#` begins a comment. At the end of an action may stand its cost, the number of rounds that it takes, as in
+//!
+//!     act x5
+//!     spawn NAME x2
+//!     join LABEL x3
+//!     spawn NAME join LABEL x4
+//!
+//! and it is 1 where none stands there. If the text gives a cost anywhere, be it `x1`, the plan is written in form 2, else in
+//! form 1, which has no costs.
+//!
+//! Nothing but names, and that a cost is 0 to 15, the numbers that its field holds, is checked here: a plan that breaks a rule, as
+//! one with a cost of 0 does, is written as it stands, and `buildrun` refuses it with its number.
 use std::collections::HashMap;
 use std::io::{Read, Write};
 
-#[derive(Default)]
 struct Action {
     spawn: Option<String>,
     join: Option<String>,
+    cost: Option<usize>,
 }
 
 struct Job {
@@ -64,14 +74,27 @@ fn number<T: std::str::FromStr>(line: usize, word: Option<&&str>) -> T {
     value
 }
 
-fn action(line: usize, words: &[&str]) -> Action {
+/// What stands behind an action: its cost, or nothing.
+fn cost(line: usize, words: &[&str]) -> Option<usize> {
     match *words {
-        ["act"] => Action::default(),
-        ["spawn", name] => Action { spawn: Some(name.into()), join: None },
-        ["join", label] => Action { spawn: None, join: Some(label.into()) },
-        ["spawn", name, "join", label] => Action { spawn: Some(name.into()), join: Some(label.into()) },
-        _ => fail(line, "act, spawn NAME, join LABEL or both are wanted"),
+        [] => None,
+        [word] => match word.strip_prefix('x').and_then(|digits| digits.parse().ok()) {
+            Some(cost) if cost < 16 => Some(cost),
+            _ => fail(line, "a cost from x0 to x15 is wanted behind the action"),
+        },
+        _ => fail(line, "nothing but a cost is wanted behind the action"),
     }
+}
+
+fn action(line: usize, words: &[&str]) -> Action {
+    let (spawn, join, rest) = match *words {
+        ["act", ref rest @ ..] => (None, None, rest),
+        ["spawn", name, "join", label, ref rest @ ..] => (Some(name), Some(label), rest),
+        ["spawn", name, ref rest @ ..] => (Some(name), None, rest),
+        ["join", label, ref rest @ ..] => (None, Some(label), rest),
+        _ => fail(line, "act, spawn NAME, join LABEL or both are wanted"),
+    };
+    Action { spawn: spawn.map(str::to_string), join: join.map(str::to_string), cost: cost(line, rest) }
 }
 
 fn main() {
@@ -123,8 +146,9 @@ fn main() {
             }
         }
     }
+    let costed = jobs.iter().flat_map(|job| &job.actions).any(|action| action.cost.is_some());
     let mut bits = Bits::default();
-    bits.put(8, 1);
+    bits.put(8, if costed { 2 } else { 1 });
     bits.put(9, jobs.len());
     for (j, job) in jobs.iter().enumerate() {
         bits.put(16, job.frame.into());
@@ -135,6 +159,9 @@ fn main() {
                 let parent = &jobs[parents[j]];
                 *parent.labels.get(label).unwrap_or_else(|| fail(0, &format!("{} has no action {label}", parent.name)))
             }));
+            if costed {
+                bits.put(4, action.cost.unwrap_or(1));
+            }
         }
     }
     let mut out = vec![workers, (choices.len() / 256) as u8, (choices.len() % 256) as u8];

@@ -1,16 +1,26 @@
-//! Plans for all cases: jobs, their actions, and their bytes (document 01, "Plan"); and the inputs of `buildrun`.
+//! Plans for all cases: jobs, their actions, and their bytes in both forms (document 01, "Plan"; document 02, L5); and the inputs of
+//! `buildrun`.
 
-/// An action: the child's number plus 1 or 0, the join's target plus 1 or 0.
-pub type Action = (u32, u32);
+/// An action: the child's number plus 1 or 0, the join's target plus 1 or 0, and the cost.
+pub type Action = (u32, u32, u32);
 /// A frame and the actions.
 pub type Job = (u32, Vec<Action>);
 
-pub const NONE: Action = (0, 0);
+pub const NONE: Action = (0, 0, 1);
 pub fn spawn(child: u32) -> Action {
-    (child + 1, 0)
+    (child + 1, 0, 1)
 }
 pub fn join(target: u32) -> Action {
-    (0, target + 1)
+    (0, target + 1, 1)
+}
+
+/// The jobs with other costs, which are given in job then position order and begin anew where they end.
+pub fn costed(mut jobs: Vec<Job>, costs: &[u32]) -> Vec<Job> {
+    let actions = jobs.iter_mut().flat_map(|job| &mut job.1);
+    for (action, cost) in actions.zip(costs.iter().cycle()) {
+        action.2 = *cost;
+    }
+    jobs
 }
 
 pub struct Bits(pub Vec<bool>);
@@ -34,10 +44,22 @@ impl Bits {
     }
 }
 
+/// In form 1, where every cost is 1.
 pub fn plan(jobs: &[Job]) -> Vec<u8> {
-    with_header(1, jobs.len() as u32, jobs)
+    plan_of(1, jobs)
 }
 
+/// In form 2.
+pub fn plan_2(jobs: &[Job]) -> Vec<u8> {
+    plan_of(2, jobs)
+}
+
+pub fn plan_of(form: u32, jobs: &[Job]) -> Vec<u8> {
+    assert!(form == 2 || jobs.iter().all(|job| job.1.iter().all(|action| action.2 == 1)), "form 1 has no costs");
+    with_header(form, jobs.len() as u32, jobs)
+}
+
+/// Costs are written in form 2 alone.
 pub fn with_header(form: u32, count: u32, jobs: &[Job]) -> Vec<u8> {
     let mut b = Bits(vec![]);
     b.put(8, form);
@@ -45,9 +67,12 @@ pub fn with_header(form: u32, count: u32, jobs: &[Job]) -> Vec<u8> {
     for (frame, actions) in jobs {
         b.put(16, *frame);
         b.put(8, actions.len() as u32);
-        for &(spawn, join) in actions {
+        for &(spawn, join, cost) in actions {
             b.number(spawn);
             b.number(join);
+            if form == 2 {
+                b.put(4, cost);
+            }
         }
     }
     b.bytes()
@@ -63,9 +88,19 @@ pub fn e() -> Vec<Job> {
     vec![(4, vec![spawn(1), NONE, spawn(2), NONE, NONE]), (3, vec![NONE, join(4)]), (2, vec![join(4)])]
 }
 
+/// Plan E with costs: E2 of docs/RULES.md.
+pub fn e2() -> Vec<Job> {
+    costed(e(), &[2, 1, 3, 1, 2, 4, 1, 5])
+}
+
 /// Document 01's plan F. Its actions stand in rows 0 to 2 and 3 to 6.
 pub fn f() -> Vec<Job> {
     vec![(1, vec![spawn(1), NONE, NONE]), (1, vec![NONE, NONE, NONE, join(2)])]
+}
+
+/// Plan F with costs.
+pub fn f2() -> Vec<Job> {
+    costed(f(), &[2, 3, 1, 1, 2, 1, 3])
 }
 
 /// One job, one action.

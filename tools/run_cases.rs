@@ -1,15 +1,17 @@
 //! A second runner, written from documents 01 and 02 alone, and inputs of `buildrun` with what they must give. It also carries out each
 //! tempting error and sees to it that some case tells it apart.
-use crate::plans::{chain, e, f, input, join, one, plan, spawn, Job, NONE};
+use crate::plans::{chain, costed, e, e2, f, f2, input, join, large, one, plan, plan_2, plan_of, spawn, Job, NONE};
 use crate::Cases;
 
-/// An action: the child's number plus 1 or 0, the join's target plus 1 or 0.
-type Action = (usize, usize);
+/// An action: the child's number plus 1 or 0, the join's target plus 1 or 0, and the cost.
+type Action = (usize, usize, usize);
 
 #[derive(Clone)]
 struct Plan {
     frames: Vec<u32>,
     actions: Vec<Vec<Action>>,
+    /// Each job's spawner.
+    spawners: Vec<Option<(usize, usize)>>,
 }
 
 #[derive(Clone, Copy, PartialEq)]
@@ -37,9 +39,19 @@ enum Slip {
     BareAsTheServicesBegan,
     BareAsTheServicesEnded,
     BareIfNotIdle,
+    CostsPassedOver,
+    OneRoundMore,
+    ActionsCountedOnce,
+    SpawnsInItsFirstRound,
+    JoinsInItsFirstRound,
+    FreedInItsFirstRound,
+    LivesFromTheFirstRound,
+    JudgedAsItBegan,
+    ServesNothingInTheMidst,
+    IdleInTheMidst,
 }
 
-const SLIPS: [Slip; 14] = [
+const SLIPS: [Slip; 24] = [
     Slip::PeakOnceARound,
     Slip::StealsTheBottom,
     Slip::ActsInTheRoundOfItsSteal,
@@ -54,6 +66,16 @@ const SLIPS: [Slip; 14] = [
     Slip::BareAsTheServicesBegan,
     Slip::BareAsTheServicesEnded,
     Slip::BareIfNotIdle,
+    Slip::CostsPassedOver,
+    Slip::OneRoundMore,
+    Slip::ActionsCountedOnce,
+    Slip::SpawnsInItsFirstRound,
+    Slip::JoinsInItsFirstRound,
+    Slip::FreedInItsFirstRound,
+    Slip::LivesFromTheFirstRound,
+    Slip::JudgedAsItBegan,
+    Slip::ServesNothingInTheMidst,
+    Slip::IdleInTheMidst,
 ];
 
 #[derive(Default, Clone, PartialEq, Debug)]
@@ -68,30 +90,59 @@ struct Tally {
     peak: u32,
 }
 
-/// What a run changes. The bottom of a deque is the end of its list; `last` has who did a job's latest action.
+/// What a run changes. `spent` has the rounds spent on a job's next action. The bottom of a deque is the end of its list; `last` has
+/// who did a job's latest action, and `began` the positions of all jobs as a job's next action began.
 struct State {
     next: Vec<usize>,
+    spent: Vec<usize>,
     workers: Vec<Worker>,
     deques: Vec<Vec<usize>>,
     last: Vec<usize>,
+    began: Vec<Vec<usize>>,
     t: Tally,
+}
+
+impl State {
+    /// How many actions of each job are done or begun.
+    fn begun(&self) -> Vec<usize> {
+        self.next.iter().zip(&self.spent).map(|(next, &spent)| next + (spent > 0) as usize).collect()
+    }
+
+    /// How many actions of each job have sent their joins.
+    fn sent(&self, slip: Slip) -> Vec<usize> {
+        if slip == Slip::JoinsInItsFirstRound {
+            self.begun()
+        } else {
+            self.next.clone()
+        }
+    }
+
+    /// Whether a worker has begun an action that is not done yet.
+    fn in_the_midst(&self, w: usize) -> bool {
+        matches!(self.workers[w], Worker::Holding(j) if self.spent[j] > 0)
+    }
 }
 
 impl Plan {
     fn of(jobs: &[Job]) -> Plan {
-        let indices = |job: &Job| job.1.iter().map(|&(spawn, join)| (spawn as usize, join as usize)).collect();
-        Plan { frames: jobs.iter().map(|job| job.0).collect(), actions: jobs.iter().map(indices).collect() }
+        let indices = |job: &Job| job.1.iter().map(|&(spawn, join, cost)| (spawn as usize, join as usize, cost as usize)).collect();
+        Plan::new(jobs.iter().map(|job| job.0).collect(), jobs.iter().map(indices).collect())
     }
 
-    fn spawner(&self, c: usize) -> Option<(usize, usize)> {
-        for (q, actions) in self.actions.iter().enumerate() {
-            for (i, a) in actions.iter().enumerate() {
-                if a.0 == c + 1 {
-                    return Some((q, i));
+    fn new(frames: Vec<u32>, actions: Vec<Vec<Action>>) -> Plan {
+        let mut spawners = vec![None; frames.len()];
+        for (q, row) in actions.iter().enumerate() {
+            for (i, a) in row.iter().enumerate() {
+                if a.0 > 0 {
+                    spawners[a.0 - 1] = Some((q, i));
                 }
             }
         }
-        None
+        Plan { frames, actions, spawners }
+    }
+
+    fn spawner(&self, c: usize) -> Option<(usize, usize)> {
+        self.spawners[c]
     }
 
     fn senders(&self, q: usize, t: usize) -> Vec<(usize, usize)> {
@@ -108,18 +159,25 @@ impl Plan {
         found
     }
 
-    fn ready(&self, next: &[usize], j: usize) -> bool {
-        let i = next[j];
-        let spawned = i > 0 || j == 0 || self.spawner(j).map_or(false, |(q, s)| next[q] > s);
-        spawned && self.senders(j, i).iter().all(|&(c, a)| next[c] > a)
+    fn spawned(&self, next: &[usize], j: usize) -> bool {
+        j == 0 || self.spawner(j).map_or(false, |(q, s)| next[q] > s)
     }
 
-    fn weight(&self, next: &[usize]) -> u32 {
+    /// `sent` has how many actions of each job have sent their joins.
+    fn ready(&self, next: &[usize], sent: &[usize], j: usize) -> bool {
+        let i = next[j];
+        (i > 0 || self.spawned(next, j)) && self.senders(j, i).iter().all(|&(c, a)| sent[c] > a)
+    }
+
+    fn weight(&self, s: &State, slip: Slip) -> u32 {
+        let begun = s.begun();
+        let (from, to) = match slip {
+            Slip::LivesFromTheFirstRound => (&begun, &s.next),
+            Slip::FreedInItsFirstRound => (&s.next, &begun),
+            _ => (&s.next, &s.next),
+        };
         (0..self.frames.len())
-            .filter(|&j| {
-                let spawned = j == 0 || self.spawner(j).map_or(false, |(q, s)| next[q] > s);
-                spawned && next[j] < self.actions[j].len()
-            })
+            .filter(|&j| self.spawned(from, j) && to[j] < self.actions[j].len())
             .map(|j| self.frames[j])
             .sum()
     }
@@ -134,14 +192,14 @@ impl Plan {
         before
     }
 
-    /// T∞: each action's longest chain, until nothing grows.
+    /// T∞: each action's costliest chain, until nothing grows.
     fn longest(&self) -> usize {
-        let mut chain: Vec<Vec<usize>> = self.actions.iter().map(|a| vec![1; a.len()]).collect();
+        let mut chain: Vec<Vec<usize>> = self.actions.iter().map(|a| vec![0; a.len()]).collect();
         loop {
             let mut grew = false;
             for j in 0..self.frames.len() {
                 for i in 0..self.actions[j].len() {
-                    let n = 1 + self.follows(j, i).iter().map(|&(q, t)| chain[q][t]).max().unwrap_or(0);
+                    let n = self.actions[j][i].2 + self.follows(j, i).iter().map(|&(q, t)| chain[q][t]).max().unwrap_or(0);
                     if n > chain[j][i] {
                         chain[j][i] = n;
                         grew = true;
@@ -170,18 +228,36 @@ impl Plan {
 
     /// Worker w takes a turn with job j. `next_began` has the jobs' positions as the round began.
     fn turn(&self, s: &mut State, next_began: &[usize], w: usize, j: usize, slip: Slip) {
-        let (spawn, join) = self.actions[j][s.next[j]];
+        let (spawn, join, cost) = self.actions[j][s.next[j]];
+        let rounds = match slip {
+            Slip::CostsPassedOver => 1,
+            Slip::OneRoundMore => cost + 1,
+            _ => cost,
+        };
+        let first = s.spent[j] == 0;
+        let done = s.spent[j] + 1 == rounds;
+        if first {
+            s.began[j] = next_began.to_vec();
+        }
         let mut woken = None;
         let parent = self.spawner(j).map(|s| s.0);
-        let was = parent.map_or(true, |q| self.ready(&s.next, q));
-        s.next[j] += 1;
-        s.last[j] = w;
-        s.t.actions += 1;
-        if join > 0 && !was && self.ready(&s.next, parent.unwrap()) {
+        let was = parent.map_or(true, |q| self.ready(&s.next, &s.sent(slip), q));
+        if done {
+            s.next[j] += 1;
+            s.spent[j] = 0;
+            s.last[j] = w;
+        } else {
+            s.spent[j] += 1;
+        }
+        if done || slip != Slip::ActionsCountedOnce {
+            s.t.actions += 1;
+        }
+        if join > 0 && !was && self.ready(&s.next, &s.sent(slip), parent.unwrap()) {
             woken = parent;
         }
+        let spawns = spawn > 0 && if slip == Slip::SpawnsInItsFirstRound { first } else { done };
         let home = woken.map_or(w, |q| if slip == Slip::ParentToItsFormerWorker { s.last[q] } else { w });
-        if slip == Slip::SpawnBeforeJoin && spawn > 0 {
+        if slip == Slip::SpawnBeforeJoin && spawns {
             s.deques[w].push(j);
             if let Some(q) = woken {
                 s.deques[home].push(q);
@@ -190,40 +266,44 @@ impl Plan {
             if let Some(q) = woken {
                 s.deques[home].push(q);
             }
-            if spawn > 0 {
+            if spawns {
                 s.deques[w].push(j);
             }
         }
-        let mut judged = s.next.clone();
+        let mut judged = s.sent(slip);
         if slip == Slip::StallsThoughTheJoinCame {
             judged = next_began.to_vec();
-            judged[j] = s.next[j];
+        } else if slip == Slip::JudgedAsItBegan {
+            judged = s.began[j].clone();
         }
-        s.workers[w] = if spawn > 0 {
+        s.workers[w] = if spawns {
             Worker::Holding(spawn - 1)
-        } else if s.next[j] < self.actions[j].len() && self.ready(&judged, j) {
+        } else if !done || s.next[j] < self.actions[j].len() && self.ready(&s.next, &judged, j) {
             Worker::Holding(j)
         } else {
             s.deques[w].pop().map_or(Worker::Idle, Worker::Holding)
         };
         if slip != Slip::PeakOnceARound {
-            s.t.peak = s.t.peak.max(self.weight(&s.next));
+            s.t.peak = s.t.peak.max(self.weight(s, slip));
         }
     }
 
     fn run(&self, n: usize, choices: &[u8], slip: Slip) -> Tally {
         let mut s = State {
             next: vec![0; self.frames.len()],
+            spent: vec![0; self.frames.len()],
             workers: vec![Worker::Idle; n],
             deques: vec![vec![]; n],
             last: vec![0; self.frames.len()],
+            began: vec![vec![]; self.frames.len()],
             t: Tally { peak: self.frames[0], ..Tally::default() },
         };
         s.workers[0] = Worker::Holding(0);
         let mut laid_by = vec![0; n];
+        let work: usize = self.actions.iter().flatten().map(|a| a.2).sum();
         while s.next[0] < self.actions[0].len() {
             s.t.rounds += 1;
-            if s.t.rounds > 5000 {
+            if s.t.rounds > 2 * work {
                 break;
             }
             let began = s.workers.clone();
@@ -235,7 +315,7 @@ impl Plan {
                     s.t.idle += 1;
                 }
             }
-            s.t.peak = s.t.peak.max(self.weight(&s.next));
+            s.t.peak = s.t.peak.max(self.weight(&s, slip));
             if s.next[0] == self.actions[0].len() {
                 break;
             }
@@ -252,6 +332,9 @@ impl Plan {
             let asked = s.workers.clone();
             let mut missed = vec![];
             for v in 0..n {
+                if slip == Slip::ServesNothingInTheMidst && s.in_the_midst(v) {
+                    continue;
+                }
                 let waiting = (0..n).filter_map(|w| match s.workers[w] {
                     Worker::Waiting(u, laid) if u == v => Some((laid, w)),
                     _ => None,
@@ -286,6 +369,7 @@ impl Plan {
                 };
                 let bare = match slip {
                     Slip::BareIfNotIdle => victim != Worker::Idle,
+                    Slip::IdleInTheMidst => matches!(victim, Worker::Holding(_)) && !s.in_the_midst(v),
                     _ => matches!(victim, Worker::Holding(_)),
                 };
                 if bare != (slip == Slip::MissesSwapped) {
@@ -304,9 +388,9 @@ impl Plan {
         s.t
     }
 
-    fn bytes(&self) -> Vec<u8> {
-        let job = |j: usize| (self.frames[j], self.actions[j].iter().map(|&(spawn, join)| (spawn as u32, join as u32)).collect());
-        plan(&(0..self.frames.len()).map(job).collect::<Vec<Job>>())
+    fn jobs(&self) -> Vec<Job> {
+        let action = |&(spawn, join, cost): &Action| (spawn as u32, join as u32, cost as u32);
+        (0..self.frames.len()).map(|j| (self.frames[j], self.actions[j].iter().map(action).collect())).collect()
     }
 }
 
@@ -329,14 +413,14 @@ impl Random {
             for c in q + 1..jobs {
                 if parent[c] == q {
                     for _ in 0..self.below(3) {
-                        actions[q].push((0, 0));
+                        actions[q].push((0, 0, 1));
                     }
                     spawned[c] = actions[q].len();
-                    actions[q].push((c + 1, 0));
+                    actions[q].push((c + 1, 0, 1));
                 }
             }
             for _ in 0..2 + self.below(3) {
-                actions[q].push((0, 0));
+                actions[q].push((0, 0, 1));
             }
         }
         let mut entering = vec![vec![0; 64]; jobs];
@@ -356,12 +440,22 @@ impl Random {
                 }
             }
         }
-        Plan { frames: (0..jobs).map(|_| 1 + self.below(9) as u32).collect(), actions }
+        Plan::new((0..jobs).map(|_| 1 + self.below(9) as u32).collect(), actions)
+    }
+
+    /// Such a plan with costs, of which more are small than large.
+    fn plan_2(&mut self, jobs: usize) -> Plan {
+        let mut plan = self.plan(jobs);
+        for action in plan.actions.iter_mut().flatten() {
+            action.2 = [1, 1, 2, 3, 5, 9, 15][self.below(7)];
+        }
+        plan
     }
 }
 
 /// A run that is not refused.
 struct Run {
+    form: u32,
     name: String,
     plan: Plan,
     workers: usize,
@@ -370,7 +464,11 @@ struct Run {
 
 impl Run {
     fn new(name: &str, jobs: &[Job], workers: usize, choices: &[u8]) -> Run {
-        Run { name: name.to_string(), plan: Plan::of(jobs), workers, choices: choices.to_vec() }
+        Run { form: 1, name: name.to_string(), plan: Plan::of(jobs), workers, choices: choices.to_vec() }
+    }
+
+    fn new_2(name: &str, jobs: &[Job], workers: usize, choices: &[u8]) -> Run {
+        Run { form: 2, ..Run::new(name, jobs, workers, choices) }
     }
 
     fn tally(&self, slip: Slip) -> Tally {
@@ -378,7 +476,7 @@ impl Run {
     }
 
     fn input(&self) -> Vec<u8> {
-        input(self.workers as u8, &self.choices, &self.plan.bytes())
+        input(self.workers as u8, &self.choices, &plan_of(self.form, &self.plan.jobs()))
     }
 
     /// What `buildrun` has to print of it.
@@ -440,7 +538,42 @@ fn drawn() -> Vec<Run> {
             let workers = [2, 3, 4, 5, 8, 16, 1][k % 7];
             let plan = random.plan([4, 7, 12, 18, 30][k % 5]);
             let choices = (0..1 + random.below(9)).map(|_| random.below(workers) as u8).collect();
-            Run { name: format!("plan_{k}_with_{workers}_workers"), plan, workers, choices }
+            Run { form: 1, name: format!("plan_{k}_with_{workers}_workers"), plan, workers, choices }
+        })
+        .collect()
+}
+
+/// The worked examples of docs/RULES.md with costs, and others of the same plans, whose rounds, actions, idle turns, requests, steals and
+/// misses of both kinds were worked out apart.
+fn papers_2() -> Vec<Run> {
+    let all: Vec<u8> = (0..16).collect();
+    let case = |name: &str, jobs: &[Job], workers: usize, choices: &[u8], counts: [usize; 7]| {
+        let run = Run::new_2(name, jobs, workers, choices);
+        let t = run.tally(Slip::None);
+        assert_eq!([t.rounds, t.actions, t.idle, t.requests, t.steals, t.bare, t.idle_victim], counts, "{name}");
+        run
+    };
+    vec![
+        case("one_of_3", &costed(one(), &[3]), 1, &[], [3, 3, 0, 0, 0, 0, 0]),
+        case("one_of_15_with_16_workers", &costed(one(), &[15]), 16, &[0], [15, 15, 225, 28, 0, 14, 0]),
+        case("e2_with_1_worker", &e2(), 1, &[], [19, 19, 0, 0, 0, 0, 0]),
+        case("e2_with_2_workers", &e2(), 2, &[0, 1], [14, 19, 9, 8, 2, 3, 3]),
+        case("e2_with_3_workers", &e2(), 3, &[0], [14, 19, 23, 14, 1, 5, 7]),
+        case("e2_with_16_workers", &e2(), 16, &all, [13, 19, 189, 174, 2, 15, 157]),
+        case("f2_with_2_workers", &f2(), 2, &[0], [10, 13, 7, 6, 1, 5, 0]),
+        case("f2_with_2_workers_that_ask_themselves", &f2(), 2, &[1, 0], [10, 13, 7, 6, 1, 2, 3]),
+        case("f2_with_3_workers", &f2(), 3, &[0], [10, 13, 17, 10, 1, 8, 0]),
+    ]
+}
+
+fn drawn_2() -> Vec<Run> {
+    let mut random = Random(0xD1B5_4A32_D192_ED03);
+    (0..14)
+        .map(|k| {
+            let workers = [2, 3, 4, 5, 8, 16, 1][k % 7];
+            let plan = random.plan_2([4, 7, 12, 18, 30][k % 5]);
+            let choices = (0..1 + random.below(9)).map(|_| random.below(workers) as u8).collect();
+            Run { form: 2, name: format!("costs_{k}_with_{workers}_workers"), plan, workers, choices }
         })
         .collect()
 }
@@ -471,10 +604,46 @@ fn refusals(c: &mut Cases) {
     refused("missing_choices", vec![2, 0, 2, 0], 1);
 }
 
+fn refusals_2(c: &mut Cases) {
+    let mut refused = |name: &str, input: Vec<u8>, number: u32| save(c, name, input, &format!("refused {number}"));
+    let bytes = plan_2(&e2());
+    let mut free = e2();
+    free[2].1[0].2 = 0;
+    let mut third = bytes.clone();
+    third[0] = 3;
+    refused("e2_with_no_worker", input(0, &[], &bytes), 7);
+    refused("e2_with_17_workers", input(17, &[0], &bytes), 7);
+    refused("e2_with_no_choices", input(2, &[], &bytes), 8);
+    refused("e2_with_choice_2_of_2", input(2, &[0, 2], &bytes), 8);
+    refused("e2_cut_in_its_last_cost", input(2, &[0, 1], &bytes[..21]), 1);
+    refused("cost_0_and_no_worker", input(0, &[], &plan_2(&free)), 3);
+    refused("form_3_and_no_worker", input(0, &[], &third), 2);
+}
+
+/// 256 jobs of eight actions of cost 15: each but the last spawns the next at 0, and all actions of the next one join position 2.
+fn deep() -> Vec<Job> {
+    let action = |j: u32, i: u32| (if i == 0 && j < 255 { j + 2 } else { 0 }, if j > 0 { 3 } else { 0 }, 15);
+    (0..256).map(|j| (1, (0..8).map(|i| action(j, i)).collect())).collect()
+}
+
+/// The most choices, the most actions, the largest costs, and an input longer than 8,192 bytes.
+fn largest() -> Vec<Run> {
+    let many: Vec<u8> = (0..4096).map(|k| (k % 2) as u8).collect();
+    let wide = costed(large(65535, 8, 254), &[15]);
+    vec![
+        Run::new("choices_4096", &e(), 2, &many),
+        Run::new_2("2048_of_15_with_1_worker", &wide, 1, &[]),
+        Run::new_2("2048_of_15_with_16_workers", &wide, 16, &[0, 1, 2]),
+        Run::new_2("8701_bytes", &deep(), 2, &many),
+    ]
+}
+
 pub fn all(c: &mut Cases) {
     let mut runs = papers();
     runs.extend(kinds_of_miss());
     runs.extend(drawn());
+    runs.extend(papers_2());
+    runs.extend(drawn_2());
     for slip in SLIPS {
         let told = runs.iter().filter(|run| run.tally(slip) != run.tally(Slip::None)).count();
         println!("{slip:?}: told apart by {told} cases");
@@ -484,7 +653,8 @@ pub fn all(c: &mut Cases) {
         save(c, &run.name, run.input(), &run.answer());
     }
     refusals(c);
-    let many: Vec<u8> = (0..4096).map(|k| (k % 2) as u8).collect();
-    let longest = Run::new("choices_4096", &e(), 2, &many);
-    save(c, &longest.name, longest.input(), &longest.answer());
+    refusals_2(c);
+    for run in largest() {
+        save(c, &run.name, run.input(), &run.answer());
+    }
 }

@@ -1,22 +1,28 @@
 //! What must hold of every run, read off the plan's rows and the schedule's.
 
+use crate::schedules::{Row, Schedule};
 use second::{Measures, Tally};
 
 /// A plan's open table, made ready for questions.
 pub struct Facts {
+    pub form: u32,
     pub measures: Measures,
+    /// Per action: how many rounds it takes.
+    pub costs: Vec<u32>,
     /// Per action: the weight that lives more once it is done.
     gains: Vec<i64>,
     /// Per action: the actions that it must follow.
     follows: Vec<Vec<usize>>,
+    /// Per action: what its worker goes on with at once, if that is ready.
+    onward: Vec<Option<usize>>,
     start: i64,
     /// The last action of job 0.
     end: usize,
 }
 
 impl Facts {
-    pub fn new(rows: &[u16], measures: Measures) -> Facts {
-        let rows: Vec<&[u16]> = rows.chunks_exact(4).collect();
+    pub fn new(form: u32, rows: &[u16], measures: Measures) -> Facts {
+        let rows: Vec<&[u16]> = rows.chunks_exact(5).collect();
         let jobs = usize::from(rows[rows.len() - 1][0]) + 1;
         let mut first = vec![usize::MAX; jobs];
         let mut last = vec![0; jobs];
@@ -28,6 +34,7 @@ impl Facts {
         let frame = |job: usize| i64::from(rows[first[job]][1]);
         let mut gains = vec![0; rows.len()];
         let mut follows = vec![Vec::new(); rows.len()];
+        let mut onward = vec![None; rows.len()];
         let mut parent = vec![0; jobs];
         for (at, row) in rows.iter().enumerate() {
             let job = usize::from(row[0]);
@@ -36,11 +43,14 @@ impl Facts {
             }
             if at == last[job] {
                 gains[at] -= frame(job);
+            } else {
+                onward[at] = Some(at + 1);
             }
             if row[2] > 0 {
                 let child = usize::from(row[2]) - 1;
                 gains[at] += frame(child);
                 follows[first[child]].push(at);
+                onward[at] = Some(first[child]);
                 parent[child] = job;
             }
         }
@@ -51,27 +61,77 @@ impl Facts {
             }
         }
         Facts {
+            form,
             measures,
+            costs: rows.iter().map(|row| row[4].into()).collect(),
             gains,
             follows,
+            onward,
             start: frame(0),
             end: last[0],
+        }
+    }
+
+    /// Says which rule of schedules rows break, if they break one.
+    pub fn breach(&self, workers: u32, rows: &[Row]) -> Option<&'static str> {
+        for (at, row) in rows.iter().enumerate() {
+            if row.worker >= workers {
+                return Some("every action is done by one of the workers");
+            }
+            let Some(before) = row.round.checked_sub(self.costs[at]) else {
+                return Some("no span begins before round 1");
+            };
+            if self.follows[at].iter().any(|&at| rows[at].round > before) {
+                return Some("a span begins after all that its action must follow");
+            }
+        }
+        let mut spans: Vec<(u32, u32, u32)> = rows
+            .iter()
+            .zip(&self.costs)
+            .map(|(row, cost)| (row.worker, row.round, row.round - cost))
+            .collect();
+        // By their ends: if two share a round, so do two neighbours.
+        spans.sort_unstable();
+        spans
+            .windows(2)
+            .any(|two| two[0].0 == two[1].0 && two[1].2 < two[0].1)
+            .then_some("no two spans of one worker share a round")
+    }
+
+    /// What a checker must answer to any bytes for the plan of these facts.
+    pub fn verdict(&self, bytes: &[u8]) -> Result<(), u32> {
+        let formed = Schedule::read(bytes).filter(|schedule| {
+            schedule.form == self.form
+                && (1..=16).contains(&schedule.workers)
+                && schedule.rows.len() == self.costs.len()
+                && schedule.rows.iter().all(|row| row.round > 0)
+        });
+        let schedule = formed.ok_or(11u32)?;
+        match self.breach(schedule.workers, &schedule.rows) {
+            None => Ok(()),
+            Some(_) => Err(12),
         }
     }
 
     /// Says which claim a run breaks, if it breaks one.
     pub fn broken(&self, workers: u32, tally: &Tally, schedule: &[u8]) -> Option<&'static str> {
         let Measures {
-            actions,
+            total,
+            work,
             longest,
             path,
         } = self.measures;
-        // Round above worker in one number, so numbers rise as turns do.
-        let rows: Vec<u16> = schedule[4..]
-            .chunks_exact(2)
-            .map(|pair| u16::from_be_bytes([pair[0], pair[1]]))
-            .collect();
-        let mut turns: Vec<(u16, usize)> = rows.iter().copied().zip(0..).collect();
+        let Some(schedule) = Schedule::read(schedule) else {
+            return Some("a schedule is its header and rows, filled with zero bits");
+        };
+        let rows = &schedule.rows;
+        if (schedule.form, schedule.workers, rows.len()) != (self.form, workers, self.costs.len()) {
+            return Some("the header tells the form, the workers and the actions");
+        }
+        if let Some(rule) = self.breach(workers, rows) {
+            return Some(rule);
+        }
+        let mut turns: Vec<(Row, usize)> = rows.iter().copied().zip(0..).collect();
         turns.sort_unstable();
 
         // In order of turns each action comes after those that it follows.
@@ -79,67 +139,77 @@ impl Facts {
         let mut weight = self.start;
         let mut peak = weight;
         for &(row, at) in &turns {
-            let mut chain = 0;
-            for &before in &self.follows[at] {
-                if rows[before] >> 4 >= row >> 4 {
-                    return Some("an action comes after all that it must follow");
-                }
-                chain = chain.max(chains[before]);
-            }
-            chains[at] = chain + 1;
+            let before = self.follows[at].iter().map(|&at| chains[at]).max();
+            chains[at] = before.unwrap_or(0) + self.costs[at];
             weight += self.gains[at];
             peak = peak.max(weight);
             if weight > i64::from(workers) * i64::from(path) {
                 return Some("the living weight is never above P times S1");
             }
+            if self.onward[at].is_some_and(|next| !self.goes_on(rows, row, next)) {
+                return Some("a worker goes on at once with what is ready");
+            }
         }
-        let rounds = u32::from(turns[turns.len() - 1].0 >> 4);
+        let rounds = turns[turns.len() - 1].0.round;
         let answered = tally.steals + tally.bare + tally.idle_victim;
         let waiting = i64::from(tally.requests) - i64::from(answered);
         [
             (
-                rows.iter()
-                    .all(|row| row >> 4 > 0 && u32::from(row & 15) < workers),
-                "every action is done in a round from 1 on, by one of the workers",
-            ),
-            (
-                u32::from(rows[self.end] >> 4) == rounds,
+                rows[self.end].round == rounds,
                 "the run ends in the round of job 0's last action",
             ),
             (weight == 0, "no frame outlives the run"),
             (
-                turns.windows(2).all(|two| two[0].0 != two[1].0),
-                "no worker does two actions in a round",
+                total as usize == self.costs.len(),
+                "the number of actions is the one measured",
+            ),
+            (
+                work == self.costs.iter().sum(),
+                "the sum of the costs is the one measured",
             ),
             (
                 chains.iter().max() == Some(&longest),
-                "the longest chain is the one measured",
+                "the costliest chain is the one measured",
             ),
             (i64::from(tally.peak) == peak, "the peak is the one reached"),
             (
                 tally.rounds == rounds,
                 "the last round is the number of rounds",
             ),
-            (tally.actions == actions, "all actions are done"),
             (
-                longest <= rounds && rounds <= actions,
-                "the rounds are from the longest chain to the actions",
+                tally.actions == work,
+                "all actions are worked on to the end",
             ),
             (
-                workers * rounds == actions + tally.idle,
-                "turns are actions or idle",
+                longest <= rounds && rounds <= work,
+                "the rounds are from the costliest chain to the work",
+            ),
+            (
+                workers * rounds == work + tally.idle,
+                "turns are worked or idle",
             ),
             (
                 (0..i64::from(workers)).contains(&waiting),
                 "a request is a steal, a miss or waits",
             ),
             (
-                workers > 1 || (tally.peak, rounds) == (path, actions),
+                workers > 1 || (tally.peak, rounds) == (path, work),
                 "one worker needs S1 and T1",
             ),
         ]
         .iter()
         .find(|claim| !claim.0)
         .map(|claim| claim.1)
+    }
+
+    /// Whether the next action, if it is ready right after the turn of this
+    /// row, is worked on by the same worker from the next round on.
+    fn goes_on(&self, rows: &[Row], row: Row, next: usize) -> bool {
+        let ready = self.follows[next].iter().all(|&at| rows[at] <= row);
+        let begun = Row {
+            round: row.round + self.costs[next],
+            worker: row.worker,
+        };
+        !ready || rows[next] == begun
     }
 }

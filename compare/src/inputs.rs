@@ -1,20 +1,34 @@
 //! Plans and choice lists to try.
 
+use crate::bits::Bits;
 use crate::random::Random;
 
 pub const MAX_JOBS: usize = 256;
 pub const MAX_JOB_ACTIONS: usize = 255;
 pub const MAX_ACTIONS: usize = 2048;
 pub const MAX_CHOICES: usize = 4096;
+pub const MAX_COST: u8 = 15;
+pub const FORMS: [u32; 2] = [1, 2];
 
 /// The most children that one job can have: of its 255 actions one cannot be
 /// entered and 29 must be, each by 8 joins at the most.
 pub const MAX_CHILDREN: usize = 225;
 
-#[derive(Clone, Copy, Debug, Default, PartialEq)]
+#[derive(Clone, Copy, Debug, PartialEq)]
 pub struct Action {
     pub child: Option<u8>,
     pub target: Option<u8>,
+    pub cost: u8,
+}
+
+impl Default for Action {
+    fn default() -> Action {
+        Action {
+            child: None,
+            target: None,
+            cost: 1,
+        }
+    }
 }
 
 #[derive(Clone, Debug, Default)]
@@ -24,8 +38,9 @@ pub struct Job {
 }
 
 /// A plan that need not keep any rule.
-#[derive(Clone, Debug, Default)]
+#[derive(Clone, Debug)]
 pub struct Sketch {
+    pub form: u32,
     pub jobs: Vec<Job>,
 }
 
@@ -34,10 +49,20 @@ impl Sketch {
         self.jobs.iter().map(|job| job.actions.len()).sum()
     }
 
+    /// The same plan in form 2, with costs by the action's number in the plan.
+    pub fn costed(mut self, mut cost: impl FnMut(usize) -> u8) -> Sketch {
+        self.form = 2;
+        let actions = self.jobs.iter_mut().flat_map(|job| &mut job.actions);
+        for (at, action) in actions.enumerate() {
+            action.cost = cost(at);
+        }
+        self
+    }
+
     /// The plan's bytes, with numbers too large for their field cut.
     pub fn bytes(&self) -> Vec<u8> {
         let mut bits = Bits::default();
-        bits.put(8, 1);
+        bits.put(8, self.form as usize);
         bits.put(9, self.jobs.len());
         for job in &self.jobs {
             bits.put(16, usize::from(job.frame));
@@ -49,6 +74,9 @@ impl Sketch {
                         bits.put(8, usize::from(number));
                     }
                 }
+                if self.form == 2 {
+                    bits.put(4, usize::from(action.cost));
+                }
             }
         }
         bits.bytes
@@ -57,7 +85,7 @@ impl Sketch {
     /// The plan's open table.
     pub fn rows(&self) -> Vec<u16> {
         let plus_one = |number: Option<u8>| number.map_or(0, |n| u16::from(n) + 1);
-        let mut rows = Vec::with_capacity(4 * self.actions());
+        let mut rows = Vec::with_capacity(5 * self.actions());
         for (number, job) in self.jobs.iter().enumerate() {
             for action in &job.actions {
                 rows.extend([
@@ -65,30 +93,11 @@ impl Sketch {
                     job.frame,
                     plus_one(action.child),
                     plus_one(action.target),
+                    action.cost.into(),
                 ]);
             }
         }
         rows
-    }
-}
-
-/// Bits laid one by one, as plainly as can be.
-#[derive(Default)]
-struct Bits {
-    bytes: Vec<u8>,
-    used: usize,
-}
-
-impl Bits {
-    fn put(&mut self, width: usize, value: usize) {
-        for place in (0..width).rev() {
-            if self.used.is_multiple_of(8) {
-                self.bytes.push(0);
-            }
-            let bit = (value >> place & 1) as u8;
-            self.bytes[self.used / 8] |= bit << (7 - self.used % 8);
-            self.used += 1;
-        }
     }
 }
 
@@ -124,6 +133,46 @@ pub enum Aim {
     Late,
 }
 
+/// How the costs of a plan of form 2 are chosen.
+#[derive(Clone, Copy, Debug)]
+pub enum Costs {
+    Ones,
+    Largest,
+    Any,
+    /// Mostly 1, and a few large ones.
+    Few,
+    /// Equal within each job.
+    ByJob,
+}
+
+pub const COSTS: [Costs; 5] = [
+    Costs::Ones,
+    Costs::Largest,
+    Costs::Any,
+    Costs::Few,
+    Costs::ByJob,
+];
+
+impl Costs {
+    fn lay(self, random: &mut Random, jobs: &mut [Job]) {
+        let most = usize::from(MAX_COST);
+        for job in jobs {
+            let of_job = random.within(1, most);
+            for action in &mut job.actions {
+                let cost = match self {
+                    Costs::Ones => 1,
+                    Costs::Largest => most,
+                    Costs::Any => random.within(1, most),
+                    Costs::Few if random.chance(90) => 1,
+                    Costs::Few => random.within(most / 2, most),
+                    Costs::ByJob => of_job,
+                };
+                action.cost = cost as u8;
+            }
+        }
+    }
+}
+
 /// What a plan is to look like.
 #[derive(Clone, Copy, Debug)]
 pub struct Wish {
@@ -140,6 +189,8 @@ pub struct Wish {
     pub joins: usize,
     /// The largest frame.
     pub frame: u16,
+    /// The costs of a plan of form 2; without them the form is 1.
+    pub costs: Option<Costs>,
 }
 
 impl Wish {
@@ -153,6 +204,7 @@ impl Wish {
             aim: random.pick(&[Aim::Any, Aim::Any, Aim::Early, Aim::Late]),
             joins: random.pick(&[0, 10, 30, 100]),
             frame: random.pick(&[1, 2, 9, 1000, u16::MAX]),
+            costs: random.chance(50).then(|| random.pick(&COSTS)),
         }
     }
 
@@ -165,6 +217,7 @@ impl Wish {
         }
         let counts = self.counts(random, &children);
         let mut sketch = Sketch {
+            form: if self.costs.is_some() { 2 } else { 1 },
             jobs: counts
                 .iter()
                 .map(|&count| Job {
@@ -181,6 +234,9 @@ impl Wish {
                 let tied = self.tie(random, &mut sketch, job, own, true);
                 assert!(tied, "spawns first always leave room");
             }
+        }
+        if let Some(costs) = self.costs {
+            costs.lay(random, &mut sketch.jobs);
         }
         sketch
     }
@@ -326,8 +382,8 @@ pub fn whole_input(workers: u8, choices: &[u8], plan: &[u8]) -> Vec<u8> {
     [&[workers], &count[..], choices, plan].concat()
 }
 
-/// Every plan of at most three jobs and `most` actions that keeps the rules,
-/// all with the same three frames.
+/// Every plan of form 1, at most three jobs and `most` actions that keeps the
+/// rules, all with the same three frames.
 pub fn small_plans(most: usize, mut each: impl FnMut(&Sketch)) {
     let frames = [5, 3, 9];
     let lists = |total: usize| {
@@ -342,6 +398,7 @@ pub fn small_plans(most: usize, mut each: impl FnMut(&Sketch)) {
     };
     for counts in (1..=most).flat_map(lists) {
         let empty = Sketch {
+            form: 1,
             jobs: counts
                 .iter()
                 .zip(frames)

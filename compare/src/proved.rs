@@ -12,7 +12,8 @@ struct RawCount {
 #[repr(C)]
 struct RawMeasures {
     refused: u32,
-    actions: u32,
+    total: u32,
+    work: u32,
     longest: u32,
     path: u32,
 }
@@ -38,6 +39,7 @@ extern "C" {
         rows_len: usize,
     ) -> RawCount;
     fn dw_table_to_plan(
+        form: u32,
         rows: *const u16,
         rows_len: usize,
         plan: *mut u8,
@@ -71,9 +73,17 @@ pub fn plan_to_table(plan: &[u8], rows: &mut [u16]) -> Result<usize, u32> {
     answer(raw.refused, raw.count as usize, 0)
 }
 
-pub fn table_to_plan(rows: &[u16], plan: &mut [u8]) -> Result<usize, u32> {
+pub fn table_to_plan(form: u32, rows: &[u16], plan: &mut [u8]) -> Result<usize, u32> {
     // SAFETY: each pointer goes with the length of its own slice.
-    let raw = unsafe { dw_table_to_plan(rows.as_ptr(), rows.len(), plan.as_mut_ptr(), plan.len()) };
+    let raw = unsafe {
+        dw_table_to_plan(
+            form,
+            rows.as_ptr(),
+            rows.len(),
+            plan.as_mut_ptr(),
+            plan.len(),
+        )
+    };
     answer(raw.refused, raw.count as usize, 0)
 }
 
@@ -83,12 +93,14 @@ pub fn measure(plan: &[u8]) -> Result<Measures, u32> {
     answer(
         raw.refused,
         Measures {
-            actions: raw.actions,
+            total: raw.total,
+            work: raw.work,
             longest: raw.longest,
             path: raw.path,
         },
         Measures {
-            actions: 0,
+            total: 0,
+            work: 0,
             longest: 0,
             path: 0,
         },

@@ -7,7 +7,7 @@ use std::path::Path;
 use std::{fs, str};
 
 /// `buildrun` sees no more of its input than this.
-const MAX_INPUT: usize = 8192;
+const MAX_INPUT: usize = 16_384;
 
 /// P, the choices and the plan, where the input has all of its header.
 fn parts(input: &[u8]) -> Option<(u32, &[u8], &[u8])> {
@@ -23,7 +23,7 @@ fn parts(input: &[u8]) -> Option<(u32, &[u8], &[u8])> {
 /// whole is turned down before the library's calls, so there is nothing to ask.
 fn proved_build(input: &[u8]) -> Option<Result<Counts, u32>> {
     let (workers, choices, plan) = parts(input)?;
-    let mut schedule = [0; 4100];
+    let mut schedule = [0; 5124];
     Some(proved::measure(plan).and_then(|measures| {
         let tally = proved::run(plan, workers, choices, &mut schedule)?;
         Ok(Counts::of(tally, measures))

@@ -6,7 +6,7 @@ use crate::run::{check_workers, schedule_length, write_run, Tally, MAX_CHOICES};
 use crate::{measure, refusal};
 use std::fmt;
 
-const MAX_INPUT: usize = 8192;
+const MAX_INPUT: usize = 16_384;
 
 /// The counts of a run and the measures of its plan, in the printed order.
 #[derive(Clone, Copy, Debug, PartialEq, Eq)]
@@ -78,11 +78,11 @@ pub fn build(input: &[u8]) -> Result<Counts, u32> {
     }
     let (choices, plan) = rest.split_at_checked(count).ok_or(refusal::BITS)?;
 
-    let plan = Plan::read(plan)?;
+    let (form, plan) = Plan::read(plan)?;
     let workers = u32::from(workers);
     check_workers(workers, choices)?;
     let measures = measure::of(&plan);
-    let mut schedule = vec![0; schedule_length(&plan)];
-    let tally = write_run(&plan, workers, choices, &mut schedule);
+    let mut schedule = vec![0; schedule_length(form, &plan)];
+    let tally = write_run(form, &plan, workers, choices, &mut schedule);
     Ok(Counts::of(tally, measures))
 }

@@ -2,12 +2,14 @@
 
 use crate::plan::Plan;
 
-/// T1, T∞ and S1 of a plan.
+/// The size of a plan, T1, T∞ and S1.
 #[derive(Clone, Copy, Debug, PartialEq, Eq)]
 pub struct Measures {
-    /// T1, the number of actions.
-    pub actions: u32,
-    /// T∞, the length of the longest chain.
+    /// The number of actions.
+    pub total: u32,
+    /// T1, the sum of their costs.
+    pub work: u32,
+    /// T∞, the largest cost of a chain.
     pub longest: u32,
     /// S1, the largest path weight.
     pub path: u32,
@@ -15,30 +17,37 @@ pub struct Measures {
 
 /// Measures a plan.
 pub fn measure(plan: &[u8]) -> Result<Measures, u32> {
-    Plan::read(plan).map(|plan| of(&plan))
+    Plan::read(plan).map(|(_, plan)| of(&plan))
 }
 
 pub fn of(plan: &Plan) -> Measures {
     Measures {
-        actions: plan.actions.len() as u32,
+        total: plan.actions.len() as u32,
+        work: plan
+            .actions
+            .iter()
+            .map(|action| u32::from(action.cost))
+            .sum(),
         longest: longest(plan),
         path: path(plan),
     }
 }
 
-/// A job's family is entered by its spawn alone, so the longest chain to one
+/// A job's family is entered by its spawn alone, so the costliest chain to one
 /// of its actions is that to the spawn and one that starts at its position 0.
 /// Children have the larger numbers: going down, theirs are known.
 fn longest(plan: &Plan) -> u32 {
-    // Chains from position 0 of the action's own job. Before an action's turn
-    // comes, its place holds the longest that enters it by a join.
+    // Chains from position 0 of the action's own job, by their cost. Before an
+    // action's turn comes, its place holds the costliest that enters it by a
+    // join. None costs more than 15 for each of 2,048 actions.
     let mut chains = vec![0u16; plan.actions.len()];
     for job in plan.jobs.iter().rev() {
         let mut chain = 0;
         for here in job.range() {
-            chain = chains[here].max(chain) + 1;
+            let action = &plan.actions[here];
+            chain = chains[here].max(chain) + u16::from(action.cost);
             chains[here] = chain;
-            let Some(child) = plan.actions[here].child else {
+            let Some(child) = action.child else {
                 continue;
             };
             for there in plan.jobs[usize::from(child)].range() {

@@ -8,6 +8,42 @@ const MAX_JOBS: usize = 256;
 const MAX_JOB_ACTIONS: usize = 255;
 const MAX_ACTIONS: usize = 2048;
 const MAX_JOINS: u8 = 8;
+const MAX_COST: u16 = 15;
+
+/// How plans, and the schedules of their runs, are written. A plan is the same
+/// in both.
+#[derive(Clone, Copy, PartialEq, Eq)]
+pub enum Form {
+    /// Every action costs 1.
+    One = 1,
+    /// Every action has its cost with it.
+    Two = 2,
+}
+
+impl Form {
+    /// The form of this number.
+    pub fn of(number: u32) -> Result<Self, u32> {
+        match number {
+            1 => Ok(Form::One),
+            2 => Ok(Form::Two),
+            _ => Err(refusal::FORM),
+        }
+    }
+
+    /// A cost that an action of this form may have.
+    #[inline]
+    pub fn cost(self, cost: u16) -> Result<u8, u32> {
+        let most = match self {
+            Form::One => 1,
+            Form::Two => MAX_COST,
+        };
+        if (1..=most).contains(&cost) {
+            Ok(cost as u8)
+        } else {
+            Err(refusal::RANGE)
+        }
+    }
+}
 
 #[derive(Clone, Copy)]
 pub struct Job {
@@ -32,6 +68,8 @@ impl Job {
 pub struct Action {
     pub child: Option<u8>,
     pub target: Option<u8>,
+    /// How many rounds the action takes.
+    pub cost: u8,
 }
 
 /// A plan that keeps every rule.
@@ -77,8 +115,12 @@ impl Draft {
     }
 
     #[inline]
-    pub fn add_action(&mut self, child: Option<u8>, target: Option<u8>) {
-        self.actions.push(Action { child, target });
+    pub fn add_action(&mut self, child: Option<u8>, target: Option<u8>, cost: u8) {
+        self.actions.push(Action {
+            child,
+            target,
+            cost,
+        });
     }
 
     /// A plan, if the rules of spawns and then those of joins are kept.
@@ -153,12 +195,11 @@ impl Draft {
 }
 
 impl Plan {
-    pub fn read(bytes: &[u8]) -> Result<Plan, u32> {
+    /// The plan of these bytes, and their form.
+    pub fn read(bytes: &[u8]) -> Result<(Form, Plan), u32> {
         let mut reader = Reader::new(bytes);
         let field = |reader: &mut Reader, width| reader.take(width).ok_or(refusal::BITS);
-        if field(&mut reader, 8)? != 1 {
-            return Err(refusal::FORM);
-        }
+        let form = Form::of(field(&mut reader, 8)?)?;
         let jobs = field(&mut reader, 9)?;
         // An action takes two bits or more.
         let mut draft = Draft::new(jobs as usize, bytes.len() * 4)?;
@@ -172,32 +213,44 @@ impl Plan {
             for _ in 0..count {
                 let child = reader.take_marked().ok_or(refusal::BITS)?;
                 let target = reader.take_marked().ok_or(refusal::BITS)?;
-                draft.add_action(child, target);
+                let cost = match form {
+                    Form::One => 1,
+                    Form::Two => form.cost(field(&mut reader, 4)? as u16)?,
+                };
+                draft.add_action(child, target, cost);
             }
         }
         if !reader.at_clean_end() {
             return Err(refusal::REST);
         }
-        draft.finish()
+        Ok((form, draft.finish()?))
     }
 
-    /// Writes the plan's bytes and gives their number.
-    pub fn write(&self, bytes: &mut [u8]) -> Result<usize, u32> {
+    /// Writes the plan's bytes and gives their number. In form 1 costs are not
+    /// written: all of them are 1.
+    pub fn write(&self, form: Form, bytes: &mut [u8]) -> Result<usize, u32> {
         // Every job but 0 is one spawn.
         let spawns = self.jobs.len() - 1;
         let joins: usize = self.entering.iter().map(|&n| usize::from(n)).sum();
-        let bits = 17 + 24 * self.jobs.len() + 2 * self.actions.len() + 8 * (spawns + joins);
+        let width = match form {
+            Form::One => 2,
+            Form::Two => 6,
+        };
+        let bits = 17 + 24 * self.jobs.len() + width * self.actions.len() + 8 * (spawns + joins);
         let length = bits.div_ceil(8);
         let bytes = bytes.get_mut(..length).ok_or(refusal::ROOM)?;
 
         let mut writer = Writer::new(bytes);
-        writer.put(8, 1);
+        writer.put(8, form as u32);
         writer.put(9, self.jobs.len() as u32);
         for job in &self.jobs {
             writer.put(24, u32::from(job.frame) << 8 | u32::from(job.count));
             for action in &self.actions[job.range()] {
                 writer.put_marked(action.child);
                 writer.put_marked(action.target);
+                if form == Form::Two {
+                    writer.put(4, u32::from(action.cost));
+                }
             }
         }
         writer.finish();

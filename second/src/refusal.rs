@@ -2,9 +2,9 @@
 
 /// Bits run out in a plan, or bytes in the header of an input.
 pub const BITS: u32 = 1;
-/// The plan's form is not 1.
+/// A form is neither 1 nor 2: a plan's, or the one asked for of a table.
 pub const FORM: u32 = 2;
-/// A job count, frame, action count or sum is outside its range.
+/// A job count, frame, action count, sum or cost is outside its range.
 pub const RANGE: u32 = 3;
 /// A spawn rule is broken.
 pub const SPAWN: u32 = 4;
@@ -20,7 +20,7 @@ pub const CHOICES: u32 = 8;
 pub const ROOM: u32 = 9;
 /// The open table is empty, not whole rows, or breaks its row rules.
 pub const TABLE: u32 = 10;
-/// The schedule's length, header or a round is not well formed.
+/// The schedule's length, header, a round or its fill is not well formed.
 pub const SCHEDULE: u32 = 11;
 /// A schedule rule is broken.
 pub const RULE: u32 = 12;

@@ -1,6 +1,6 @@
 //! Workers, rounds and steals.
 
-use crate::plan::Plan;
+use crate::plan::{Form, Plan};
 use crate::refusal;
 
 pub const MAX_WORKERS: usize = 16;
@@ -11,7 +11,7 @@ pub const MAX_CHOICES: usize = 4096;
 pub struct Tally {
     /// Rounds, the last one with them.
     pub rounds: u32,
-    /// Actions done.
+    /// Turns in which a worker worked on an action.
     pub actions: u32,
     /// Turns of workers that held nothing when the round began.
     pub idle: u32,
@@ -29,16 +29,20 @@ pub struct Tally {
 
 /// Runs a plan, writes its schedule and gives the tally.
 pub fn run(plan: &[u8], workers: u32, choices: &[u8], schedule: &mut [u8]) -> Result<Tally, u32> {
-    let plan = Plan::read(plan)?;
+    let (form, plan) = Plan::read(plan)?;
     check_workers(workers, choices)?;
     let schedule = schedule
-        .get_mut(..schedule_length(&plan))
+        .get_mut(..schedule_length(form, &plan))
         .ok_or(refusal::ROOM)?;
-    Ok(write_run(&plan, workers, choices, schedule))
+    Ok(write_run(form, &plan, workers, choices, schedule))
 }
 
-pub fn schedule_length(plan: &Plan) -> usize {
-    4 + 2 * plan.actions.len()
+pub fn schedule_length(form: Form, plan: &Plan) -> usize {
+    let width = match form {
+        Form::One => 16,
+        Form::Two => 20,
+    };
+    4 + (width * plan.actions.len()).div_ceil(8)
 }
 
 pub fn check_workers(workers: u32, choices: &[u8]) -> Result<(), u32> {
@@ -55,13 +59,24 @@ pub fn check_workers(workers: u32, choices: &[u8]) -> Result<(), u32> {
 }
 
 /// Runs an accepted plan into a schedule of just its length.
-pub fn write_run(plan: &Plan, workers: u32, choices: &[u8], schedule: &mut [u8]) -> Tally {
+pub fn write_run(
+    form: Form,
+    plan: &Plan,
+    workers: u32,
+    choices: &[u8],
+    schedule: &mut [u8],
+) -> Tally {
     let (header, rows) = schedule.split_at_mut(4);
-    let fields = 1 << 24 | workers << 19 | (plan.actions.len() as u32) << 7;
+    let fields = (form as u32) << 24 | workers << 19 | (plan.actions.len() as u32) << 7;
     header.copy_from_slice(&fields.to_be_bytes());
-    let mut state = State::new(plan, workers, rows);
-    state.run(choices);
-    state.tally
+    match form {
+        Form::One => State::new(plan, workers, Short(rows)).run(choices),
+        Form::Two => {
+            // Rows share bytes with one another and with the fill.
+            rows.fill(0);
+            State::new(plan, workers, Long(rows)).run(choices)
+        }
+    }
 }
 
 /// Worker numbers as bits: a round then costs nothing for those who wait.
@@ -156,14 +171,50 @@ impl Queue {
     }
 }
 
-struct State<'a> {
+/// Where the rows of a schedule are written, in its form.
+trait Rows {
+    /// Writes the row of an action that is done, at its place in the plan.
+    fn put(&mut self, action: usize, round: u32, worker: usize);
+}
+
+/// Rows of 16 bits.
+struct Short<'a>(&'a mut [u8]);
+
+impl Rows for Short<'_> {
+    #[inline]
+    fn put(&mut self, action: usize, round: u32, worker: usize) {
+        let row = (round << 4 | worker as u32) as u16;
+        self.0[2 * action..2 * action + 2].copy_from_slice(&row.to_be_bytes());
+    }
+}
+
+/// Rows of 20 bits, over bytes of 0.
+struct Long<'a>(&'a mut [u8]);
+
+impl Rows for Long<'_> {
+    /// Two rows take five bytes, and each has a half of the third.
+    #[inline]
+    fn put(&mut self, action: usize, round: u32, worker: usize) {
+        let at = 5 * action / 2;
+        let shift = if action.is_multiple_of(2) { 4 } else { 0 };
+        let [_, row @ ..] = ((round << 4 | worker as u32) << shift).to_be_bytes();
+        for (byte, bits) in self.0[at..at + 3].iter_mut().zip(row) {
+            *byte |= bits;
+        }
+    }
+}
+
+struct State<'a, R> {
     plan: &'a Plan,
-    rows: &'a mut [u8],
+    rows: R,
     workers: u32,
     /// Those who hold a job, and those who neither hold nor wait.
     holding: Crew,
     idle: Crew,
     held: [u8; MAX_WORKERS],
+    /// The rounds each holder has spent on its job's next action. A job that is
+    /// held is never taken away, so no other place is needed for them.
+    spent: [u8; MAX_WORKERS],
     deques: [Deque; MAX_WORKERS],
     /// Victims with requests, and the requests.
     asked: Crew,
@@ -176,8 +227,8 @@ struct State<'a> {
     tally: Tally,
 }
 
-impl<'a> State<'a> {
-    fn new(plan: &'a Plan, workers: u32, rows: &'a mut [u8]) -> Self {
+impl<'a, R: Rows> State<'a, R> {
+    fn new(plan: &'a Plan, workers: u32, rows: R) -> Self {
         let mut next = [0; 256];
         for (place, job) in next.iter_mut().zip(&plan.jobs) {
             *place = job.first;
@@ -190,6 +241,7 @@ impl<'a> State<'a> {
             holding: Crew(1),
             idle: Crew((1 << workers) - 2),
             held: [0; MAX_WORKERS],
+            spent: [0; MAX_WORKERS],
             deques: [Deque {
                 places: [0; 256],
                 top: 0,
@@ -211,7 +263,7 @@ impl<'a> State<'a> {
         }
     }
 
-    fn run(&mut self, choices: &[u8]) {
+    fn run(mut self, choices: &[u8]) -> Tally {
         let end = self.plan.jobs[0].range().end;
         let mut requests = choices.iter().cycle();
         loop {
@@ -222,7 +274,7 @@ impl<'a> State<'a> {
                 self.turn(worker);
             }
             if usize::from(self.next[0]) == end {
-                return;
+                return self.tally;
             }
             for worker in without {
                 // One worker alone is never without a job, so a list that may
@@ -242,9 +294,14 @@ impl<'a> State<'a> {
         let job = &self.plan.jobs[usize::from(number)];
         let here = usize::from(self.next[usize::from(number)]);
         let action = self.plan.actions[here];
-        let row = (self.tally.rounds << 4 | worker as u32) as u16;
-        self.rows[2 * here..2 * here + 2].copy_from_slice(&row.to_be_bytes());
         self.tally.actions += 1;
+        let spent = &mut self.spent[worker];
+        *spent += 1;
+        if *spent < action.cost {
+            return;
+        }
+        *spent = 0;
+        self.rows.put(here, self.tally.rounds, worker);
         self.next[usize::from(number)] += 1;
 
         if let Some(target) = action.target {

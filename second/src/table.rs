@@ -1,7 +1,10 @@
-//! The open table: four numbers an action.
+//! The open table: five numbers an action.
 
-use crate::plan::{Draft, Plan};
+use crate::plan::{Draft, Form, Plan};
 use crate::refusal;
+
+/// The numbers in a row.
+const ROW: usize = 5;
 
 fn opened(number: Option<u8>) -> u16 {
     number.map_or(0, |n| u16::from(n) + 1)
@@ -13,10 +16,10 @@ fn closed(number: u16) -> Option<u8> {
 
 /// Writes a plan's open table and gives how many rows it has.
 pub fn plan_to_table(plan: &[u8], rows: &mut [u16]) -> Result<usize, u32> {
-    let plan = Plan::read(plan)?;
-    let length = 4 * plan.actions.len();
+    let (_, plan) = Plan::read(plan)?;
+    let length = ROW * plan.actions.len();
     let rows = rows.get_mut(..length).ok_or(refusal::ROOM)?;
-    let mut rows = rows.chunks_exact_mut(4);
+    let mut rows = rows.chunks_exact_mut(ROW);
     for (number, job) in plan.jobs.iter().enumerate() {
         for (action, row) in plan.actions[job.range()].iter().zip(&mut rows) {
             row.copy_from_slice(&[
@@ -24,23 +27,26 @@ pub fn plan_to_table(plan: &[u8], rows: &mut [u16]) -> Result<usize, u32> {
                 job.frame,
                 opened(action.child),
                 opened(action.target),
+                u16::from(action.cost),
             ]);
         }
     }
     Ok(plan.actions.len())
 }
 
-/// Writes the plan of an open table and gives how many bytes it takes.
-pub fn table_to_plan(rows: &[u16], plan: &mut [u8]) -> Result<usize, u32> {
-    read_table(rows)?.write(plan)
+/// Writes the plan of an open table in this form, 1 or 2, and gives how many
+/// bytes it takes.
+pub fn table_to_plan(form: u32, rows: &[u16], plan: &mut [u8]) -> Result<usize, u32> {
+    let form = Form::of(form)?;
+    read_table(form, rows)?.write(form, plan)
 }
 
-fn read_table(rows: &[u16]) -> Result<Plan, u32> {
-    if rows.is_empty() || !rows.len().is_multiple_of(4) || rows[0] != 0 {
+fn read_table(form: Form, rows: &[u16]) -> Result<Plan, u32> {
+    if rows.is_empty() || !rows.len().is_multiple_of(ROW) || rows[0] != 0 {
         return Err(refusal::TABLE);
     }
     // The row rules come first for the whole table, before any range.
-    let table = rows.chunks_exact(4);
+    let table = rows.chunks_exact(ROW);
     let mut before = (rows[0], rows[1]);
     for row in table.clone() {
         let (job, frame) = (row[0], row[1]);
@@ -55,11 +61,14 @@ fn read_table(rows: &[u16]) -> Result<Plan, u32> {
     let mut draft = Draft::new(usize::from(before.0) + 1, table.len())?;
     let mut rest = rows;
     while let [job, frame, ..] = *rest {
-        let count = rest.chunks_exact(4).take_while(|row| row[0] == job).count();
-        let (own, others) = rest.split_at(4 * count);
+        let count = rest
+            .chunks_exact(ROW)
+            .take_while(|row| row[0] == job)
+            .count();
+        let (own, others) = rest.split_at(ROW * count);
         draft.open_job(frame, count)?;
-        for row in own.chunks_exact(4) {
-            draft.add_action(closed(row[2]), closed(row[3]));
+        for row in own.chunks_exact(ROW) {
+            draft.add_action(closed(row[2]), closed(row[3]), form.cost(row[4])?);
         }
         rest = others;
     }

@@ -1,4 +1,5 @@
-//! The twelve starred cases, and misses by their kind.
+//! The twelve starred cases, misses by their kind, and actions that take
+//! longer.
 
 use second::{build, check, measure, plan_to_table, run, table_to_plan, Measures, Tally};
 
@@ -7,41 +8,59 @@ const E: [u8; 18] = [
     0x82, 0x00,
 ];
 
-/// The rows of E, with the position that job 2 joins left open.
-fn e_rows(target: u16) -> [u16; 32] {
+/// E with costs, in form 2.
+const E2: [u8; 22] = [
+    0x02, 0x01, 0x80, 0x02, 0x02, 0xC0, 0x44, 0x0C, 0x08, 0x60, 0x84, 0x00, 0x06, 0x04, 0x22, 0x08,
+    0x20, 0x00, 0x40, 0x28, 0x22, 0x80,
+];
+
+const E2_COSTS: [u16; 8] = [2, 1, 3, 1, 2, 4, 1, 5];
+
+/// The rows of E with these costs, and the position that job 2 joins left open.
+fn costed_e_rows(target: u16, costs: [u16; 8]) -> [u16; 40] {
+    let [a, b, c, d, e, f, g, h] = costs;
     [
-        [0, 4, 2, 0],
-        [0, 4, 0, 0],
-        [0, 4, 3, 0],
-        [0, 4, 0, 0],
-        [0, 4, 0, 0],
-        [1, 3, 0, 0],
-        [1, 3, 0, 5],
-        [2, 2, 0, target + 1],
+        [0, 4, 2, 0, a],
+        [0, 4, 0, 0, b],
+        [0, 4, 3, 0, c],
+        [0, 4, 0, 0, d],
+        [0, 4, 0, 0, e],
+        [1, 3, 0, 0, f],
+        [1, 3, 0, 5, g],
+        [2, 2, 0, target + 1, h],
     ]
     .concat()
     .try_into()
     .unwrap()
 }
 
-const F_ROWS: [u16; 28] = [
-    0, 1, 2, 0, //
-    0, 1, 0, 0, //
-    0, 1, 0, 0, //
-    1, 1, 0, 0, //
-    1, 1, 0, 0, //
-    1, 1, 0, 0, //
-    1, 1, 0, 3, //
+/// The rows of E, with the position that job 2 joins left open.
+fn e_rows(target: u16) -> [u16; 40] {
+    costed_e_rows(target, [1; 8])
+}
+
+const F_ROWS: [u16; 35] = [
+    0, 1, 2, 0, 1, //
+    0, 1, 0, 0, 1, //
+    0, 1, 0, 0, 1, //
+    1, 1, 0, 0, 1, //
+    1, 1, 0, 0, 1, //
+    1, 1, 0, 0, 1, //
+    1, 1, 0, 3, 1, //
 ];
 
-fn plan_of(rows: &[u16]) -> Vec<u8> {
-    let mut plan = [0; 64];
-    let length = table_to_plan(rows, &mut plan).unwrap();
+fn plan_in(form: u32, rows: &[u16]) -> Vec<u8> {
+    let mut plan = [0; 6403];
+    let length = table_to_plan(form, rows, &mut plan).unwrap();
     plan[..length].to_vec()
 }
 
+fn plan_of(rows: &[u16]) -> Vec<u8> {
+    plan_in(1, rows)
+}
+
 fn one_job() -> Vec<u8> {
-    plan_of(&[0, 1, 0, 0])
+    plan_of(&[0, 1, 0, 0, 1])
 }
 
 fn tally_of(plan: &[u8], workers: u32, choices: &[u8]) -> Result<Tally, u32> {
@@ -149,12 +168,12 @@ fn case_8() {
 #[test]
 fn case_9() {
     assert_eq!(plan_of(&e_rows(4)), E);
-    assert_eq!(table_to_plan(&e_rows(3), &mut [0; 64]), Err(5));
+    assert_eq!(table_to_plan(1, &e_rows(3), &mut [0; 64]), Err(5));
     // The last field starts at bit 129.
     let mut plan = E;
     plan[16] = 0x81;
     plan[17] = 0x80;
-    let mut rows = [0; 32];
+    let mut rows = [0; 40];
     assert_eq!(plan_to_table(&E, &mut rows), Ok(8));
     assert_eq!(rows, e_rows(4));
     assert_eq!(tally_of(&plan, 1, &[]), Err(5));
@@ -182,7 +201,8 @@ fn measures_of_e() {
     assert_eq!(
         measure(&E),
         Ok(Measures {
-            actions: 8,
+            total: 8,
+            work: 8,
             longest: 5,
             path: 7
         })
@@ -211,7 +231,10 @@ fn kinds_in_cases_5_and_6() {
 
 /// Rounds, actions, idle turns, requests, steals, bare, idle-victim and peak.
 fn counts(rows: &[u16], workers: u32, choices: &[u8]) -> [u32; 8] {
-    let t = tally_of(&plan_of(rows), workers, choices).unwrap();
+    counts_of(tally_of(&plan_of(rows), workers, choices).unwrap())
+}
+
+fn counts_of(t: Tally) -> [u32; 8] {
     [
         t.rounds,
         t.actions,
@@ -225,11 +248,11 @@ fn counts(rows: &[u16], workers: u32, choices: &[u8]) -> [u32; 8] {
 }
 
 /// Job 0 spawns job 1 at 0 and waits for its only action at 2.
-const G_ROWS: [u16; 16] = [
-    0, 1, 2, 0, //
-    0, 1, 0, 0, //
-    0, 1, 0, 0, //
-    1, 1, 0, 3, //
+const G_ROWS: [u16; 20] = [
+    0, 1, 2, 0, 1, //
+    0, 1, 0, 0, 1, //
+    0, 1, 0, 0, 1, //
+    1, 1, 0, 3, 1, //
 ];
 
 /// Round 1: worker 0 spawns. Worker 1 asks worker 0, worker 2 asks worker 1.
@@ -261,14 +284,14 @@ fn a_worker_that_asks_itself_finds_an_idle_victim() {
 }
 
 /// Job 0 spawns job 1 at 0 and job 2 at 1, and waits for both at 3.
-const H_ROWS: [u16; 28] = [
-    0, 1, 2, 0, //
-    0, 1, 3, 0, //
-    0, 1, 0, 0, //
-    0, 1, 0, 0, //
-    1, 1, 0, 4, //
-    2, 1, 0, 0, //
-    2, 1, 0, 4, //
+const H_ROWS: [u16; 35] = [
+    0, 1, 2, 0, 1, //
+    0, 1, 3, 0, 1, //
+    0, 1, 0, 0, 1, //
+    0, 1, 0, 0, 1, //
+    1, 1, 0, 4, 1, //
+    2, 1, 0, 0, 1, //
+    2, 1, 0, 4, 1, //
 ];
 
 /// Round 1: workers 1 and 2 ask worker 0, which gives job 0 to worker 1.
@@ -282,4 +305,326 @@ const H_ROWS: [u16; 28] = [
 fn a_victim_given_a_job_later_in_this_half_is_idle() {
     let wanted = [5, 7, 8, 5, 2, 1, 2, 2];
     assert_eq!(counts(&H_ROWS, 3, &[0, 0, 1, 0, 1]), wanted);
+}
+
+/// One job with one action, in form 2 and of cost 3.
+const ONE_OF_3: [u8; 6] = [0x02, 0x00, 0x80, 0x00, 0x80, 0x86];
+
+const E2_ROWS: [(u16, u16); 8] = [
+    (2, 0),
+    (4, 1),
+    (7, 1),
+    (9, 0),
+    (14, 1),
+    (6, 0),
+    (7, 0),
+    (12, 1),
+];
+
+const E2_SCHEDULE: [u8; 24] = [
+    0x02, 0x10, 0x04, 0x00, 0x00, 0x02, 0x00, 0x00, 0x41, 0x00, 0x07, 0x10, 0x00, 0x90, 0x00, 0x0E,
+    0x10, 0x00, 0x60, 0x00, 0x07, 0x00, 0x00, 0xC1,
+];
+
+/// A schedule of form 2, from the last round and the worker of each action.
+fn long_schedule(workers: u8, rows: &[(u16, u16)]) -> Vec<u8> {
+    let count = rows.len() as u32;
+    let header = 2 << 24 | u32::from(workers) << 19 | count << 7;
+    let halves: Vec<u8> = rows
+        .iter()
+        .flat_map(|&(round, worker)| [round >> 12, round >> 8, round >> 4, round, worker])
+        .map(|half| half as u8 & 15)
+        .collect();
+    let bytes = halves
+        .chunks(2)
+        .map(|pair| pair[0] << 4 | pair.get(1).unwrap_or(&0));
+    header.to_be_bytes().into_iter().chain(bytes).collect()
+}
+
+#[test]
+fn one_of_3() {
+    assert_eq!(plan_in(2, &[0, 1, 0, 0, 3]), ONE_OF_3);
+    let mut schedule = [0xA5; 8];
+    let t = run(&ONE_OF_3, 1, &[], &mut schedule).unwrap();
+    assert_eq!((t.rounds, t.actions, t.idle), (3, 3, 0));
+    assert_eq!(measure(&ONE_OF_3).unwrap().longest, 3);
+    // The last four bits fill the byte.
+    assert_eq!(schedule, [2, 0x08, 0, 0x80, 0, 0x03, 0x00, 0xA5]);
+    assert_eq!(check(&ONE_OF_3, &schedule[..7]), Ok(()));
+    assert_eq!(run(&ONE_OF_3, 1, &[], &mut [0; 6]), Err(9));
+}
+
+#[test]
+fn e2_in_a_table() {
+    let rows = costed_e_rows(4, E2_COSTS);
+    assert_eq!(plan_in(2, &rows), E2);
+    let mut opened = [0; 40];
+    assert_eq!(plan_to_table(&E2, &mut opened), Ok(8));
+    assert_eq!(opened, rows);
+    assert_eq!(plan_to_table(&E2, &mut [0; 39]), Err(9));
+}
+
+#[test]
+fn measures_of_e2() {
+    assert_eq!(
+        measure(&E2),
+        Ok(Measures {
+            total: 8,
+            work: 19,
+            longest: 13,
+            path: 7
+        })
+    );
+}
+
+#[test]
+fn e2_alone() {
+    let t = tally_of(&E2, 1, &[]).unwrap();
+    assert_eq!(counts_of(t), [19, 19, 0, 0, 0, 0, 0, 7]);
+}
+
+#[test]
+fn e2_by_two() {
+    let mut schedule = [0xA5; 26];
+    let t = run(&E2, 2, &[0, 1], &mut schedule).unwrap();
+    assert_eq!(counts_of(t), [14, 19, 9, 8, 2, 3, 3, 7]);
+    assert_eq!(schedule[..24], E2_SCHEDULE);
+    assert_eq!(schedule[24..], [0xA5; 2]);
+    assert_eq!(long_schedule(2, &E2_ROWS), E2_SCHEDULE);
+    assert_eq!(check(&E2, &E2_SCHEDULE), Ok(()));
+    assert_eq!(run(&E2, 2, &[0, 1], &mut [0; 23]), Err(9));
+}
+
+#[test]
+fn e2_by_two_printed() {
+    let input = [&[2, 0, 2, 0, 1], &E2[..]].concat();
+    assert_eq!(
+        build(&input).unwrap().to_string(),
+        "rounds 14\nactions 19\nlongest 13\npath 7\npeak 7\nidle 9\nrequests 8\nsteals 2\n\
+         bare 3\nidle-victim 3\n"
+    );
+}
+
+/// Worker 1, to whom 0.3 is given, works on 2.0 from round 8 to 12.
+#[test]
+fn e2_with_spans_that_clash() {
+    let mut schedule = E2_SCHEDULE;
+    schedule[13] = 0x91;
+    assert_eq!(check(&E2, &schedule), Err(12));
+}
+
+#[test]
+fn costs_of_1_run_as_form_1_does() {
+    let plan = plan_in(2, &e_rows(4));
+    let mut schedule = [0; 24];
+    let t = run(&plan, 2, &[0, 1], &mut schedule).unwrap();
+    assert_eq!(Ok(t), tally_of(&E, 2, &[0, 1]));
+    assert_eq!(schedule[..], long_schedule(2, &CASE_4_ROWS));
+}
+
+#[test]
+fn a_cost_of_0_is_told_as_it_is_read() {
+    // The last byte has the end of the action count, a spawn bit, a join bit,
+    // the cost and a fill bit.
+    let mut plan = ONE_OF_3;
+    plan[5] = 0x80;
+    assert_eq!(measure(&plan), Err(3));
+    plan[5] = 0x81;
+    assert_eq!(measure(&plan), Err(3));
+    // With two actions bits run out in the second one.
+    assert_eq!(measure(&[0x02, 0x00, 0x80, 0x00, 0x81, 0x06]), Err(1));
+    assert_eq!(measure(&[0x02, 0x00, 0x80, 0x00, 0x81, 0x00]), Err(3));
+    // Bits run out in a cost itself.
+    assert_eq!(measure(&E2[..9]), Err(1));
+}
+
+#[test]
+fn forms_other_than_1_and_2() {
+    for form in [0, 3, 255] {
+        let mut plan = E2;
+        plan[0] = form;
+        assert_eq!(measure(&plan), Err(2));
+        assert_eq!(measure(&plan[..1]), Err(2));
+    }
+    // A form is asked for before the table is looked at.
+    for form in [0, 3, 257, u32::MAX] {
+        assert_eq!(table_to_plan(form, &e_rows(4), &mut [0; 64]), Err(2));
+        assert_eq!(table_to_plan(form, &[], &mut []), Err(2));
+    }
+    // E2 with the form of E, and E with that of E2.
+    assert!(measure(&[&[1], &E2[1..]].concat()).is_err());
+    assert!(measure(&[&[2], &E[1..]].concat()).is_err());
+}
+
+#[test]
+fn costs_in_a_table() {
+    let closed = |form, cost| table_to_plan(form, &[0, 1, 0, 0, cost], &mut [0; 64]);
+    assert_eq!(closed(1, 1), Ok(6));
+    for cost in [0, 2, 15, 16, 257, 65_535] {
+        assert_eq!(closed(1, cost), Err(3));
+    }
+    for cost in 1..=15 {
+        assert_eq!(closed(2, cost), Ok(6));
+    }
+    for cost in [0, 16, 17, 257, 65_535] {
+        assert_eq!(closed(2, cost), Err(3));
+    }
+}
+
+#[test]
+fn costs_come_after_row_rules_and_before_spawn_rules() {
+    let closed = |rows: &[u16]| table_to_plan(2, rows, &mut [0; 64]);
+    assert_eq!(closed(&[0, 1, 0, 0, 16, 2, 1, 0, 0, 1]), Err(10));
+    assert_eq!(closed(&[0, 1, 0, 0, 16, 0, 1, 0, 0]), Err(10));
+    assert_eq!(closed(&[0, 1, 1, 0, 1, 0, 1, 0, 0, 16]), Err(3));
+    assert_eq!(closed(&[0, 1, 1, 0, 1, 0, 1, 0, 0, 15]), Err(4));
+}
+
+#[test]
+fn a_schedule_of_the_other_form() {
+    assert_eq!(check(&E2, &CASE_4), Err(11));
+    assert_eq!(check(&E, &E2_SCHEDULE), Err(11));
+    // With the length of the plan's form.
+    let mut schedule = E2_SCHEDULE;
+    schedule[0] = 1;
+    assert_eq!(check(&E2, &schedule), Err(11));
+    let mut schedule = CASE_4;
+    schedule[0] = 2;
+    assert_eq!(check(&E, &schedule), Err(11));
+}
+
+#[test]
+fn fill_bits_of_a_schedule() {
+    let schedule = [2, 0x08, 0, 0x80, 0, 0x03, 0x00];
+    assert_eq!(check(&ONE_OF_3, &schedule), Ok(()));
+    for bit in 0..4 {
+        let mut schedule = schedule;
+        schedule[6] |= 1 << bit;
+        assert_eq!(check(&ONE_OF_3, &schedule), Err(11));
+        // It goes before a span that begins too early.
+        schedule[5] = 0x02;
+        assert_eq!(check(&ONE_OF_3, &schedule), Err(11));
+    }
+}
+
+#[test]
+fn a_span_that_begins_before_round_1() {
+    let checked = |round| check(&ONE_OF_3, &long_schedule(1, &[(round, 0)]));
+    assert_eq!(checked(0), Err(11));
+    assert_eq!(checked(1), Err(12));
+    assert_eq!(checked(2), Err(12));
+    assert_eq!(checked(3), Ok(()));
+    assert_eq!(checked(65_535), Ok(()));
+}
+
+/// G with these costs.
+fn costed_g(costs: [u16; 4]) -> Vec<u8> {
+    let mut rows = G_ROWS;
+    for (row, cost) in rows.chunks_exact_mut(5).zip(costs) {
+        row[4] = cost;
+    }
+    plan_in(2, &rows)
+}
+
+/// Of G with costs, 0.1 takes five rounds and 1.0 three, and neither must follow
+/// the other. Worker 0 does 0.0 in round 1, 0.1 up to some round and 0.2 in
+/// round 10. It may go from one span to the next at once, but not earlier.
+#[test]
+fn spans_that_touch() {
+    let plan = costed_g([1, 5, 1, 3]);
+    let checked = |long, short, worker| {
+        let rows = [(1, 0), (long, 0), (10, 0), (short, worker)];
+        check(&plan, &long_schedule(2, &rows))
+    };
+    for (long, short, kept) in [
+        (9, 4, Ok(())),
+        (9, 5, Err(12)),
+        (8, 4, Err(12)),
+        (6, 9, Ok(())),
+        (6, 8, Err(12)),
+        (7, 9, Err(12)),
+        // One within the other, and with the same first or last round.
+        (6, 5, Err(12)),
+        (6, 4, Err(12)),
+        (6, 6, Err(12)),
+    ] {
+        assert_eq!(checked(long, short, 0), kept);
+        assert_eq!(checked(long, short, 1), Ok(()));
+    }
+}
+
+/// The same with two spans of 15 rounds, wherever they lie.
+#[test]
+fn longest_spans_that_touch() {
+    let plan = costed_g([1, 15, 1, 15]);
+    let checked = |first, second| {
+        let rows = [(1, 0), (first, 0), (65_535, 0), (second, 0)];
+        check(&plan, &long_schedule(1, &rows))
+    };
+    for round in (16..200).chain(65_400..65_520) {
+        assert_eq!(checked(round, round + 15), Ok(()));
+        assert_eq!(checked(round + 15, round), Ok(()));
+        assert_eq!(checked(round, round + 14), Err(12));
+        assert_eq!(checked(round + 14, round), Err(12));
+    }
+}
+
+/// The join of 2.0 comes in round 12: 0.4, which takes two rounds, may end in
+/// round 14, but not in round 13, by whomever it is done.
+#[test]
+fn a_span_begins_after_what_it_must_follow() {
+    for worker in [0, 1] {
+        let mut rows = E2_ROWS;
+        rows[4] = (14, worker);
+        assert_eq!(check(&E2, &long_schedule(2, &rows)), Ok(()));
+        rows[4].0 = 13;
+        assert_eq!(check(&E2, &long_schedule(2, &rows)), Err(12));
+    }
+}
+
+/// The header may name more workers than the rows use, but not fewer.
+#[test]
+fn workers_of_a_long_schedule() {
+    assert_eq!(check(&E2, &long_schedule(16, &E2_ROWS)), Ok(()));
+    assert_eq!(check(&E2, &long_schedule(1, &E2_ROWS)), Err(12));
+    assert_eq!(check(&E2, &long_schedule(0, &E2_ROWS)), Err(11));
+    assert_eq!(check(&E2, &long_schedule(17, &E2_ROWS)), Err(11));
+}
+
+/// Each of 256 jobs but the last spawns the next one at 0, whose eight actions,
+/// of cost 15, join position 2. With 4,096 choices in front, such a plan ends
+/// behind byte 8,192 of its input. The costliest chain goes down through all
+/// positions 0, and up again through positions 2 to 7.
+#[test]
+fn the_largest_run() {
+    let rows: Vec<u16> = (0..256 * 8)
+        .flat_map(|row| {
+            let (job, position) = (row / 8, row % 8);
+            let child = if position == 0 && job < 255 {
+                job + 2
+            } else {
+                0
+            };
+            let target = if job > 0 { 3 } else { 0 };
+            [job, 1, child, target, 15]
+        })
+        .collect();
+    let plan = plan_in(2, &rows);
+    let header = [1, 0x10, 0x00];
+    let input = [&header[..], &[0; 4096], &plan].concat();
+    assert_eq!(input.len(), 8701);
+    let counts = build(&input).unwrap();
+    assert_eq!((counts.rounds, counts.actions), (30_720, 30_720));
+    assert_eq!(counts.longest, 15 * (255 + 8 + 255 * 6));
+    assert_eq!((counts.path, counts.peak), (256, 256));
+
+    let mut schedule = [0; 5124];
+    for workers in [1, 2, 16] {
+        run(&plan, workers, &[0], &mut schedule).unwrap();
+        assert_eq!(check(&plan, &schedule), Ok(()));
+    }
+    assert_eq!(run(&plan, 1, &[], &mut [0; 5123]), Err(9));
+    // Of a longer input the first 16,384 bytes count.
+    let longer = [&input[..], &[0; 16_384]].concat();
+    assert_eq!(build(&longer), Err(6));
 }

@@ -1,8 +1,9 @@
 //! The proved code against the second one, on the same inputs.
 
-use compare::inputs::{Aim, Shape, Wish, MAX_ACTIONS, MAX_CHOICES, MAX_JOBS};
+use compare::inputs::{Aim, Costs, Shape, Wish, MAX_ACTIONS, MAX_CHOICES, MAX_JOBS};
 use compare::proved;
 use compare::random::Random;
+use compare::schedules;
 use std::hint::black_box;
 use std::time::Instant;
 
@@ -23,6 +24,7 @@ const LARGEST: Wish = Wish {
     aim: Aim::Any,
     joins: 30,
     frame: u16::MAX,
+    costs: None,
 };
 
 fn median(mut times: Vec<f64>) -> f64 {
@@ -72,7 +74,7 @@ fn any_list(random: &mut Random, workers: u32) -> Vec<u8> {
 }
 
 fn run(plans: &[Vec<u8>], workers: u32, choices: &[u8]) -> (f64, f64) {
-    let mut one = vec![0; 4 + 2 * MAX_ACTIONS];
+    let mut one = vec![0; schedules::length(2, MAX_ACTIONS)];
     let mut other = one.clone();
     let times = medians(
         |k| proved::run(&plans[k], workers, choices, &mut one),
@@ -83,53 +85,49 @@ fn run(plans: &[Vec<u8>], workers: u32, choices: &[u8]) -> (f64, f64) {
 }
 
 fn schedule_of(plan: &[u8], workers: u32, choices: &[u8]) -> Vec<u8> {
-    let mut schedule = vec![0; 4 + 2 * MAX_ACTIONS];
+    let mut schedule = vec![0; schedules::length(plan[0].into(), MAX_ACTIONS)];
     second::run(plan, workers, choices, &mut schedule).expect("the plan is good");
     schedule
 }
 
-fn main() {
-    let mut random = Random(0x5EED_0008);
-    let plans = plans_of(&mut random, LARGEST);
+/// The calls that read a plan or a table and run nothing. `which` tells the
+/// plans apart behind the name of the call.
+fn readings(plans: &[Vec<u8>], which: &str) {
+    let form = plans[0][0].into();
     let tables: Vec<Vec<u16>> = plans
         .iter()
         .map(|plan| {
-            let mut rows = vec![0; 4 * MAX_ACTIONS];
+            let mut rows = vec![0; 5 * MAX_ACTIONS];
             let count = second::plan_to_table(plan, &mut rows);
             assert_eq!(count, Ok(MAX_ACTIONS), "the plan is as large as can be");
             rows
         })
         .collect();
-
-    println!(
-        "Medians of {REPETITIONS} repetitions of {TOGETHER} calls, both taken in turn, in \
-         microseconds a call.\nBuffers are not cleared between calls. Calls go over {PLANS} plans \
-         of {MAX_ACTIONS} actions in {MAX_JOBS} jobs, one after the other.\n"
-    );
-    println!("| Call | proved | second | proved / second |");
-    println!("|---|---:|---:|---:|");
-
     let mut rows = (tables[0].clone(), tables[0].clone());
     let times = medians(
         |k| proved::plan_to_table(&plans[k], &mut rows.0),
         |k| second::plan_to_table(&plans[k], &mut rows.1),
     );
-    line("plan to table", times);
+    line(&format!("plan to table{which}"), times);
     let mut bytes = (vec![0; 8 * MAX_ACTIONS], vec![0; 8 * MAX_ACTIONS]);
     let times = medians(
-        |k| proved::table_to_plan(&tables[k], &mut bytes.0),
-        |k| second::table_to_plan(&tables[k], &mut bytes.1),
+        |k| proved::table_to_plan(form, &tables[k], &mut bytes.0),
+        |k| second::table_to_plan(form, &tables[k], &mut bytes.1),
     );
-    line("table to plan", times);
+    line(&format!("table to plan{which}"), times);
     let times = medians(
         |k| proved::measure(&plans[k]),
         |k| second::measure(&plans[k]),
     );
-    line("measure", times);
+    line(&format!("measure{which}"), times);
+}
+
+/// Runs with mixed choices, and checks of the schedules that they write.
+fn runs(random: &mut Random, plans: &[Vec<u8>], which: &str) {
     for workers in [1, 4, 16] {
-        let choices = any_list(&mut random, workers);
-        let times = run(&plans, workers, &choices);
-        line(&format!("run, P {workers}, mixed choices"), times);
+        let choices = any_list(random, workers);
+        let times = run(plans, workers, &choices);
+        line(&format!("run, P {workers}, mixed choices{which}"), times);
         let schedules: Vec<Vec<u8>> = plans
             .iter()
             .map(|plan| schedule_of(plan, workers, &choices))
@@ -138,8 +136,28 @@ fn main() {
             |k| proved::check(&plans[k], &schedules[k]),
             |k| second::check(&plans[k], &schedules[k]),
         );
-        line(&format!("check of those schedules, P {workers}"), times);
+        line(
+            &format!("check of those schedules, P {workers}{which}"),
+            times,
+        );
     }
+}
+
+fn main() {
+    let mut random = Random(0x5EED_0008);
+    let plans = plans_of(&mut random, LARGEST);
+
+    println!(
+        "Medians of {REPETITIONS} repetitions of {TOGETHER} calls, both taken in turn, in \
+         microseconds a call.\nBuffers are not cleared between calls. Calls go over {PLANS} plans \
+         of {MAX_ACTIONS} actions in {MAX_JOBS} jobs, one after the other, of form 1 where no other \
+         is named.\n"
+    );
+    println!("| Call | proved | second | proved / second |");
+    println!("|---|---:|---:|---:|");
+
+    readings(&plans, "");
+    runs(&mut random, &plans, "");
     for victim in [0, 15] {
         let times = run(&plans, 16, &[victim; MAX_CHOICES]);
         line(&format!("run, P 16, all choose worker {victim}"), times);
@@ -156,6 +174,16 @@ fn main() {
     line("run of a chain of jobs, P 16, all choose worker 0", times);
     let times = run(&chains, 16, &any_list(&mut random, 16));
     line("run of a chain of jobs, P 16, mixed choices", times);
+
+    let costed = |costs| Wish {
+        costs: Some(costs),
+        ..LARGEST
+    };
+    let plans = plans_of(&mut random, costed(Costs::Any));
+    readings(&plans, ", form 2, mixed costs");
+    runs(&mut random, &plans, ", form 2, mixed costs");
+    let plans = plans_of(&mut random, costed(Costs::Largest));
+    runs(&mut random, &plans, ", form 2, all costs 15");
 
     println!("\nA run with P 4 as plans grow, over {PLANS} of each size:\n");
     println!("| Actions | proved | second | proved / second |");

@@ -5,13 +5,14 @@
 //! each, high first), which are 0 where there is a refusal.
 
 use compare::inputs::{
-    any_choices, any_plan, whole_input, Wish, MAX_ACTIONS, MAX_CHOICES, MAX_JOBS, SHAPES,
+    any_choices, any_plan, whole_input, Costs, Shape, Wish, COSTS, MAX_ACTIONS, MAX_CHOICES,
+    MAX_JOBS, SHAPES,
 };
 use compare::random::Random;
 use std::error::Error;
 use std::{env, fs};
 
-const MAX_INPUT: usize = 8192;
+const MAX_INPUT: usize = 16_384;
 const MAX_FILE: usize = 400_000;
 
 fn main() -> Result<(), Box<dyn Error>> {
@@ -72,9 +73,13 @@ fn headers() -> Vec<Vec<u8>> {
         vec![0, 0xFF, 0xFF],
         vec![17, 0xFF, 0xFF, 1, 2, 3],
     ];
+    let costed = [2, 0, 0x80, 0, 0x80, 0xBC];
     for workers in [0, 1, 2, 16, 17, 128, 255] {
         for choices in [&[][..], &[0], &[1], &[0, 16], &[255]] {
             inputs.push(whole_input(workers, choices, &plan));
+        }
+        for choices in [&[][..], &[0]] {
+            inputs.push(whole_input(workers, choices, &costed));
         }
     }
     // One choice too many, and just as many as may be.
@@ -133,12 +138,15 @@ fn turned_down(random: &mut Random) -> Vec<Vec<u8>> {
 fn several_causes(random: &mut Random) -> Vec<Vec<u8>> {
     (0..120)
         .map(|k| {
-            let wish = Wish::any(random, 1 + k % 5, 3 + k % 17);
+            let mut wish = Wish::any(random, 1 + k % 5, 3 + k % 17);
+            if k % 10 == 8 {
+                wish.costs = Some(random.pick(&COSTS));
+            }
             let mut sketch = wish.grant(random);
             let number = random.below(sketch.jobs.len());
             let job = &mut sketch.jobs[number];
             let at = random.below(job.actions.len());
-            match k % 8 {
+            match k % 10 {
                 0 => job.frame = 0,
                 1 => job.actions.clear(),
                 2 => job.actions[at].child = Some(random.below(8) as u8),
@@ -146,13 +154,17 @@ fn several_causes(random: &mut Random) -> Vec<Vec<u8>> {
                 4 => job.actions[at].target = Some(random.below(20) as u8),
                 5 => sketch.jobs.clear(),
                 6 => sketch.jobs.resize(257, sketch.jobs[0].clone()),
+                8 => job.actions[at].cost = 0,
                 _ => {}
             }
             let mut plan = sketch.bytes();
-            if k % 8 == 7 {
-                plan[0] = random.pick(&[0, 2, 129]);
+            match k % 10 {
+                7 => plan[0] = random.pick(&[0, 3, 129]),
+                // Read in the other form, fields stand elsewhere.
+                9 => plan[0] = 3 - plan[0],
+                _ => {}
             }
-            if k / 8 % 2 == 0 {
+            if k / 10 % 2 == 0 {
                 whole_input(random.pick(&[0, 17, 3]), &[3, 200], &plan)
             } else {
                 whole_input(2, &[0, 1, 1], &plan)
@@ -161,22 +173,39 @@ fn several_causes(random: &mut Random) -> Vec<Vec<u8>> {
         .collect()
 }
 
-/// The largest plans, some with the longest lists, and inputs of all bytes.
+/// The largest plans, some with the longest lists, and inputs of many bytes.
 fn large(random: &mut Random) -> Vec<Vec<u8>> {
     let mut inputs = Vec::new();
     for (k, shape) in SHAPES.into_iter().cycle().take(12).enumerate() {
         let mut wish = Wish::any(random, MAX_JOBS, MAX_ACTIONS);
         wish.shape = shape;
         wish.joins = if k < 6 { 0 } else { 100 };
+        wish.costs = (k % 2 == 1).then_some(COSTS[k % 5]);
         let plan = wish.grant(random).bytes();
         let workers = [16, 4, 15, 2, 9, 1][k % 6];
         let length = if k % 3 == 0 { MAX_CHOICES } else { 40 };
         let choices: Vec<u8> = (0..length).map(|_| random.below(workers) as u8).collect();
         inputs.push(whole_input(workers as u8, &choices, &plan));
     }
-    let mut full = inputs[6].clone();
+    let longest = longest(random);
+    let mut full = longest.clone();
     full.resize(MAX_INPUT, 0);
+    inputs.push(longest);
     inputs.push(full);
-    inputs.push(vec![1; MAX_INPUT]);
     inputs
+}
+
+/// A good input of more than 8,192 bytes: nearly all that an input can have.
+fn longest(random: &mut Random) -> Vec<u8> {
+    let wish = Wish {
+        shape: Shape::Any,
+        joins: 100,
+        costs: Some(Costs::Largest),
+        ..Wish::any(random, MAX_JOBS, MAX_ACTIONS)
+    };
+    let plan = wish.grant(random).bytes();
+    let choices: Vec<u8> = (0..MAX_CHOICES).map(|_| random.below(16) as u8).collect();
+    let input = whole_input(16, &choices, &plan);
+    assert!(input.len() > 8192, "{} bytes", input.len());
+    input
 }

@@ -2,8 +2,17 @@
 
 use compare::claims::Facts;
 use compare::proved;
+use compare::schedules;
 use second::{Measures, Tally};
 use std::fmt::{Debug, Write};
+
+/// Lengths that suffice for every input, as the C header has them.
+pub const ROWS_ROOM: usize = 10_240;
+pub const PLAN_ROOM: usize = 6_403;
+pub const SCHEDULE_ROOM: usize = 5_124;
+
+/// Numbers that are no form, some of which are one in their low bits.
+pub const NO_FORMS: [u32; 9] = [0, 3, 4, 255, 256, 257, 258, 1 << 16 | 1, u32::MAX];
 
 /// Counts what was compared, and stops at the first difference.
 #[derive(Default)]
@@ -76,7 +85,10 @@ impl Both {
         let mut schedules = (before.clone(), before.clone());
         let proved = proved::run(plan, workers, choices, &mut schedules.0);
         let second = second::run(plan, workers, choices, &mut schedules.1);
-        let used = second.map_or(0, |tally| 4 + 2 * tally.actions as usize);
+        let used = match second::measure(plan) {
+            Ok(measures) => schedules::length(plan[0].into(), measures.total as usize),
+            Err(_) => 0,
+        };
         Outcome {
             what: "run",
             proved: (proved, &schedules.0),
@@ -99,8 +111,14 @@ impl Both {
     }
 
     /// Runs an accepted input with room to spare and holds it to the claims.
-    pub fn run_claimed(&mut self, plan: &[u8], facts: &Facts, workers: u32, choices: &[u8]) {
-        let room = 4 + 2 * facts.measures.actions as usize + 3;
+    pub fn run_claimed(
+        &mut self,
+        plan: &[u8],
+        facts: &Facts,
+        workers: u32,
+        choices: &[u8],
+    ) -> (Tally, Vec<u8>) {
+        let room = schedules::length(facts.form, facts.costs.len()) + 3;
         let input = || {
             [
                 ("plan", hex(plan, 2)),
@@ -116,6 +134,7 @@ impl Both {
                 if let Err(refused) = self.check(plan, &schedule) {
                     differ("a run's schedule is refused", &input(), &refused, &schedule);
                 }
+                (tally, schedule)
             }
             Err(refused) => differ("an input of the rules is refused", &input(), &refused, &()),
         }
@@ -154,20 +173,20 @@ impl Both {
             proved: (proved, &tables.0),
             second: (second, &tables.1),
             before: &before,
-            used: 4 * second.unwrap_or(0),
+            used: 5 * second.unwrap_or(0),
         }
         .settle(&|| vec![("plan", hex(plan, 2)), ("room", room.to_string())]);
-        tables.1.truncate(4 * second?);
+        tables.1.truncate(5 * second?);
         Ok(tables.1)
     }
 
     /// Closes a table into a plan of `room` bytes and gives the plan back.
-    pub fn table_to_plan(&mut self, rows: &[u16], room: usize) -> Result<Vec<u8>, u32> {
+    pub fn table_to_plan(&mut self, form: u32, rows: &[u16], room: usize) -> Result<Vec<u8>, u32> {
         self.calls += 1;
         let before = pattern(room);
         let mut plans = (before.clone(), before.clone());
-        let proved = proved::table_to_plan(rows, &mut plans.0);
-        let second = second::table_to_plan(rows, &mut plans.1);
+        let proved = proved::table_to_plan(form, rows, &mut plans.0);
+        let second = second::table_to_plan(form, rows, &mut plans.1);
         Outcome {
             what: "table to plan",
             proved: (proved, &plans.0),
@@ -175,7 +194,13 @@ impl Both {
             before: &before,
             used: second.unwrap_or(0),
         }
-        .settle(&|| vec![("rows", hex(rows, 4)), ("room", room.to_string())]);
+        .settle(&|| {
+            vec![
+                ("form", form.to_string()),
+                ("rows", hex(rows, 4)),
+                ("room", room.to_string()),
+            ]
+        });
         plans.1.truncate(second?);
         Ok(plans.1)
     }
@@ -184,8 +209,8 @@ impl Both {
     pub fn all_of_plan(&mut self, plan: &[u8], schedule: &[u8]) {
         let answers = [
             self.measure(plan).map(|_| ()),
-            self.plan_to_table(plan, 4 * 2048).map(|_| ()),
-            self.run(plan, 2, &[0, 1, 0], 4 + 2 * 2048).map(|_| ()),
+            self.plan_to_table(plan, ROWS_ROOM).map(|_| ()),
+            self.run(plan, 2, &[0, 1, 0], SCHEDULE_ROOM).map(|_| ()),
         ];
         if answers[0] != answers[1] || answers[0] != answers[2] {
             let input = [("plan", hex(plan, 2))];
@@ -200,18 +225,37 @@ impl Both {
 
     /// The facts of a plan that keeps the rules, both tables compared.
     pub fn facts(&mut self, plan: &[u8], rows: &[u16]) -> Facts {
+        let form = plan[0].into();
         let input = || [("plan", hex(plan, 2)), ("rows", hex(rows, 4))];
         let opened = self.plan_to_table(plan, rows.len() + 5);
         if opened.as_deref() != Ok(rows) {
             differ("a plan opens to its rows", &input(), &opened, &opened);
         }
-        let closed = self.table_to_plan(rows, plan.len() + 5);
+        let closed = self.table_to_plan(form, rows, plan.len() + 5);
         if closed.as_deref() != Ok(plan) {
             differ("rows close to their plan", &input(), &closed, &closed);
         }
+        self.other_forms(form, rows);
         match self.measure(plan) {
-            Ok(measures) => Facts::new(rows, measures),
+            Ok(measures) => Facts::new(form, rows, measures),
             Err(refused) => differ("a plan of the rules is refused", &input(), &refused, &()),
         }
+    }
+
+    /// Closes rows of a good plan in the other form, which gives the same rows
+    /// back where it fits the costs, and in one that is none.
+    fn other_forms(&mut self, form: u32, rows: &[u16]) {
+        let other = 3 - form;
+        let fits = other == 2 || rows.chunks_exact(5).all(|row| row[4] == 1);
+        let again = self
+            .table_to_plan(other, rows, 2 * rows.len())
+            .and_then(|plan| self.plan_to_table(&plan, rows.len()));
+        let wanted = if fits { Ok(rows) } else { Err(&3) };
+        if again.as_deref() != wanted {
+            let input = [("form", other.to_string()), ("rows", hex(rows, 4))];
+            differ("rows close in another form", &input, &again, &wanted);
+        }
+        let none = NO_FORMS[self.calls as usize % NO_FORMS.len()];
+        assert_eq!(self.table_to_plan(none, rows, 8), Err(2));
     }
 }

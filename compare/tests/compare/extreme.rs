@@ -1,11 +1,12 @@
 //! The largest sizes, and one step beyond them.
 
-use crate::both::Both;
+use crate::both::{Both, NO_FORMS, PLAN_ROOM};
 use compare::inputs::{
-    any_choices, Action, Aim, Job, Shape, Sketch, Wish, MAX_ACTIONS, MAX_CHILDREN, MAX_CHOICES,
-    MAX_JOBS, MAX_JOB_ACTIONS, SHAPES,
+    any_choices, Action, Aim, Costs, Job, Shape, Sketch, Wish, COSTS, FORMS, MAX_ACTIONS,
+    MAX_CHILDREN, MAX_CHOICES, MAX_COST, MAX_JOBS, MAX_JOB_ACTIONS, SHAPES,
 };
 use compare::random::Random;
+use compare::schedules::{last_round, Schedule};
 
 const CHAIN: Wish = Wish {
     shape: Shape::Chain,
@@ -16,15 +17,29 @@ const CHAIN: Wish = Wish {
     aim: Aim::Any,
     joins: 0,
     frame: u16::MAX,
+    costs: None,
 };
+
+/// The most work that a plan can have, in rounds of one worker.
+const MAX_WORK: u32 = 30_720;
 
 pub fn all(both: &mut Both) {
     let mut random = Random(0x5EED_0003);
     largest(both, &mut random);
+    costed(both, &mut random);
+    longest(both, &mut random);
     fans(both, &mut random);
     joins(both);
     sizes(both);
+    forms_and_costs(both);
     loops(both);
+}
+
+/// A plan in form 1, and in form 2 with costs that are all of 1 to 15.
+fn in_forms(jobs: Vec<Job>) -> [Sketch; 2] {
+    let one = Sketch { form: 1, jobs };
+    let costs = |at| 1 + (at * 4 % 15) as u8;
+    [one.clone(), one.costed(costs)]
 }
 
 /// Runs with every worker count and the lists that ask the most.
@@ -82,6 +97,95 @@ fn largest(both: &mut Both, random: &mut Random) {
     }
 }
 
+/// The largest plans of form 2, every shape with every kind of costs.
+fn costed(both: &mut Both, random: &mut Random) {
+    for shape in SHAPES {
+        for costs in COSTS {
+            let wish = Wish {
+                shape,
+                actions: MAX_ACTIONS,
+                aim: random.pick(&[Aim::Any, Aim::Early, Aim::Late]),
+                spawns_first: random.chance(50),
+                lumped: random.chance(50),
+                joins: random.pick(&[0, 100]),
+                costs: Some(costs),
+                ..CHAIN
+            };
+            let sketch = heavy(wish.grant(random));
+            assert_eq!(sketch.actions(), MAX_ACTIONS);
+            run_some(both, random, &sketch);
+        }
+    }
+}
+
+/// Runs that take up to as many rounds as there can be.
+fn longest(both: &mut Both, random: &mut Random) {
+    for jobs in [9, 64, MAX_JOBS] {
+        let wish = Wish {
+            jobs,
+            actions: MAX_ACTIONS,
+            lumped: jobs == 9,
+            aim: Aim::Early,
+            costs: Some(Costs::Largest),
+            ..CHAIN
+        };
+        let sketch = wish.grant(random);
+        let plan = sketch.bytes();
+        let facts = both.facts(&plan, &sketch.rows());
+        assert_eq!(facts.measures.work, MAX_WORK);
+        // Alone, or beside fifteen who ask one another in vain.
+        for (workers, choices) in [(1, &[][..]), (16, &[15]), (16, &[15, 14, 13])] {
+            let (tally, schedule) = both.run_claimed(&plan, &facts, workers, choices);
+            assert_eq!(tally.rounds, MAX_WORK);
+            assert_eq!(tally.idle, (workers - 1) * MAX_WORK);
+            last_rounds(both, &plan, &schedule);
+        }
+        run_some(both, random, &sketch);
+        // As slow as can be but for one action of each cost.
+        for cost in 1..=MAX_COST {
+            let sketch = sketch
+                .clone()
+                .costed(|at| if at == 1 { cost } else { MAX_COST });
+            let plan = sketch.bytes();
+            let facts = both.facts(&plan, &sketch.rows());
+            both.run_claimed(&plan, &facts, 16, &[0]);
+        }
+    }
+}
+
+/// The schedule as late as its bits allow, and one round later.
+fn last_rounds(both: &mut Both, plan: &[u8], schedule: &[u8]) {
+    let mut schedule = Schedule::read(schedule).expect("a run wrote it");
+    for row in &mut schedule.rows {
+        row.round += last_round(2) - MAX_WORK;
+    }
+    assert_eq!(both.check(plan, &schedule.bytes()), Ok(()));
+    // The last round comes round to 0.
+    schedule.rows.iter_mut().for_each(|row| row.round += 1);
+    assert_eq!(both.check(plan, &schedule.bytes()), Err(11));
+}
+
+/// Runs with the fewest and the most workers, and some lists.
+fn run_some(both: &mut Both, random: &mut Random, sketch: &Sketch) {
+    let plan = sketch.bytes();
+    let facts = both.facts(&plan, &sketch.rows());
+    for workers in [1, 2, 3, 8, 15, 16] {
+        let last = workers as u8 - 1;
+        let lists = [
+            vec![0],
+            vec![last; MAX_CHOICES],
+            any_choices(random, workers),
+            (0..MAX_CHOICES)
+                .map(|_| random.below(workers) as u8)
+                .collect(),
+        ];
+        for choices in lists {
+            both.run_claimed(&plan, &facts, workers as u32, &choices);
+            both.generated += 1;
+        }
+    }
+}
+
 fn fans(both: &mut Both, random: &mut Random) {
     for jobs in [2, 8, 9, 10, 100, MAX_CHILDREN, MAX_CHILDREN + 1] {
         let wish = Wish {
@@ -100,6 +204,12 @@ fn fans(both: &mut Both, random: &mut Random) {
         };
         let sketch = long.grant(random);
         run_all(both, random, &sketch);
+        let slow = Wish {
+            costs: Some(random.pick(&COSTS)),
+            ..long
+        };
+        let sketch = slow.grant(random);
+        run_some(both, random, &sketch);
     }
     // More children of one job than the rules of joins have room for.
     for count in [MAX_CHILDREN + 1, MAX_JOB_ACTIONS] {
@@ -110,7 +220,9 @@ fn fans(both: &mut Both, random: &mut Random) {
             own.actions[0].target = Some(MAX_JOB_ACTIONS as u8 - 1);
             jobs.push(own);
         }
-        turned_down(both, &Sketch { jobs }, 5);
+        for sketch in in_forms(jobs) {
+            turned_down(both, &sketch, 5);
+        }
     }
 }
 
@@ -134,7 +246,7 @@ fn turned_down(both: &mut Both, sketch: &Sketch, refusal: u32) {
     assert_eq!(both.measure(&plan), Err(refusal));
     let rows = sketch.rows();
     for room in [0, plan.len(), plan.len() + 3] {
-        assert_eq!(both.table_to_plan(&rows, room), Err(refusal));
+        assert_eq!(both.table_to_plan(sketch.form, &rows, room), Err(refusal));
     }
 }
 
@@ -154,17 +266,18 @@ fn joins(both: &mut Both) {
                 }
                 jobs.push(own);
             }
-            let sketch = Sketch { jobs };
-            if total == 9 {
-                turned_down(both, &sketch, 5);
-                continue;
-            }
-            let plan = sketch.bytes();
-            let facts = both.facts(&plan, &sketch.rows());
-            for workers in 1..=16u8 {
-                let choices: Vec<u8> = (0..workers).collect();
-                both.run_claimed(&plan, &facts, u32::from(workers), &[0]);
-                both.run_claimed(&plan, &facts, u32::from(workers), &choices);
+            for sketch in in_forms(jobs) {
+                if total == 9 {
+                    turned_down(both, &sketch, 5);
+                    continue;
+                }
+                let plan = sketch.bytes();
+                let facts = both.facts(&plan, &sketch.rows());
+                for workers in 1..=16u8 {
+                    let choices: Vec<u8> = (0..workers).collect();
+                    both.run_claimed(&plan, &facts, u32::from(workers), &[0]);
+                    both.run_claimed(&plan, &facts, u32::from(workers), &choices);
+                }
             }
         }
     }
@@ -172,72 +285,127 @@ fn joins(both: &mut Both) {
 
 /// Job counts, action counts and sums at and beyond their ends.
 fn sizes(both: &mut Both) {
-    let mut single = Sketch { jobs: vec![job(1)] };
     for count in 1..=MAX_JOB_ACTIONS {
-        single.jobs[0] = job(count);
-        let plan = single.bytes();
-        let facts = both.facts(&plan, &single.rows());
-        both.run_claimed(&plan, &facts, 16, &[0]);
+        for sketch in in_forms(vec![job(count)]) {
+            let plan = sketch.bytes();
+            let facts = both.facts(&plan, &sketch.rows());
+            both.run_claimed(&plan, &facts, 16, &[0]);
+        }
     }
-    single.jobs[0] = job(256);
-    assert_eq!(both.table_to_plan(&single.rows(), 9_999), Err(3));
-    single.jobs[0] = job(0);
-    assert_eq!(both.measure(&single.bytes()), Err(3));
+    for sketch in in_forms(vec![job(256)]) {
+        let told = both.table_to_plan(sketch.form, &sketch.rows(), PLAN_ROOM);
+        assert_eq!(told, Err(3));
+    }
+    for sketch in in_forms(vec![job(0)]) {
+        assert_eq!(both.measure(&sketch.bytes()), Err(3));
+    }
     for frame in [0, 1, 2, 255, 256, u16::MAX - 1, u16::MAX] {
-        single.jobs[0] = job(1);
-        single.jobs[0].frame = frame;
-        let rows = single.rows();
-        assert_eq!(both.table_to_plan(&rows, 99).is_ok(), frame > 0);
-        assert_eq!(both.measure(&single.bytes()).is_ok(), frame > 0);
+        for mut sketch in in_forms(vec![job(1)]) {
+            sketch.jobs[0].frame = frame;
+            let closed = both.table_to_plan(sketch.form, &sketch.rows(), 99);
+            assert_eq!(closed.is_ok(), frame > 0);
+            assert_eq!(both.measure(&sketch.bytes()).is_ok(), frame > 0);
+        }
     }
 
     // Job counts from 0 to 511 in the header, with jobs enough behind it.
     for jobs in 0..512 {
-        let sketch = Sketch {
-            jobs: vec![job(1); jobs],
-        };
-        let plan = sketch.bytes();
         let refusal = match jobs {
             1 => 0,
             2..=256 => 4,
             _ => 3,
         };
-        assert_eq!(both.measure(&plan).err().unwrap_or(0), refusal);
-        let rows = sketch.rows();
-        let told = both.table_to_plan(&rows, 9_999).err().unwrap_or(0);
-        assert_eq!(told, if jobs == 0 { 10 } else { refusal });
+        for sketch in in_forms(vec![job(1); jobs]) {
+            let plan = sketch.bytes();
+            assert_eq!(both.measure(&plan).err().unwrap_or(0), refusal);
+            let told = both.table_to_plan(sketch.form, &sketch.rows(), PLAN_ROOM);
+            let wanted = if jobs == 0 { 10 } else { refusal };
+            assert_eq!(told.err().unwrap_or(0), wanted);
+        }
     }
 
     // One action too many in all, in a plan whose rules would be broken.
     for (count, refusal) in [(8, 4), (9, 3)] {
         let mut jobs = vec![job(MAX_JOB_ACTIONS); 8];
         jobs.push(job(count));
-        turned_down(both, &Sketch { jobs }, refusal);
+        for sketch in in_forms(jobs) {
+            turned_down(both, &sketch, refusal);
+        }
     }
     // The sum is told where it is passed, even if bits run out behind it.
     let mut jobs = vec![job(MAX_JOB_ACTIONS); 8];
     jobs.push(job(9));
-    let plan = Sketch { jobs }.bytes();
-    for length in 0..=plan.len() {
-        both.measure(&plan[..length]).expect_err("it is too large");
+    for sketch in in_forms(jobs) {
+        let plan = sketch.bytes();
+        for length in 0..=plan.len() {
+            both.measure(&plan[..length]).expect_err("it is too large");
+        }
     }
 
     // A table of far more rows than a plan may have, its last row broken.
-    let mut rows: Vec<u16> = (0..3_000).flat_map(|job| [job, 1, 0, 0]).collect();
-    assert_eq!(both.table_to_plan(&rows, 9_999), Err(3));
-    let last = rows.len() - 1;
-    rows[last] = 257;
-    assert_eq!(both.table_to_plan(&rows, 9_999), Err(10));
-    let mut rows: Vec<u16> = (0..=u16::MAX).flat_map(|job| [job, 1, 0, 0]).collect();
-    assert_eq!(both.table_to_plan(&rows, 9_999), Err(3));
-    rows.extend([0, 1, 0, 0]);
-    assert_eq!(both.table_to_plan(&rows, 9_999), Err(10));
+    for form in FORMS {
+        let mut rows: Vec<u16> = (0..3_000).flat_map(|job| [job, 1, 0, 0, 1]).collect();
+        assert_eq!(both.table_to_plan(form, &rows, PLAN_ROOM), Err(3));
+        let last = rows.len() - 2;
+        rows[last] = 257;
+        assert_eq!(both.table_to_plan(form, &rows, PLAN_ROOM), Err(10));
+        rows[4] = 0;
+        assert_eq!(both.table_to_plan(form, &rows, PLAN_ROOM), Err(10));
+        rows[last] = 256;
+        assert_eq!(both.table_to_plan(form, &rows, PLAN_ROOM), Err(3));
+        let mut rows: Vec<u16> = (0..=u16::MAX).flat_map(|job| [job, 1, 0, 0, 1]).collect();
+        assert_eq!(both.table_to_plan(form, &rows, PLAN_ROOM), Err(3));
+        rows.extend([0, 1, 0, 0, 1]);
+        assert_eq!(both.table_to_plan(form, &rows, PLAN_ROOM), Err(10));
+    }
+}
+
+/// Every form in the first byte, and every cost.
+fn forms_and_costs(both: &mut Both) {
+    for mut sketch in in_forms(vec![job(3)]) {
+        let good = sketch.form;
+        for form in NO_FORMS {
+            let told = both.table_to_plan(form, &sketch.rows(), PLAN_ROOM);
+            assert_eq!(told, Err(2));
+            assert_eq!(both.table_to_plan(form, &[], 0), Err(2));
+        }
+        let schedule = both.run(&sketch.bytes(), 1, &[], 16).expect("a run").1;
+        for form in 0..=255 {
+            sketch.form = form;
+            let mut plan = sketch.bytes();
+            both.all_of_plan(&plan, &schedule);
+            // With fields of the other form behind it, or of none.
+            plan.resize(16, 0);
+            both.all_of_plan(&plan, &schedule);
+            assert!(FORMS.contains(&form) || both.measure(&plan) == Err(2));
+        }
+        sketch.form = good;
+        for cost in 0..=u8::MAX {
+            sketch.jobs[0].actions[1].cost = cost;
+            let fits = if good == 1 {
+                cost == 1
+            } else {
+                (1..=MAX_COST).contains(&cost)
+            };
+            let rows = sketch.rows();
+            let closed = both.table_to_plan(good, &rows, 99);
+            assert_eq!(closed.as_ref().err(), (!fits).then_some(&3));
+            if fits {
+                let plan = sketch.bytes();
+                assert_eq!(closed.as_ref(), Ok(&plan));
+                let facts = both.facts(&plan, &rows);
+                both.run_claimed(&plan, &facts, 1, &[]);
+                both.run_claimed(&plan, &facts, 16, &[0, 5]);
+            }
+        }
+    }
 }
 
 /// Spawns that go round, twice, to oneself, or nowhere.
 fn loops(both: &mut Both) {
     for jobs in 1..=4usize {
         let mut sketch = Sketch {
+            form: 1,
             jobs: vec![job(4); jobs],
         };
         for other in &mut sketch.jobs[1..] {
@@ -254,9 +422,11 @@ fn loops(both: &mut Both) {
                 code /= jobs + 1;
                 next.jobs[spawner].actions[place % 2].child = Some(child as u8);
             }
-            let plan = next.bytes();
-            both.all_of_plan(&plan, &[]);
-            let _ = both.table_to_plan(&next.rows(), plan.len());
+            for sketch in in_forms(next.jobs) {
+                let plan = sketch.bytes();
+                both.all_of_plan(&plan, &[]);
+                let _ = both.table_to_plan(sketch.form, &sketch.rows(), plan.len());
+            }
         }
     }
 }

@@ -1,8 +1,9 @@
 //! Plans and lists from the generator.
 
-use crate::both::Both;
-use compare::inputs::{any_choices, any_plan, MAX_CHOICES};
+use crate::both::{Both, SCHEDULE_ROOM};
+use compare::inputs::{any_choices, any_plan, Sketch, MAX_CHOICES};
 use compare::random::Random;
+use compare::schedules::{self, Schedule};
 
 const PLANS: usize = 20_000;
 
@@ -22,13 +23,39 @@ pub fn runs(both: &mut Both) {
     }
 }
 
+/// A plan whose costs are all 1 gives the same run in both forms.
+pub fn both_forms(both: &mut Both) {
+    let mut random = Random(0x5EED_000A);
+    for _ in 0..4_000 {
+        let two = any_plan(&mut random).costed(|_| 1);
+        let one = Sketch {
+            form: 1,
+            ..two.clone()
+        };
+        let plans = [one.bytes(), two.bytes()];
+        assert_eq!(both.measure(&plans[0]), both.measure(&plans[1]));
+        let workers = random.within(1, 16);
+        let choices = any_choices(&mut random, workers);
+        let runs = plans.map(|plan| {
+            let (tally, schedule) = both
+                .run(&plan, workers as u32, &choices, SCHEDULE_ROOM)
+                .expect("the plan keeps the rules");
+            both.generated += 1;
+            let schedule = Schedule::read(&schedule).expect("a run wrote it");
+            assert_eq!(schedule.form, plan[0].into());
+            (tally, schedule.rows)
+        });
+        assert_eq!(runs[0], runs[1]);
+    }
+}
+
 /// Several causes at once: the first in order must be told.
 pub fn turned_down(both: &mut Both) {
     let mut random = Random(0x5EED_0002);
     for _ in 0..4_000 {
         let sketch = any_plan(&mut random);
         let mut plan = sketch.bytes();
-        let room = 4 + 2 * sketch.actions();
+        let room = schedules::length(sketch.form, sketch.actions());
         if random.chance(20) {
             let at = random.below(plan.len());
             plan[at] ^= 1 << random.below(8);

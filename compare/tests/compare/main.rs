@@ -12,10 +12,12 @@ use both::Both;
 type Part = fn(&mut Both);
 
 fn main() {
-    let parts: [(&str, Part); 9] = [
+    let parts: [(&str, Part); 11] = [
         ("small plans, all lists", small::plans),
+        ("small plans with costs, all lists", small::costed_plans),
         ("small plans, any numbers", small::any_numbers),
         ("generated runs", generated::runs),
+        ("runs in both forms", generated::both_forms),
         ("runs turned down", generated::turned_down),
         ("extremes", extreme::all),
         ("damaged plans", damaged::plans),

@@ -14,8 +14,8 @@ use mathlib.Core.List.{List}
 use lib.ListN.{length, getD, take, drop}
 use lib.Dec.{ltb}
 use Rattle.plan.specs.Refusal.{Outcome, refused, accepted, numberOf}
-use Rattle.plan.specs.Plan.{Plan, size}
-use Rattle.plan.specs.Reader.{readPlan}
+use Rattle.plan.specs.Plan.{size}
+use Rattle.plan.specs.Reader.{Read, readPlan}
 use Rattle.plan_measure.specs.Measure.{work, longest, heaviest}
 use Rattle.build.specs.declared.Counts.{Counts}
 use Rattle.build.specs.declared.Built.{Built}
@@ -26,17 +26,17 @@ use Rattle.runs.specs.Steal.{waiting}
 use Rattle.runs.specs.Run.{run, runOf}
 use Rattle.runs.specs.Misses.{misses}
 
-unfoldable pub countsOf : Outcome Plan → Outcome State → Outcome Counts
+unfoldable pub countsOf : Outcome Read → Outcome State → Outcome Counts
 unfolding longest heaviest
 countsOf (refused k) o = refused k
-countsOf (accepted p) (refused k) = refused k
-countsOf (accepted p) (accepted s) =
+countsOf (accepted x) (refused k) = refused k
+countsOf (accepted x) (accepted s) =
     let t = s .tally in
     accepted (record {
       rounds = t .rounds;
       actions = t .actions;
-      longest = longest p;
-      path = heaviest p;
+      longest = longest (x .plan);
+      path = heaviest (x .plan);
       peak = t .peak;
       idle = t .idle;
       requests = t .requests;
@@ -105,4 +105,4 @@ module _ (S : Setting) where
 abbrev pub Claimed : List ℕ → Built → Type 0
 Claimed input r =
     (c : Counts) → r ≡ Counted c
-    → (p : Plan) × (readPlan (planIn input) ≡ accepted p) × CountBounds (setting p (getD input 0 0) (choicesIn input)) c
+    → (x : Read) × (readPlan (planIn input) ≡ accepted x) × CountBounds (setting (x .plan) (getD input 0 0) (choicesIn input)) c

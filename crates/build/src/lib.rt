@@ -35,6 +35,7 @@ pub enum Built {
 
 // Runs the plan that the array holds and measures it. `entering` has how many joins enter each action.
 fn build_read(
+    form: u32,
     jobs: usize,
     actions: usize,
     workers: u32,
@@ -42,11 +43,19 @@ fn build_read(
     plan: &Sheet,
     entering: &[u8; 2048],
 ) -> Built
-    requires { ⌜ Some (BuildIn jobs actions (now plan) (now entering)) ⌝ }
-    ensures { λ r. ⌜ BuildIn jobs actions (before plan) (before entering) ⇒ BuiltFrom workers (before choices) r ⌝ }
+    requires { ⌜ Some (BuildIn form jobs actions (now plan) (now entering)) ⌝ }
+    ensures { λ r. ⌜ BuildIn form jobs actions (before plan) (before entering) ⇒ BuiltFrom form workers (before choices) r ⌝ }
 {
-    let mut schedule = [0u8; 4100];
-    match run_read(actions, workers, choices, plan, entering, &mut schedule) {
+    let mut schedule = [0u8; 5124];
+    match run_read(
+        form,
+        actions,
+        workers,
+        choices,
+        plan,
+        entering,
+        &mut schedule,
+    ) {
         Ran::Refused(cause) => Built::Refused(cause),
         Ran::Done(t) => {
             let m = measure_read(jobs, actions, plan);
@@ -74,14 +83,11 @@ fn build_plan(workers: u32, choices: &[u8], plan: &[u8]) -> Built
     let mut entering = [0u8; 2048];
     match read_into(plan, &mut sheet, &mut entering) {
         Found::Refused(cause) => Built::Refused(cause),
-        Found::Plan { jobs, actions } => build_read(
+        Found::Plan {
+            form,
             jobs,
             actions,
-            workers,
-            choices,
-            &sheet,
-            &entering,
-        ),
+        } => build_read(form, jobs, actions, workers, choices, &sheet, &entering),
     }
 }
 

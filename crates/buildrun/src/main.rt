@@ -6,7 +6,7 @@ use build::build;
 use numbers::units8;
 
 fn main() {
-    let mut input = [0u8; 8192];
+    let mut input = [0u8; 16384];
     let n = io::read_full(0, &mut input);
     told(build(&input[..n]));
 }

@@ -6,8 +6,7 @@ use Prim.Native.Nat.{ℕ}
 use mathlib.Core.Path.{_≡_}
 use mathlib.Core.List.{List}
 use Rattle.plan.specs.Refusal.{Outcome, refused, accepted}
-use Rattle.plan.specs.Plan.{Plan}
-use Rattle.plan.specs.Reader.{readPlan}
+use Rattle.plan.specs.Reader.{Read, readPlan}
 use Rattle.plan_measure.specs.declared.Measures.{Measures}
 use Rattle.runs.specs.declared.tally.Tally.{Tally}
 use Rattle.runs.specs.Setting.{setting}
@@ -21,8 +20,8 @@ countOf (refused k) = record { refused = k; count = 0 }
 countOf (accepted n) = record { refused = 0; count = n }
 
 abbrev pub measuresOf : Outcome Measures → DwMeasures
-measuresOf (refused k) = record { refused = k; actions = 0; longest = 0; path = 0 }
-measuresOf (accepted m) = record { refused = 0; actions = m .actions; longest = m .longest; path = m .path }
+measuresOf (refused k) = record { refused = k; total = 0; work = 0; longest = 0; path = 0 }
+measuresOf (accepted m) = record { refused = 0; total = m .total; work = m .work; longest = m .longest; path = m .path }
 
 abbrev pub tallyOf : Outcome Tally → DwTally
 tallyOf (refused k) =
@@ -48,4 +47,4 @@ checkOf (accepted n) = 0
 abbrev pub Claimed : List ℕ → ℕ → List ℕ → DwTally → List ℕ → Type 0
 Claimed plan n choices r schedule =
     r .refused ≡ 0
-    → (p : Plan) × (t : Tally) × (readPlan plan ≡ accepted p) × (r ≡ tallyOf (accepted t)) × Bounded (setting p n choices) schedule t
+    → (x : Read) × (t : Tally) × (readPlan plan ≡ accepted x) × (r ≡ tallyOf (accepted t)) × Bounded (setting (x .plan) n choices) (x .form) schedule t

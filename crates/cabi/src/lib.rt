@@ -29,7 +29,8 @@ pub struct DwCount {
 #[repr(C)]
 pub struct DwMeasures {
     pub refused: u32,
-    pub actions: u32,
+    pub total: u32,
+    pub work: u32,
     pub longest: u32,
     pub path: u32,
 }
@@ -71,11 +72,11 @@ pub extern "C" fn dw_plan_to_table(plan: &[u8], rows: &mut [u16]) -> DwCount
 }
 
 #[no_mangle]
-pub extern "C" fn dw_table_to_plan(rows: &[u16], plan: &mut [u8]) -> DwCount
-    ensures { λ r. ⌜ (r ≡ countOf (toPlan (now (rows .entry)) (now (plan .entry)) .answer))
-        × (now (plan .exit) ≡ toPlan (now (rows .entry)) (now (plan .entry)) .buffer) ⌝ }
+pub extern "C" fn dw_table_to_plan(form: u32, rows: &[u16], plan: &mut [u8]) -> DwCount
+    ensures { λ r. ⌜ (r ≡ countOf (toPlan form (now (rows .entry)) (now (plan .entry)) .answer))
+        × (now (plan .exit) ≡ toPlan form (now (rows .entry)) (now (plan .entry)) .buffer) ⌝ }
 {
-    match table_to_plan(rows, plan) {
+    match table_to_plan(form, rows, plan) {
         Answer::Refused(cause) => DwCount {
             refused: cause_number(cause),
             count: 0,
@@ -94,13 +95,15 @@ pub extern "C" fn dw_measure(plan: &[u8]) -> DwMeasures
     match measure(plan) {
         Measured::Refused(cause) => DwMeasures {
             refused: cause_number(cause),
-            actions: 0,
+            total: 0,
+            work: 0,
             longest: 0,
             path: 0,
         },
         Measured::Of(m) => DwMeasures {
             refused: 0,
-            actions: m.actions,
+            total: m.total,
+            work: m.work,
             longest: m.longest,
             path: m.path,
         },

@@ -1,7 +1,7 @@
 // Runs the cases that standard input lists, a line for each, and prints a line of what comes of each: document 01's cases, each
 // refusal by itself and in its order, inputs on each side of each limit, and runs that tell the tempting errors apart. A line of
-// the list is a kind, the name of a file of data/, and for a room two numbers. Files, list and answers are written by
-// tools/cases.rs.
+// the list is a kind, the name of a file of data/, for a table the form that it is to be closed in, and for a room two numbers.
+// Files, list and answers are written by tools/cases.rs.
 mod builds;
 mod plans;
 mod rooms;
@@ -61,7 +61,7 @@ fn opened(fd: i32, kind: &[u8], rest: &[u8]) {
         io::write_all(1, b"not opened");
         return;
     }
-    let mut input = [0u8; 16400];
+    let mut input = [0u8; 20500];
     let len = io::read_full(fd, &mut input);
     libc::close(fd);
     if len == input.len() {
@@ -75,7 +75,7 @@ fn of_kind(kind: &[u8], input: &[u8], rest: &[u8]) {
     if same(kind, b"plan") {
         plans::case(input);
     } else if same(kind, b"table") {
-        tables::case(input);
+        tables::case(input, rest);
     } else if same(kind, b"room") {
         rooms::case(input, rest);
     } else if same(kind, b"run") {

@@ -5,6 +5,7 @@ use crate::told::count;
 use crate::told::refused;
 use crate::told::told;
 use check::same;
+use numbers::units8;
 use plan_measure::Measured;
 use plan_measure::Measures;
 use plan_measure::measure;
@@ -23,13 +24,14 @@ pub fn case(plan: &[u8]) {
 }
 
 fn measures(m: Measures) {
-    count(b"actions ", m.actions);
+    count(b"total ", m.total);
+    count(b" work ", m.work);
     count(b" longest ", m.longest);
     count(b" path ", m.path);
 }
 
 fn there(plan: &[u8]) {
-    let mut rows = [43690u16; 8200];
+    let mut rows = [43690u16; 10248];
     match plan_to_table(plan, &mut rows) {
         Answer::Refused(cause) => refused(cause),
         Answer::Count(n) => {
@@ -40,17 +42,25 @@ fn there(plan: &[u8]) {
 }
 
 fn back(plan: &[u8], rows: &[u16], n: usize) {
-    if n <= rows.len() / 4 {
+    if n <= rows.len() / 5 {
         let mut bytes = [170u8; 8192];
-        match table_to_plan(&rows[0..4 * n], &mut bytes) {
+        match table_to_plan(form_of(plan), &rows[0..5 * n], &mut bytes) {
             Answer::Refused(cause) => refused(cause),
             Answer::Count(m) => {
                 told(b", bytes ", m);
                 compared(plan, &bytes, m);
-                beyond(&rows[4 * n..]);
+                beyond(&rows[5 * n..]);
             }
         }
     }
+}
+
+// The form of a plan: its first byte.
+pub fn form_of(plan: &[u8]) -> u32 {
+    if plan.len() == 0 {
+        return 0;
+    }
+    units8(plan[0])
 }
 
 // The first n bytes are the plan, and beyond them stands what stood there.
@@ -74,8 +84,8 @@ pub fn kept(bytes: &[u8], n: usize, word: &[u8]) {
 }
 
 fn beyond(rows: &[u16]) {
-    let before = [43690u16; 8200];
-    if rows.len() <= 8200 {
+    let before = [43690u16; 10248];
+    if rows.len() <= 10248 {
         if same_rows(rows, &before[0..rows.len()]) {
             io::write_all(1, b" kept");
         }

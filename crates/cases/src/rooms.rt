@@ -1,4 +1,5 @@
 // A plan is written into room for a number of rows' numbers, and its table into room for a number of bytes.
+use crate::plans::form_of;
 use crate::told::answered;
 use crate::told::refused;
 use crate::told::told;
@@ -20,7 +21,7 @@ pub fn case(plan: &[u8], rest: &[u8]) {
 }
 
 // The number that the last five digits spell. A space counts as a 0.
-fn number(digits: &[u8]) -> usize {
+pub fn number(digits: &[u8]) -> usize {
     let mut n = 0;
     for i in 0..digits.len() {
         n = longer(n, digits[i]);
@@ -35,30 +36,30 @@ fn longer(n: usize, digit: u8) -> usize {
 fn into_rows(plan: &[u8], room: usize) {
     told(b"room ", room);
     io::write_all(1, b" ");
-    if room <= 8200 {
-        let mut rows = [0u16; 8200];
+    if room <= 10248 {
+        let mut rows = [0u16; 10248];
         answered(b"rows ", plan_to_table(plan, &mut rows[0..room]));
     } else {
-        io::write_all(1, b"above 8200");
+        io::write_all(1, b"above 10248");
     }
 }
 
 fn into_bytes(plan: &[u8], room: usize) {
     told(b", room ", room);
     io::write_all(1, b" ");
-    let mut rows = [0u16; 8200];
+    let mut rows = [0u16; 10248];
     match plan_to_table(plan, &mut rows) {
         Answer::Refused(cause) => refused(cause),
-        Answer::Count(n) => bytes_of(&rows, n, room),
+        Answer::Count(n) => bytes_of(form_of(plan), &rows, n, room),
     }
 }
 
-fn bytes_of(rows: &[u16], n: usize, room: usize) {
-    if n <= rows.len() / 4 && room <= 8192 {
+fn bytes_of(form: u32, rows: &[u16], n: usize, room: usize) {
+    if n <= rows.len() / 5 && room <= 8192 {
         let mut bytes = [0u8; 8192];
         answered(
             b"bytes ",
-            table_to_plan(&rows[0..4 * n], &mut bytes[0..room]),
+            table_to_plan(form, &rows[0..5 * n], &mut bytes[0..room]),
         );
     } else {
         io::write_all(1, b"above 8192");

@@ -1,9 +1,12 @@
 // A schedule is checked: one that a file has, or one that a run has written.
+use crate::plans::form_of;
 use crate::told::refused;
 use checker::Judged;
 use checker::check;
 use numbers::units8;
 use numbers::wide8;
+use plan_measure::Measured;
+use plan_measure::measure;
 use scheduler::run::Ran;
 use scheduler::run::run;
 
@@ -41,14 +44,33 @@ pub fn own(input: &[u8]) {
 }
 
 fn ran(workers: u32, choices: &[u8], plan: &[u8]) {
-    let mut schedule = [0u8; 4100];
+    let mut schedule = [0u8; 5124];
     match run(plan, workers, choices, &mut schedule) {
         Ran::Refused(cause) => refused(cause),
-        Ran::Done(t) => {
-            let len = 4 + 2 * (t.actions as usize);
-            if len <= 4100 {
+        Ran::Done(_) => written(plan, &schedule),
+    }
+}
+
+// The schedule of a run takes up the beginning of the buffer.
+fn written(plan: &[u8], schedule: &[u8]) {
+    match measure(plan) {
+        Measured::Refused(cause) => refused(cause),
+        Measured::Of(m) => {
+            let len = length(form_of(plan), m.total as usize);
+            if len <= schedule.len() {
                 checked(plan, &schedule[0..len]);
             }
         }
     }
+}
+
+// How many bytes the schedule of so many actions takes, at most 2,048.
+fn length(form: u32, actions: usize) -> usize {
+    if 2048 < actions {
+        return 0;
+    }
+    if form == 1 {
+        return 4 + 2 * actions;
+    }
+    4 + (20 * actions + 7) / 8
 }

@@ -1,19 +1,29 @@
-// A table is written to plan bytes and from there to rows again.
+// A table is written to plan bytes, in the form told, and from there to rows again.
 use crate::plans::kept;
+use crate::rooms::number;
 use crate::rows::numbers;
 use crate::rows::same_rows;
 use crate::told::refused;
 use crate::told::told;
+use numbers::units;
 use plan_table::Answer;
 use plan_table::plan_to_table;
 use plan_table::table_to_plan;
 
-pub fn case(input: &[u8]) {
-    let mut rows = [43690u16; 8200];
+// The form stands in `rest`, behind a space.
+pub fn case(input: &[u8], rest: &[u8]) {
+    let form = number(rest);
+    if form < 4294967296 {
+        closed(units(form), input);
+    }
+}
+
+fn closed(form: u32, input: &[u8]) {
+    let mut rows = [43690u16; 10248];
     let n = numbers(input, &mut rows);
-    if n <= 8200 {
+    if n <= 10248 {
         let mut bytes = [170u8; 8192];
-        match table_to_plan(&rows[0..n], &mut bytes) {
+        match table_to_plan(form, &rows[0..n], &mut bytes) {
             Answer::Refused(cause) => refused(cause),
             Answer::Count(m) => {
                 told(b"bytes ", m);
@@ -26,7 +36,7 @@ pub fn case(input: &[u8]) {
 // Both arrays of rows were filled with one number: they are equal where the table is, and where nothing beyond it was written.
 fn back(rows: &[u16], bytes: &[u8], n: usize) {
     if n <= bytes.len() {
-        let mut again = [43690u16; 8200];
+        let mut again = [43690u16; 10248];
         match plan_to_table(&bytes[0..n], &mut again) {
             Answer::Refused(cause) => refused(cause),
             Answer::Count(m) => {

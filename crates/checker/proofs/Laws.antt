@@ -1,6 +1,6 @@
 -- What holds of the definitions in specs/, in named modules.
 pub mod Header
-pub mod RowBytes
+pub mod RowWords
 pub mod Form
 pub mod Keeping
 pub mod Chains

@@ -3,13 +3,14 @@
 ghost use mathlib.Core.Path.{_≡_};
 ghost use Rattle.courses.specs.Schedule.{checked};
 ghost use Rattle.checker.specs.Answer.{judgedOf};
-use form::form;
+use form::read_schedule;
 use plan::reader::Found;
 use plan::reader::read_into;
 use plan::refusal::Refusal;
 use plan::sheet::PLACES;
 use rules::rules_kept;
 
+mod buckets;
 mod form;
 mod rows;
 mod rules;
@@ -29,12 +30,13 @@ pub fn check(plan: &[u8], schedule: &[u8]) -> Judged
     let mut entering = [0u8; 2048];
     match read_into(plan, &mut sheet, &mut entering) {
         Found::Refused(cause) => Judged::Refused(cause),
-        Found::Plan { actions, .. } => {
-            let workers = form(schedule, actions);
+        Found::Plan { form, actions, .. } => {
+            let mut rows = [0u32; 2048];
+            let workers = read_schedule(form, schedule, actions, &mut rows);
             if workers == 0 {
                 return Judged::Refused(Refusal::Schedule);
             }
-            if rules_kept(schedule, workers, actions, &sheet) {
+            if rules_kept(form, workers, actions, &rows, &sheet) {
                 Judged::Accepted
             } else {
                 Judged::Refused(Refusal::Rule)

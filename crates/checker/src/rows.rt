@@ -1,15 +1,21 @@
-// The rows of a schedule's bytes (document 01, "Schedule").
-ghost use Prim.Native.Nat.{_+_, _*_, _<_};
+// The rows of a schedule, each as one number: 16 times its round, and its worker (document 01, "Schedule").
+ghost use Prim.Native.Nat.{_<_};
 ghost use mathlib.Core.Path.{_≡_};
-ghost use lib.ListN.{length};
 ghost use Rattle.plan.specs.Contract.{before};
-ghost use Rattle.checker.specs.Rows.{word};
-use numbers::wide8;
+ghost use Rattle.checker.specs.Chains.{entry};
 
-// The 16 bits of row k: its round, then its worker.
-pub fn row_at(schedule: &[u8], k: usize) -> usize
-    requires { ⌜ 5 + 2 * k < length (now schedule) ⌝ }
-    ensures { λ r. ⌜ (r ≡ word (before schedule) k) × (r < 65536) ⌝ }
+pub type Rows = [u32; 2048];
+
+fn wide32(x: u32) -> usize
+    ensures { λ r. ⌜ (r ≡ x) × (r < 4294967296) ⌝ }
 {
-    wide8(schedule[4 + 2 * k]) * 256 + wide8(schedule[5 + 2 * k])
+    x as usize
+}
+
+// Row k.
+pub fn row_of(rows: &Rows, k: usize) -> usize
+    requires { ⌜ k < 2048 ⌝ }
+    ensures { λ r. ⌜ (r ≡ entry (before rows) k) × (r < 4294967296) ⌝ }
+{
+    wide32(rows[k])
 }

@@ -1,6 +1,7 @@
 -- A number that tells a rule of document 01 from an error close to it: with the error, the fact does not hold.
 -- The laws are checked in the order of their names, so a wrong definition is first refused here.
---   plain, spawns c, joins t == an action that does neither, that spawns job c, that joins position t
+--   plain, spawns c, joins t == an action that does neither, that spawns job c, that joins position t; it costs 1
+--   taking n a               == the action a, which costs n
 --   of actions               == a job of frame 1
 --   G == job 0, three actions, spawns 1 at 0; job 1, one, joins position 2; frames 1
 use Prim.Native.Nat.{ℕ, suc}
@@ -11,13 +12,16 @@ use Rattle.plan.specs.Rules.{inRange, spawnRules, joinRules, Accepted}
 use Rattle.courses.specs.Ready.{weight}
 
 abbrev pub plain : Action
-plain = record { spawn = 0; join = 0 }
+plain = record { spawn = 0; join = 0; cost = 1 }
 
 abbrev pub spawns : ℕ → Action
-spawns c = record { spawn = suc c; join = 0 }
+spawns c = record { spawn = suc c; join = 0; cost = 1 }
 
 abbrev pub joins : ℕ → Action
-joins t = record { spawn = 0; join = suc t }
+joins t = record { spawn = 0; join = suc t; cost = 1 }
+
+abbrev pub taking : ℕ → Action → Action
+taking n a = record { spawn = a .spawn; join = a .join; cost = n }
 
 abbrev pub of : List Action → Job
 of actions = record { frame = 1; actions = actions }

@@ -4,6 +4,7 @@ pub mod Space
 pub mod Course
 pub mod Steps
 pub mod Start
+pub mod Weighs
 pub mod Kept
 pub mod Worked
 pub mod Price

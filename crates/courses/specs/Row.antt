@@ -1,5 +1,5 @@
--- The rows of a schedule (document 01, "Schedule").
---   Row         == the round and the worker of an action; noRow == what stands past the end of a list
+-- The rows of a schedule (document 01, "Schedule"; document 02, L5).
+--   Row         == the last round of an action, and its worker; noRow == what stands past the end of a list
 --   place p j i == the place of action i of job j in plan order
 use Prim.Native.Nat.{ℕ, _+_}
 use lib.ListN.{take}

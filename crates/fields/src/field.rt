@@ -73,7 +73,7 @@ pub fn window_at(s: &[u8], i: usize) -> Window
 
 // The field of `width` bits at bit `at` of a window: what stands before it is shifted out to the left, and what stands behind it
 // to the right.
-fn cut_in(w: Window, at: usize, width: usize) -> Field
+pub fn cut_in(w: Window, at: usize, width: usize) -> Field
     requires { ⌜ at + width ≤ 32 ⌝ }
     ensures { λ r. ⌜ ((t : List ℕ) → Windowed w t → stepOf r ≡ fieldAt t width at) ⌝ }
 {

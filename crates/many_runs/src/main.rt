@@ -32,7 +32,7 @@ fn next_run() -> Came {
     if io::read_full(0, &mut head) < 2 {
         return Came::End;
     }
-    let mut input = [0u8; 8192];
+    let mut input = [0u8; 16384];
     let mut answer = [0u8; 41];
     read_run(
         wide8(head[0]) * 256 + wide8(head[1]),

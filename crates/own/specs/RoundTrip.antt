@@ -2,7 +2,7 @@
 --   back o output n buffer     == the first entry answered o: its refusal, with the buffer as it was, or else the output written,
 --                                 9 where the buffer is too short for it
 --   planBack plan rows bytes   == of a plan opened into rows and closed again: the plan's own bytes
---   tableBack table bytes rows == of a table closed into bytes and opened again: the table's own rows
+--   tableBack form table bytes rows == of a table closed into bytes of that form and opened again: the table's own rows
 use Prim.Native.Nat.{ℕ, _/_}
 use mathlib.Core.List.{List}
 use lib.ListN.{length}
@@ -17,5 +17,5 @@ back (accepted _) output n buffer = written output n buffer
 abbrev pub planBack : List ℕ → List ℕ → List ℕ → Written
 planBack plan rows bytes = back (toTable plan rows .answer) plan (length plan) bytes
 
-abbrev pub tableBack : List ℕ → List ℕ → List ℕ → Written
-tableBack table bytes rows = back (toPlan table bytes .answer) table (length table / 4) rows
+abbrev pub tableBack : ℕ → List ℕ → List ℕ → List ℕ → Written
+tableBack form table bytes rows = back (toPlan form table bytes .answer) table (length table / 5) rows

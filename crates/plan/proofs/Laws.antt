@@ -14,6 +14,8 @@ pub mod Steps
 pub mod Sheets
 pub mod Action
 pub mod Accepted
+pub mod Costs
 pub mod Found
 pub mod Outcomes
 pub mod Fits
+pub mod Fill

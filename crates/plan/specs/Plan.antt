@@ -1,5 +1,6 @@
 -- A plan (document 01, "Plan"): jobs, the paper's threads, and their actions, its instructions.
---   Action       == what an action spawns and where it sends a join, each a number plus 1, or 0 for none
+--   Action       == what an action spawns and where it sends a join, each a number plus 1, or 0 for none; and its cost, the rounds that it
+--                   takes (document 02, L5)
 --   Job          == the frame's weight in units of 64 KiB, and the row of actions, positions from 0
 --   Plan         == the jobs by number; job 0 is the root
 --   job p j      == job j; size p j == how many actions it has; action p j i == its action at position i
@@ -17,6 +18,7 @@ use Rattle.plan.specs.Test.{both, count}
 pub record Action : Type 0 where
   pub spawn : ℕ
   pub join : ℕ
+  pub cost : ℕ
 
 pub record Job : Type 0 where
   pub frame : ℕ
@@ -27,7 +29,7 @@ Plan = List Job
 
 -- what stands past the end of a list
 abbrev pub noAction : Action
-noAction = record { spawn = 0; join = 0 }
+noAction = record { spawn = 0; join = 0; cost = 0 }
 
 abbrev pub noJob : Job
 noJob = record { frame = 0; actions = [] }
@@ -50,14 +52,16 @@ pub record Placed : Type 0 where
   pub position : ℕ
   pub spawn : ℕ
   pub join : ℕ
+  pub cost : ℕ
 
 abbrev pub noPlaced : Placed
-noPlaced = record { job = 0; position = 0; spawn = 0; join = 0 }
+noPlaced = record { job = 0; position = 0; spawn = 0; join = 0; cost = 0 }
 
 -- the actions of job j from position i on
 abbrev pub placedIn : ℕ → ℕ → List Action → List Placed
 placedIn j i [] = []
-placedIn j i (a ∷ rest) = record { job = j; position = i; spawn = a .spawn; join = a .join } ∷ placedIn j (suc i) rest
+placedIn j i (a ∷ rest) =
+    record { job = j; position = i; spawn = a .spawn; join = a .join; cost = a .cost } ∷ placedIn j (suc i) rest
 
 -- the actions of the jobs from job j on
 abbrev pub placedFrom : ℕ → List Job → List Placed

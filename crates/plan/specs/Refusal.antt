@@ -21,9 +21,9 @@ use Rattle.plan.specs.declared.refusal.Refusal.the-variants.{
 abbrev pub numberOf : Refusal → ℕ
 -- bits run out in a plan
 numberOf RanOut = 1
--- form is not 1
+-- form is neither 1 nor 2 (document 02, L5)
 numberOf Form = 2
--- job count, frame, action count or sum outside its range
+-- job count, frame, action count, sum or cost outside its range; in a form 1 table a cost that is not 1
 numberOf Range = 3
 -- a spawn rule is broken
 numberOf Spawn = 4
@@ -39,7 +39,7 @@ numberOf Choices = 8
 numberOf Short = 9
 -- open table empty, not whole rows, or breaks its row rules
 numberOf Table = 10
--- schedule length, form, worker count, action count, zero bits or a round of 0
+-- schedule length, form (another than the plan's), worker count, action count, zero bits, fill bits with them, or a round of 0
 numberOf Schedule = 11
 -- a schedule rule is broken
 numberOf Rule = 12

@@ -1,8 +1,9 @@
--- The rules of a plan (document 01, "Plan").
---   inRange p    == 1 to 256 jobs, 1 to 255 actions in a job, 1 to 2,048 in all, frame 1 to 65,535
+-- The rules of a plan (document 01, "Plan"; document 02, L5).
+--   inRange p    == 1 to 256 jobs, 1 to 255 actions in a job, 1 to 2,048 in all, frame 1 to 65,535, cost 1 to 15
+--   costsFit form p == the costs may stand in a plan of that form: in form 1, which has no field for them, each is 1
 --   spawnRules p == refusal 4 does not apply
 --   joinRules p  == refusal 5 does not apply
---   Accepted p   == none of 3, 4 and 5 applies
+--   Accepted p   == the plan is in range and keeps the spawn and the join rules; whether its costs fit a form is told apart
 use Prim.Native.Nat.{ℕ, zero, suc, _-_}
 use mathlib.Core.Bool.{Bool, true, false}
 use mathlib.Core.List.{List}
@@ -11,13 +12,22 @@ use lib.Dec.{T, eqb, leb, ltb}
 use Rattle.plan.specs.Test.{both, either, all, count, below}
 use Rattle.plan.specs.Plan.{Action, Job, Plan, Placed, job, size, action, total, placed, parent, spawnAt, entering}
 
+-- document 02, L5: "a cost of 4 bits, 1 to 15"
+abbrev pub costInRange : Action → Bool
+costInRange a = both (leb 1 (a .cost)) (leb (a .cost) 15)
+
 -- "1 to 256 jobs, 1 to 255 actions in a job, 1 to 2,048 in all, frame 1 to 65,535"
 abbrev pub jobInRange : Job → Bool
 jobInRange b =
-    both (both (leb 1 (b .frame)) (leb (b .frame) 65535)) (both (leb 1 (length (b .actions))) (leb (length (b .actions)) 255))
+    both (both (both (leb 1 (b .frame)) (leb (b .frame) 65535)) (both (leb 1 (length (b .actions))) (leb (length (b .actions)) 255)))
+    (all costInRange (b .actions))
 
 unfoldable pub inRange : Plan → Bool
 inRange p = both (both (leb 1 (length p)) (leb (length p) 256)) (both (all jobInRange p) (leb (total p) 2048))
+
+-- document 02, L5: "a cost .. in a form 1 table not 1, is 3"
+unfoldable pub costsFit : ℕ → Plan → Bool
+costsFit form p = elim (eqb form 1) [ true ↦ all (λ a. eqb (a .cost) 1) (placed p) | false ↦ true ]
 
 -- "An action spawns at most one child, whose number is at least 1 and below the job count ..
 -- by a job of smaller number"

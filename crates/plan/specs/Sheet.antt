@@ -1,12 +1,12 @@
 -- A plan as one array, its numbers each kind from a fixed place on, and what it is for the array to hold a plan.
 --   childAt plan k    == the number of the job that the action at place k in plan order spawns, plus 1, or 0
 --   targetAt plan k   == the position in its job's parent that it sends its join to, plus 1, or 0
---   jobAt plan k      == its job
+--   jobAt plan k      == its job; costAt plan k == its cost
 --   frameOf plan j    == the frame of job j
 --   firstOf plan j    == the place of its first action, or that of the end where j is the number of jobs
 --   parentOf plan j   == its parent
 --   spawnOf plan j  == the position of its spawn there, plus 1, or 0 where none is noted
---   withAction plan k j child target == the array with such an action of job j at place k
+--   withAction plan k j child target cost == the array with such an action of job j at place k
 --   withFrame plan j weight, withFirst plan j k, withSpawner plan c q x == the array with a frame of job j; a first place; the
 --                        parent q of job c, with the position plus 1 of its spawn there
 --   Blank plan        == the array to read into
@@ -46,8 +46,11 @@ spawnOf plan j = getD plan (4865 + j) 0
 abbrev pub jobAt : List ℕ → ℕ → ℕ
 jobAt plan k = getD plan (5121 + k) 0
 
-abbrev pub withAction : List ℕ → (k j child target : ℕ) → List ℕ
-withAction plan k j child target = set (set (set plan k child) (2048 + k) target) (5121 + k) j
+abbrev pub costAt : List ℕ → ℕ → ℕ
+costAt plan k = getD plan (7169 + k) 0
+
+abbrev pub withAction : List ℕ → (k j child target cost : ℕ) → List ℕ
+withAction plan k j child target cost = set (set (set (set plan k child) (2048 + k) target) (5121 + k) j) (7169 + k) cost
 
 abbrev pub withFrame : List ℕ → (j weight : ℕ) → List ℕ
 withFrame plan j weight = set plan (4096 + j) weight
@@ -69,6 +72,7 @@ pub record Laid (plan : List ℕ) (p : Plan) : Type 0 where
   pub owners : (k : ℕ) → k < total p → jobAt plan k ≡ getD (placed p) k noPlaced .job
   pub children : (k : ℕ) → k < total p → childAt plan k ≡ getD (placed p) k noPlaced .spawn
   pub targets : (k : ℕ) → k < total p → targetAt plan k ≡ getD (placed p) k noPlaced .join
+  pub costs : (k : ℕ) → k < total p → costAt plan k ≡ getD (placed p) k noPlaced .cost
 
 pub record Spawned (plan : List ℕ) (p : Plan) : Type 0 where
   pub parents : (c : ℕ) → 1 ≤ c → c < length p → parentOf plan c ≡ parent p c

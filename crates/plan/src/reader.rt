@@ -1,12 +1,12 @@
-// Reading plan bytes into a plan's array (document 01, "Plan" and "Turned down").
+// Reading plan bytes into a plan's array (document 01, "Plan" and "Turned down"; document 02, L5).
 ghost use mathlib.Core.Path.{_≡_};
 ghost use Prim.Native.Nat.{_+_, _*_, _^_, _≤_, _<_};
 ghost use lib.ListN.{length};
-ghost use Rattle.plan.specs.Reader.{jobsAt, planAt, fills};
+ghost use Rattle.plan.specs.Reader.{isForm, jobsAt, planAt, fills};
 ghost use Rattle.plan.specs.Contract.{before, after};
 ghost use Rattle.plan.specs.Entering.{Unentered};
 ghost use Rattle.plan.specs.Sheet.{Blank};
-ghost use Rattle.plan.specs.Progress.{ActionsRead, HeaderRead, JobRead, PlanRead};
+ghost use Rattle.plan.specs.Progress.{ActionsRead, HeaderRead, JobRead, formed, PlanRead};
 ghost use Rattle.plan.specs.Found.{ReadInto};
 use crate::action::Progress;
 use crate::action::read_action;
@@ -19,10 +19,14 @@ use crate::sheet::set_frame;
 use fields::field::Field;
 use fields::field::cut;
 
-// What reading answers: the plan's counts, or why there is none.
+// What reading answers: the plan's form and counts, or why there is none.
 pub enum Found {
     Refused(Refusal),
-    Plan { jobs: usize, actions: usize },
+    Plan {
+        form: u32,
+        jobs: usize,
+        actions: usize,
+    },
 }
 
 // A count of actions, and where reading goes on: of a job, where its actions begin, and of all jobs so far, where the last one ends.
@@ -31,10 +35,11 @@ pub enum Header {
     Is { size: usize, next: usize },
 }
 
-// The job count, the action count, and where the fill bits begin.
+// The form, the job count, the action count, and where the fill bits begin.
 pub enum Body {
     Refused(Refusal),
     Is {
+        form: u32,
         jobs: usize,
         actions: usize,
         next: usize,
@@ -45,22 +50,27 @@ pub enum Body {
 fn read_actions(
     s: &[u8],
     at: usize,
+    form: u32,
     j: usize,
     from: usize,
     count: usize,
     plan: &mut Sheet,
 ) -> Progress
-    requires { ⌜ (at + 18 * count < 2 ^ 17) × (j < 256) × (from + count ≤ 2048) ⌝ }
-    ensures { λ r. ⌜ ActionsRead (before s) at j from count (before plan) (after plan) r ⌝ }
+    requires { ⌜ (at + 22 * count < 2 ^ 17) × (j < 256) × (from + count ≤ 2048) ⌝ }
+    ensures { λ r. ⌜ ActionsRead form (before s) at j from count (before plan) (after plan) r ⌝ }
 {
     let mut place = at;
     let mut k = from;
     let end = from + count;
     while k < end {
-        let Progress::At(next) = read_action(s, place, j, k, plan) else {
-            return Progress::Refused(Refusal::RanOut);
-        };
-        place = next;
+        match read_action(s, place, form, j, k, plan) {
+            Progress::Refused(cause) => {
+                return Progress::Refused(cause);
+            }
+            Progress::At(next) => {
+                place = next;
+            }
+        }
         k += 1;
     }
     Progress::At(place)
@@ -96,13 +106,13 @@ fn read_header(s: &[u8], at: usize, j: usize, earlier: usize, plan: &mut Sheet) 
 }
 
 // Reads job j, and tells how many actions there are up to its end.
-fn read_job(s: &[u8], at: usize, j: usize, earlier: usize, plan: &mut Sheet) -> Header
+fn read_job(s: &[u8], at: usize, form: u32, j: usize, earlier: usize, plan: &mut Sheet) -> Header
     requires { ⌜ (at < 2 ^ 16) × (j < 256) × (earlier ≤ 2048) ⌝ }
-    ensures { λ r. ⌜ JobRead (before s) at j earlier (before plan) (after plan) r ⌝ }
+    ensures { λ r. ⌜ JobRead form (before s) at j earlier (before plan) (after plan) r ⌝ }
 {
     match read_header(s, at, j, earlier, plan) {
         Header::Refused(cause) => Header::Refused(cause),
-        Header::Is { size, next } => match read_actions(s, next, j, earlier, size, plan) {
+        Header::Is { size, next } => match read_actions(s, next, form, j, earlier, size, plan) {
             Progress::Refused(cause) => Header::Refused(cause),
             Progress::At(end) => {
                 set_first(plan, j + 1, earlier + size);
@@ -116,15 +126,15 @@ fn read_job(s: &[u8], at: usize, j: usize, earlier: usize, plan: &mut Sheet) -> 
 }
 
 // Reads all jobs.
-fn read_jobs(s: &[u8], at: usize, jobs: usize, plan: &mut Sheet) -> Body
+fn read_jobs(s: &[u8], at: usize, form: u32, jobs: usize, plan: &mut Sheet) -> Body
     requires { ⌜ (at ≤ 17) × (jobs ≤ 256) ⌝ }
-    ensures { λ r. ⌜ PlanRead (jobsAt (before s) jobs 0 at) (before plan) (after plan) r ⌝ }
+    ensures { λ r. ⌜ PlanRead (formed form (jobsAt form (before s) jobs 0 at)) (before plan) (after plan) r ⌝ }
 {
     let mut place = at;
     let mut actions = 0;
     let mut j = 0;
     while j < jobs {
-        match read_job(s, place, j, actions, plan) {
+        match read_job(s, place, form, j, actions, plan) {
             Header::Refused(cause) => {
                 return Body::Refused(cause);
             }
@@ -136,10 +146,21 @@ fn read_jobs(s: &[u8], at: usize, jobs: usize, plan: &mut Sheet) -> Body
         j += 1;
     }
     Body::Is {
+        form,
         jobs,
         actions,
         next: place,
     }
+}
+
+// The form of a plan is one that is read.
+pub fn is_form(form: u32) -> bool
+    ensures { λ r. ⌜ r ≡ isForm form ⌝ }
+{
+    if form == 1 {
+        return true;
+    }
+    form == 2
 }
 
 // Reads the form and the job count, and then the jobs.
@@ -153,7 +174,7 @@ fn read_body(s: &[u8], plan: &mut Sheet) -> Body
     else {
         return Body::Refused(Refusal::RanOut);
     };
-    if form != 1 {
+    if !is_form(form) {
         return Body::Refused(Refusal::Form);
     }
     let Field::Cut { value, next } = cut(s, after, 9) else {
@@ -166,11 +187,11 @@ fn read_body(s: &[u8], plan: &mut Sheet) -> Body
     if 256 < jobs {
         return Body::Refused(Refusal::Range);
     }
-    read_jobs(s, next, jobs, plan)
+    read_jobs(s, next, form, jobs, plan)
 }
 
 // Zero bits fill the last byte, and nothing follows.
-fn filled(s: &[u8], at: usize) -> bool
+pub fn filled(s: &[u8], at: usize) -> bool
     requires { ⌜ (at < 2 ^ 16) × (at ≤ 8 * length (now s)) ⌝ }
     ensures { λ r. ⌜ r ≡ fills (before s) at ⌝ }
 {
@@ -193,6 +214,7 @@ pub fn read_into(s: &[u8], plan: &mut Sheet, entering: &mut [u8; 2048]) -> Found
     match read_body(s, plan) {
         Body::Refused(cause) => Found::Refused(cause),
         Body::Is {
+            form,
             jobs,
             actions,
             next,
@@ -206,7 +228,11 @@ pub fn read_into(s: &[u8], plan: &mut Sheet, entering: &mut [u8; 2048]) -> Found
             if !join_rules(jobs, actions, plan, entering) {
                 return Found::Refused(Refusal::Join);
             }
-            Found::Plan { jobs, actions }
+            Found::Plan {
+                form,
+                jobs,
+                actions,
+            }
         }
     }
 }

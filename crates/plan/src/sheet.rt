@@ -3,15 +3,15 @@
 ghost use mathlib.Core.Path.{_≡_};
 ghost use Prim.Native.Nat.{_<_};
 ghost use Rattle.plan.specs.Contract.{before, after};
-ghost use Rattle.plan.specs.Sheet.{childAt, targetAt, frameOf, firstOf, parentOf, spawnOf, jobAt};
+ghost use Rattle.plan.specs.Sheet.{childAt, targetAt, frameOf, firstOf, parentOf, spawnOf, jobAt, costAt};
 ghost use Rattle.plan.specs.Sheet.{withAction, withFrame, withFirst, withSpawner};
 use numbers::units16;
 use numbers::wide16;
 
 // From 0 on the children of the 2,048 actions and from 2,048 on their targets, each a number plus 1, or 0 for none; from 4,096
 // on the 256 frames; from 4,352 on the 257 places of first actions, that of the end with them; from 4,609 on the parents; from
-// 4,865 on the positions of the jobs' spawns, plus 1, or 0 where none is noted; from 5,121 on the actions' jobs. The 2,048
-// places from 7,169 on are left for a cost of each action: nothing reads or writes them yet.
+// 4,865 on the positions of the jobs' spawns, plus 1, or 0 where none is noted; from 5,121 on the actions' jobs; from 7,169 on
+// their costs.
 pub type Sheet = [u16; PLACES];
 
 pub const PLACES: usize = 9217;
@@ -27,6 +27,8 @@ const PARENT: usize = 4609;
 const SPAWNED: usize = 4865;
 
 const JOB: usize = 5121;
+
+const COST: usize = 7169;
 
 // The number of the job that the action at place k spawns, plus 1, or 0.
 pub fn child_at(plan: &Sheet, k: usize) -> usize
@@ -50,6 +52,14 @@ pub fn job_at(plan: &Sheet, k: usize) -> usize
     ensures { λ r. ⌜ (r ≡ jobAt (before plan) k) × (r < 65536) ⌝ }
 {
     wide16(plan[JOB + k])
+}
+
+// The cost of the action at place k.
+pub fn cost_at(plan: &Sheet, k: usize) -> usize
+    requires { ⌜ k < 2048 ⌝ }
+    ensures { λ r. ⌜ (r ≡ costAt (before plan) k) × (r < 65536) ⌝ }
+{
+    wide16(plan[COST + k])
 }
 
 // The weight of job j's frame.
@@ -84,14 +94,15 @@ pub fn spawn_of(plan: &Sheet, j: usize) -> usize
     wide16(plan[SPAWNED + j])
 }
 
-// The action at place k is one of job j, with its child and its target, each plus 1 or 0.
-pub fn set_action(plan: &mut Sheet, k: usize, j: usize, child: u16, target: u16)
+// The action at place k is one of job j, with its child and its target, each plus 1 or 0, and its cost.
+pub fn set_action(plan: &mut Sheet, k: usize, j: usize, child: u16, target: u16, cost: u16)
     requires { ⌜ (k < 2048) × (j < 256) ⌝ }
-    ensures { λ _. ⌜ after plan ≡ withAction (before plan) k j child target ⌝ }
+    ensures { λ _. ⌜ after plan ≡ withAction (before plan) k j child target cost ⌝ }
 {
     plan[k] = child;
     plan[TARGET + k] = target;
     plan[JOB + k] = j as u16;
+    plan[COST + k] = cost;
 }
 
 // The weight of job j's frame.

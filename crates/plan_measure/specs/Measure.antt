@@ -1,14 +1,15 @@
--- The measures of a plan (document 01, "Plan").
+-- The measures of a plan (document 01, "Plan"; document 02, L5).
+--   costs l          == the costs of the actions l, added up
 --   work p           == T1
 --   mustFollow p x y == x must follow y: y is "the one before it, its spawner (for position 0)" or a sender of a join into it
 --   Chain p l        == l is a chain: "a list of one or more actions, of any jobs, in which each but the first must
 --                       follow the one before it"
---   Longest p n      == n is the largest length of a chain
---   after p n x      == the largest length of a chain of at most n actions that ends in x
---   longest p        == T∞, the largest length of a chain: no chain has more actions than the plan
+--   Longest p n      == n is the largest cost of a chain
+--   after p n x      == the largest cost of a chain of at most n actions that ends in x
+--   longest p        == T∞, the largest cost of a chain: no chain has more actions than the plan
 --   path p j         == the path weight of job j: "its own frame plus its parent's path weight"
 --   heaviest p       == S1, the largest path weight
---   measures s       == T1, T∞ and S1 of the plan that the bytes s hold, or the refusal
+--   measures s       == the number of actions, T1, T∞ and S1 of the plan that the bytes s hold, or the refusal
 use Prim.Native.Nat.{ℕ, zero, suc, _+_, _≤_}
 use mathlib.Core.Path.{_≡_}
 use mathlib.Core.Logic.{_⊎_}
@@ -22,11 +23,15 @@ use Rattle.plan_measure.specs.declared.Measured.the-variants.{Refused, O
 use Rattle.plan.specs.Refusal.{Outcome, refused, accepted, numberOf}
 use Rattle.plan.specs.Test.{both, either, largest, below}
 use Rattle.plan.specs.Plan.{Plan, Placed, job, total, placed, parent, enters}
-use Rattle.plan.specs.Reader.{readPlan}
+use Rattle.plan.specs.Reader.{Read, readPlan}
 
--- "T1 is the plan's number of actions."
+abbrev pub costs : List Placed → ℕ
+costs [] = 0
+costs (x ∷ l) = x .cost + costs l
+
+-- "T1 becomes the sum of costs"
 unfoldable pub work : Plan → ℕ
-work p = total p
+work p = costs (placed p)
 
 unfoldable pub mustFollow : Plan → Placed → Placed → Bool
 unfolding enters
@@ -44,14 +49,15 @@ Chain p [] = ⊥
 Chain p (x ∷ []) = Member x (placed p)
 Chain p (x ∷ (y ∷ l)) = Member x (placed p) × T (mustFollow p y x) × Chain p (y ∷ l)
 
+-- "T∞ the chain of largest cost"
 pub record Longest (p : Plan) (n : ℕ) : Type 0 where
-  pub none-longer : (l : List Placed) → Chain p l → length l ≤ n
-  pub one : (l : List Placed) × Chain p l × (length l ≡ n)
+  pub none-longer : (l : List Placed) → Chain p l → costs l ≤ n
+  pub one : (l : List Placed) × Chain p l × (costs l ≡ n)
 
 unfoldable pub after : Plan → ℕ → Placed → ℕ
 unfolding mustFollow
 after p zero x = 0
-after p (suc n) x = suc (largest (λ y. elim (mustFollow p x y) [ true ↦ after p n y | false ↦ 0 ]) (placed p))
+after p (suc n) x = x .cost + largest (λ y. elim (mustFollow p x y) [ true ↦ after p n y | false ↦ 0 ]) (placed p)
 
 unfoldable pub longest : Plan → ℕ
 unfolding after
@@ -71,10 +77,14 @@ unfoldable pub heaviest : Plan → ℕ
 unfolding path
 heaviest p = largest (path p) (below (length p))
 
-unfoldable pub measured : Outcome Plan → Outcome Measures
-unfolding longest heaviest
+unfoldable pub measuresOf : Plan → Measures
+unfolding work longest heaviest
+measuresOf p = record { total = total p; work = work p; longest = longest p; path = heaviest p }
+
+unfoldable pub measured : Outcome Read → Outcome Measures
+unfolding measuresOf
 measured (refused n) = refused n
-measured (accepted p) = accepted (record { actions = work p; longest = longest p; path = heaviest p })
+measured (accepted r) = accepted (measuresOf (r .plan))
 
 unfoldable pub measures : List ℕ → Outcome Measures
 unfolding measured readPlan

@@ -1,7 +1,8 @@
 -- What functions that are no entries are given, and what they leave. No public entry cites these.
 --   at l k            == what stands at place k of an array
 --   PlanOf jobs plan p == the array `plan` holds the plan p, which has so many jobs
---   ends p j i        == when action i of job j is done at the earliest: the largest length of a chain that ends in it
+--   ActionsOf actions plan p == the same, which has so many actions
+--   ends p j i        == when action i of job j is done at the earliest: the largest cost of a chain that ends in it
 --   begins p j        == when the spawn of job j is done; 0 for the root
 --   placeOf p j       == the place of job j's first action
 --   JobOf             == a job of a plan
@@ -30,9 +31,14 @@ pub record PlanOf (jobs : ℕ) (plan : List ℕ) (p : Plan) : Type 0 where
   pub count : jobs ≡ length p
   pub planned : Planned plan p
 
+pub record ActionsOf (actions : ℕ) (plan : List ℕ) (p : Plan) : Type 0 where
+  pub all : actions ≡ total p
+  pub planned : Planned plan p
+
 unfoldable pub ends : Plan → ℕ → ℕ → ℕ
 unfolding after
-ends p j i = after p (total p) (record { job = j; position = i; spawn = action p j i .spawn; join = action p j i .join })
+ends p j i =
+    after p (total p) (record { job = j; position = i; spawn = action p j i .spawn; join = action p j i .join; cost = action p j i .cost })
 
 unfoldable pub begins : Plan → ℕ → ℕ
 unfolding ends parent spawnAt
@@ -43,7 +49,7 @@ placeOf p j = total (take j p)
 
 pub record TimedFrom (p : Plan) (j : ℕ) (time late : ℕ → ℕ) : Type 0 where
   pub times : (c a : ℕ) → j ≤ c → c < length p → a < size p c → time (placeOf p c + a) + begins p c ≡ ends p c a
-  pub lates : (q t : ℕ) → q < length p → t < size p q → late (placeOf p q + t) + begins p q < ends p q t
+  pub lates : (q t : ℕ) → q < length p → t < size p q → late (placeOf p q + t) + begins p q + action p q t .cost ≤ ends p q t
 
 pub record JobOf : Type 0 where
   pub plan : Plan

@@ -1,14 +1,14 @@
-// The measures of a plan (document 01, "Plan"): T1, T∞ and S1.
+// The measures of a plan (document 01, "Plan"; document 02, L5): its number of actions, T1, T∞ and S1.
 ghost use Prim.Native.Nat.{suc};
 ghost use mathlib.Core.Path.{_≡_};
 ghost use lib.ListN.{length};
 ghost use Rattle.plan.specs.Contract.{Some, _⇒_, before, after};
-ghost use Rattle.plan.specs.Refusal.{accepted};
 ghost use Rattle.plan.specs.Sheet.{targetAt, PlanIn};
-ghost use Rattle.plan_measure.specs.Measure.{measured, measures, told, longest as longestOf, heaviest as heaviestOf};
-ghost use Rattle.plan_measure.specs.Times.{at, PlanOf, JobGiven, JobTimed, SendGiven, Sent, PassGiven, Passed};
+ghost use Rattle.plan_measure.specs.Measure.{measuresOf, measures, told, work as workOf, longest as longestOf, heaviest as heaviestOf};
+ghost use Rattle.plan_measure.specs.Times.{at, PlanOf, ActionsOf, JobGiven, JobTimed, SendGiven, Sent, PassGiven, Passed};
 use numbers::larger;
 use numbers::later;
+use numbers::units;
 use numbers::units16;
 use plan::reader::Found;
 use plan::reader::read_into;
@@ -16,14 +16,16 @@ use plan::refusal::Refusal;
 use plan::sheet::PLACES;
 use plan::sheet::Sheet;
 use plan::sheet::child_at;
+use plan::sheet::cost_at;
 use plan::sheet::first_of;
 use plan::sheet::frame_of;
 use plan::sheet::parent_of;
 use plan::sheet::target_at;
 
-// T1, T∞ and S1.
+// The number of actions, T1, T∞ and S1.
 pub struct Measures {
-    pub actions: u32,
+    pub total: u32,
+    pub work: u32,
     pub longest: u32,
     pub path: u32,
 }
@@ -31,6 +33,20 @@ pub struct Measures {
 pub enum Measured {
     Refused(Refusal),
     Of(Measures),
+}
+
+// T1: the costs of the actions, added up.
+fn work(actions: usize, plan: &Sheet) -> u32
+    requires { ⌜ Some (ActionsOf actions (now plan)) ⌝ }
+    ensures { λ r. ⌜ ActionsOf actions (before plan) ⇒ (λ p. r ≡ workOf p) ⌝ }
+{
+    let mut sum = 0;
+    let mut k = 0;
+    while k < actions {
+        sum += units(cost_at(plan, k));
+        k += 1;
+    }
+    sum
 }
 
 // S1: each job's path weight is its frame and its parent's path weight.
@@ -138,7 +154,7 @@ fn time_job(
     let mut done = 0;
     let mut k = base;
     while k < end {
-        done = later(done, late[k]) + 1;
+        done = later(done, late[k]) + cost_at(plan, k) as u16;
         time[k] = done;
         pass_child(k, base, done, plan, time, late);
         k += 1;
@@ -147,7 +163,7 @@ fn time_job(
 }
 
 // T∞, one pass from the highest job down: what an action of a job must follow lies, but for the job's spawn, in the job and
-// those below it. Times are at most T∞, which is at most 2,048: 16 bits halve the arrays.
+// those below it. Times are at most T∞, which is at most 15 × 2,048: 16 bits halve the arrays.
 fn longest(jobs: usize, plan: &Sheet) -> u32
     requires { ⌜ Some (PlanOf jobs (now plan)) ⌝ }
     ensures { λ r. ⌜ PlanOf jobs (before plan) ⇒ (λ p. r ≡ longestOf p) ⌝ }
@@ -169,19 +185,20 @@ fn longest(jobs: usize, plan: &Sheet) -> u32
     units16(most)
 }
 
-// T1, T∞ and S1 of the plan that the array holds.
+// The number of actions, T1, T∞ and S1 of the plan that the array holds.
 pub fn measure_read(jobs: usize, actions: usize, plan: &Sheet) -> Measures
     requires { ⌜ Some (PlanIn jobs actions (now plan)) ⌝ }
-    ensures { λ r. ⌜ PlanIn jobs actions (before plan) ⇒ (λ p. accepted r ≡ measured (accepted p)) ⌝ }
+    ensures { λ r. ⌜ PlanIn jobs actions (before plan) ⇒ (λ p. r ≡ measuresOf p) ⌝ }
 {
     Measures {
-        actions: actions as u32,
+        total: actions as u32,
+        work: work(actions, plan),
         longest: longest(jobs, plan),
         path: heaviest(jobs, plan),
     }
 }
 
-// T1, T∞ and S1 of the plan that the bytes hold, or why they are turned down.
+// The number of actions, T1, T∞ and S1 of the plan that the bytes hold, or why they are turned down.
 pub fn measure(bytes: &[u8]) -> Measured
     ensures { λ r. ⌜ told r ≡ measures (now (bytes .entry)) ⌝ }
 {
@@ -189,6 +206,10 @@ pub fn measure(bytes: &[u8]) -> Measured
     let mut entering = [0u8; 2048];
     match read_into(bytes, &mut plan, &mut entering) {
         Found::Refused(cause) => Measured::Refused(cause),
-        Found::Plan { jobs, actions } => Measured::Of(measure_read(jobs, actions, &plan)),
+        Found::Plan {
+            form: _,
+            jobs,
+            actions,
+        } => Measured::Of(measure_read(jobs, actions, &plan)),
     }
 }

@@ -1,10 +1,11 @@
--- The open table (document 01, "Plan"): "one row an action, in job then position order, of four 16-bit numbers:
--- job, its frame (equal in all its rows), child number plus 1 or 0, target plus 1 or 0."
+-- The open table (document 01, "Plan"): "one row an action, in job then position order, of .. 16-bit numbers: job, its frame (equal in
+-- all its rows), child number plus 1 or 0, target plus 1 or 0." Document 02, L5: "The open table gains a fifth column, the cost; for form 1
+-- it holds 1."
 --   tableOf p    == the table of a plan
 --   Row, rowsOf  == the table's rows
 --   rowRules     == "The third and fourth are 0 to 256. The job column starts at 0 and rises by 0 or 1."
 --   planOf rows  == the plan whose table the rows are
---   readTable t  == the plan that a table holds, or the refusal: 10, 3, 4, 5
+--   readTable form t == the plan that a table of that form holds, or the refusal: 2, 10, 3, 4, 5
 --   toTable, toPlan == what the two entries answer and leave in the lent buffer
 use Prim.Native.Nat.{ℕ, zero, suc, _*_, _/_, _%_}
 use mathlib.Core.Bool.{Bool, true, false}
@@ -16,14 +17,14 @@ use Rattle.plan_table.specs.declared.Answer.the-variants.{Refused, Count
 use Rattle.plan.specs.Refusal.{Outcome, refused, accepted, numberOf}
 use Rattle.plan.specs.Test.{both, either, all}
 use Rattle.plan.specs.Plan.{Action, Job, Plan, total}
-use Rattle.plan.specs.Rules.{inRange, spawnRules, joinRules}
-use Rattle.plan.specs.Reader.{readPlan}
+use Rattle.plan.specs.Rules.{inRange, costsFit, spawnRules, joinRules}
+use Rattle.plan.specs.Reader.{Read, isForm, readPlan}
 use Rattle.plan_writer.specs.Writer.{planBytes}
 
 -- the rows of the actions of job j, whose frame is f
 abbrev pub tableIn : ℕ → ℕ → List Action → List ℕ
 tableIn j f [] = []
-tableIn j f (a ∷ rest) = j ∷ f ∷ a .spawn ∷ a .join ∷ tableIn j f rest
+tableIn j f (a ∷ rest) = j ∷ f ∷ a .spawn ∷ a .join ∷ a .cost ∷ tableIn j f rest
 
 abbrev pub tableFrom : ℕ → List Job → List ℕ
 tableFrom j [] = []
@@ -37,14 +38,16 @@ pub record Row : Type 0 where
   pub frame : ℕ
   pub spawn : ℕ
   pub join : ℕ
+  pub cost : ℕ
 
--- four numbers a row; what is left of a last row that is not whole is no row
+-- five numbers a row; what is left of a last row that is not whole is no row
 abbrev pub rowsOf : List ℕ → List Row
 rowsOf [] = []
 rowsOf (j ∷ []) = []
 rowsOf (j ∷ (f ∷ [])) = []
 rowsOf (j ∷ (f ∷ (s ∷ []))) = []
-rowsOf (j ∷ (f ∷ (s ∷ (t ∷ rest)))) = record { job = j; frame = f; spawn = s; join = t } ∷ rowsOf rest
+rowsOf (j ∷ (f ∷ (s ∷ (t ∷ [])))) = []
+rowsOf (j ∷ (f ∷ (s ∷ (t ∷ (c ∷ rest))))) = record { job = j; frame = f; spawn = s; join = t; cost = c } ∷ rowsOf rest
 
 -- a row may stand below the row a: the next job, or the same job with the same frame
 abbrev pub goesOn : Row → Row → Bool
@@ -62,7 +65,7 @@ rowRules [] = false
 rowRules (a ∷ rows) = both (eqb (a .job) 0) (both (rising a rows) (all small (a ∷ rows)))
 
 abbrev pub actionOf : Row → Action
-actionOf a = record { spawn = a .spawn; join = a .join }
+actionOf a = record { spawn = a .spawn; join = a .join; cost = a .cost }
 
 -- one more action in front of the first job
 abbrev pub infront : Row → List Job → List Job
@@ -79,19 +82,23 @@ planOf (a ∷ (b ∷ rows)) =
       | false ↦ record { frame = a .frame; actions = actionOf a ∷ [] } ∷ planOf (b ∷ rows)
     ]
 
--- 3, then 4, then 5
-unfoldable pub ruled : Plan → Outcome Plan
-unfolding inRange spawnRules joinRules
-ruled p =
-    elim (inRange p) [
+-- 3, also where "a cost outside 1 to 15, or in a form 1 table not 1"; then 4, then 5
+unfoldable pub ruled : ℕ → Plan → Outcome Plan
+unfolding inRange costsFit spawnRules joinRules
+ruled form p =
+    elim (both (inRange p) (costsFit form p)) [
       | false ↦ refused 3
       | true ↦ elim (spawnRules p) [ false ↦ refused 4 | true ↦ elim (joinRules p) [ false ↦ refused 5 | true ↦ accepted p ] ]
     ]
 
--- 10: "open table empty, not whole rows, or breaks its row rules"
-unfoldable pub readTable : List ℕ → Outcome Plan
+-- 2, "which a writer checks first"; 10: "open table empty, not whole rows, or breaks its row rules"
+unfoldable pub readTable : ℕ → List ℕ → Outcome Plan
 unfolding rowRules ruled
-readTable t = elim (both (eqb (length t % 4) 0) (rowRules (rowsOf t))) [ false ↦ refused 10 | true ↦ ruled (planOf (rowsOf t)) ]
+readTable form t =
+    elim (isForm form) [
+      | false ↦ refused 2
+      | true ↦ elim (both (eqb (length t % 5) 0) (rowRules (rowsOf t))) [ false ↦ refused 10 | true ↦ ruled form (planOf (rowsOf t)) ]
+    ]
 
 -- An entry's answer with what its lent buffer then holds: "On success, bytes or numbers beyond the output keep
 -- what they held"; on a refusal the buffer is as it was.
@@ -108,24 +115,24 @@ written output n buffer =
     ]
 
 -- "reading into a table": 1 to 6, then 9; the answer is the number of rows
-unfoldable pub tabled : Outcome Plan → List ℕ → Written
+unfoldable pub tabled : Outcome Read → List ℕ → Written
 unfolding written tableOf
 tabled (refused n) buffer = record { answer = refused n; buffer = buffer }
-tabled (accepted p) buffer = written (tableOf p) (total p) buffer
+tabled (accepted r) buffer = written (tableOf (r .plan)) (total (r .plan)) buffer
 
 unfoldable pub toTable : List ℕ → List ℕ → Written
 unfolding tabled readPlan
 toTable bytes buffer = tabled (readPlan bytes) buffer
 
--- "writing from a table": 10, 3, 4, 5, 9; the answer is the number of bytes
-unfoldable pub encoded : Outcome Plan → List ℕ → Written
+-- "writing from a table": 2, 10, 3, 4, 5, 9; the answer is the number of bytes. "The writer is told the form."
+unfoldable pub encoded : ℕ → Outcome Plan → List ℕ → Written
 unfolding written planBytes
-encoded (refused n) buffer = record { answer = refused n; buffer = buffer }
-encoded (accepted p) buffer = written (planBytes p) (length (planBytes p)) buffer
+encoded form (refused n) buffer = record { answer = refused n; buffer = buffer }
+encoded form (accepted p) buffer = written (planBytes form p) (length (planBytes form p)) buffer
 
-unfoldable pub toPlan : List ℕ → List ℕ → Written
+unfoldable pub toPlan : ℕ → List ℕ → List ℕ → Written
 unfolding encoded readTable
-toPlan table buffer = encoded (readTable table) buffer
+toPlan form table buffer = encoded form (readTable form table) buffer
 
 -- the outcome that an answer stands for
 abbrev pub answerOf : Answer → Outcome ℕ

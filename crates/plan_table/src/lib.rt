@@ -1,8 +1,8 @@
-// The open table (document 01, "Plan"): a plan's bytes into a table, and a table into a plan's bytes.
+// The open table (document 01, "Plan"; document 02, L5): a plan's bytes into a table, and a table into a plan's bytes.
 ghost use mathlib.Core.Path.{_≡_};
 ghost use Rattle.plan.specs.Contract.{Some, _⇒_, before, after};
-ghost use Rattle.plan.specs.Sheet.{LaidIn};
 ghost use Rattle.plan_table.specs.Table.{toTable, toPlan, answerOf, encoded, ruled};
+ghost use Rattle.plan_table.specs.GivenRows.{LaidAs};
 
 mod rows;
 
@@ -11,6 +11,7 @@ use crate::rows::table_rules;
 use crate::rows::take_rows;
 use crate::rows::write_rows;
 use plan::reader::Found;
+use plan::reader::is_form;
 use plan::reader::read_into;
 use plan::refusal::Refusal;
 use plan::rules::join_rules;
@@ -35,7 +36,7 @@ pub fn plan_to_table(bytes: &[u8], rows: &mut [u16]) -> Answer
     match read_into(bytes, &mut plan, &mut entering) {
         Found::Refused(cause) => Answer::Refused(cause),
         Found::Plan { actions, .. } => {
-            if rows.len() < 4 * actions {
+            if rows.len() < 5 * actions {
                 return Answer::Refused(Refusal::Short);
             }
             write_rows(actions, &plan, rows);
@@ -44,12 +45,12 @@ pub fn plan_to_table(bytes: &[u8], rows: &mut [u16]) -> Answer
     }
 }
 
-// Writes the bytes of the plan whose jobs and actions the array has, where it keeps its rules and there is room, and tells their
-// number.
-fn encode(bytes: &mut [u8], jobs: usize, rows: usize, plan: &mut Sheet) -> Answer
-    requires { ⌜ Some (LaidIn jobs rows (now plan)) ⌝ }
-    ensures { λ r. ⌜ LaidIn jobs rows (before plan)
-        ⇒ (λ p. record { answer = answerOf r; buffer = after bytes } ≡ encoded (ruled p) (before bytes)) ⌝ }
+// Writes the bytes, in a form, of the plan whose jobs and actions the array has, where it keeps its rules and there is room, and
+// tells their number.
+fn encode(form: u32, bytes: &mut [u8], jobs: usize, rows: usize, plan: &mut Sheet) -> Answer
+    requires { ⌜ Some (LaidAs form jobs rows (now plan)) ⌝ }
+    ensures { λ r. ⌜ LaidAs form jobs rows (before plan)
+        ⇒ (λ p. record { answer = answerOf r; buffer = after bytes } ≡ encoded form (ruled form p) (before bytes)) ⌝ }
 {
     let mut entering = [0u8; 2048];
     if !spawn_rules(jobs, rows, plan) {
@@ -58,26 +59,29 @@ fn encode(bytes: &mut [u8], jobs: usize, rows: usize, plan: &mut Sheet) -> Answe
     if !join_rules(jobs, rows, plan, &mut entering) {
         return Answer::Refused(Refusal::Join);
     }
-    if bytes.len() < (plan_bits(jobs, rows, plan) + 7) / 8 {
+    if bytes.len() < (plan_bits(form, jobs, rows, plan) + 7) / 8 {
         return Answer::Refused(Refusal::Short);
     }
-    Answer::Count(write_plan(bytes, jobs, rows, plan))
+    Answer::Count(write_plan(bytes, form, jobs, rows, plan))
 }
 
-// Writes the plan bytes of the plan that an open table holds, and tells the number of bytes.
-pub fn table_to_plan(table: &[u16], bytes: &mut [u8]) -> Answer
-    ensures { λ r. ⌜ record { answer = answerOf r; buffer = now (bytes .exit) } ≡ toPlan (now (table .entry)) (now (bytes .entry)) ⌝ }
+// Writes the bytes, in the form told, of the plan that an open table holds, and tells the number of bytes.
+pub fn table_to_plan(form: u32, table: &[u16], bytes: &mut [u8]) -> Answer
+    ensures { λ r. ⌜ record { answer = answerOf r; buffer = now (bytes .exit) } ≡ toPlan form (now (table .entry)) (now (bytes .entry)) ⌝ }
 {
+    if !is_form(form) {
+        return Answer::Refused(Refusal::Form);
+    }
     if !table_rules(table) {
         return Answer::Refused(Refusal::Table);
     }
-    let rows = table.len() / 4;
+    let rows = table.len() / 5;
     if 2048 < rows {
         return Answer::Refused(Refusal::Range);
     }
     let mut plan = [0u16; PLACES];
-    match take_rows(table, &mut plan) {
+    match take_rows(form, table, &mut plan) {
         Jobs::Refused(cause) => Answer::Refused(cause),
-        Jobs::Count(jobs) => encode(bytes, jobs, rows, &mut plan),
+        Jobs::Count(jobs) => encode(form, bytes, jobs, rows, &mut plan),
     }
 }

@@ -1,4 +1,4 @@
-// The rows of an open table (document 01, "Plan"): their rules, and from rows to a plan and back.
+// The rows of an open table (document 01, "Plan"; document 02, L5): their rules, and from rows to a plan and back.
 ghost use mathlib.Core.Path.{_≡_};
 ghost use Prim.Native.Nat.{_+_, _*_, _/_, _%_, _≤_, _<_};
 ghost use mathlib.Core.List.{_++_};
@@ -8,11 +8,12 @@ ghost use Rattle.plan.specs.Test.{both};
 ghost use Rattle.plan.specs.Contract.{Some, _⇒_, before, after};
 ghost use Rattle.plan.specs.Sheet.{jobAt, Blank};
 ghost use Rattle.plan_table.specs.Table.{tableOf, rowRules, rowsOf};
-ghost use Rattle.plan_table.specs.GivenRows.{RowsGiven, rowOn, withRow, fitsAt, TableKept, RowsTaken, RowTaken, Taken};
+ghost use Rattle.plan_table.specs.GivenRows.{RowsGiven, rowOn, withRow, fitsAt, TableKept, costStands, RowsTaken, RowTaken, Taken};
 use numbers::wide16;
 use plan::refusal::Refusal;
 use plan::sheet::Sheet;
 use plan::sheet::child_at;
+use plan::sheet::cost_at;
 use plan::sheet::first_of;
 use plan::sheet::frame_of;
 use plan::sheet::job_at;
@@ -23,21 +24,22 @@ use plan::sheet::target_at;
 
 // Writes the row of the action at place k.
 fn write_row(k: usize, plan: &Sheet, rows: &mut [u16])
-    requires { ⌜ (k < 2048) × (jobAt (now plan) k < 256) × (4 * k + 4 ≤ length (now rows)) ⌝ }
-    ensures { λ _. ⌜ after rows ≡ withRow (before rows) (4 * k) (rowOn (before plan) k) ⌝ }
+    requires { ⌜ (k < 2048) × (jobAt (now plan) k < 256) × (5 * k + 5 ≤ length (now rows)) ⌝ }
+    ensures { λ _. ⌜ after rows ≡ withRow (before rows) (5 * k) (rowOn (before plan) k) ⌝ }
 {
-    let at = 4 * k;
+    let at = 5 * k;
     let j = job_at(plan, k);
     rows[at] = j as u16;
     rows[at + 1] = frame_of(plan, j) as u16;
     rows[at + 2] = child_at(plan, k) as u16;
     rows[at + 3] = target_at(plan, k) as u16;
+    rows[at + 4] = cost_at(plan, k) as u16;
 }
 
 // Writes the rows of the actions, in plan order.
 pub fn write_rows(actions: usize, plan: &Sheet, rows: &mut [u16])
-    requires { ⌜ Some (RowsGiven actions (now plan)) × (4 * actions ≤ length (now rows)) ⌝ }
-    ensures { λ _. ⌜ RowsGiven actions (before plan) ⇒ (λ p. after rows ≡ tableOf p ++ drop (4 * actions) (before rows)) ⌝ }
+    requires { ⌜ Some (RowsGiven actions (now plan)) × (5 * actions ≤ length (now rows)) ⌝ }
+    ensures { λ _. ⌜ RowsGiven actions (before plan) ⇒ (λ p. after rows ≡ tableOf p ++ drop (5 * actions) (before rows)) ⌝ }
 {
     let mut k = 0;
     while k < actions {
@@ -48,7 +50,7 @@ pub fn write_rows(actions: usize, plan: &Sheet, rows: &mut [u16])
 
 // A row may stand below the row before it.
 fn row_goes_on(table: &[u16], at: usize) -> bool
-    requires { ⌜ (at % 4 ≡ 0) × (at + 4 ≤ length (now table)) ⌝ }
+    requires { ⌜ (at % 5 ≡ 0) × (at + 5 ≤ length (now table)) ⌝ }
     ensures { λ r. ⌜ r ≡ fitsAt (before table) at ⌝ }
 {
     if 256 < table[at + 2] {
@@ -60,7 +62,7 @@ fn row_goes_on(table: &[u16], at: usize) -> bool
     if at == 0 {
         return table[0] == 0;
     }
-    let before = wide16(table[at - 4]);
+    let before = wide16(table[at - 5]);
     let here = wide16(table[at]);
     if here == before + 1 {
         return true;
@@ -68,17 +70,17 @@ fn row_goes_on(table: &[u16], at: usize) -> bool
     if here != before {
         return false;
     }
-    table[at + 1] == table[at - 3]
+    table[at + 1] == table[at - 4]
 }
 
 // The table has whole rows, at least one, and keeps its row rules.
 pub fn table_rules(table: &[u16]) -> bool
-    ensures { λ r. ⌜ r ≡ both (eqb (length (before table) % 4) 0) (rowRules (rowsOf (before table))) ⌝ }
+    ensures { λ r. ⌜ r ≡ both (eqb (length (before table) % 5) 0) (rowRules (rowsOf (before table))) ⌝ }
 {
     if table.len() == 0 {
         return false;
     }
-    if table.len() % 4 != 0 {
+    if table.len() % 5 != 0 {
         return false;
     }
     let mut at = 0;
@@ -86,7 +88,7 @@ pub fn table_rules(table: &[u16]) -> bool
         if !row_goes_on(table, at) {
             return false;
         }
-        at += 4;
+        at += 5;
     }
     true
 }
@@ -97,16 +99,33 @@ pub enum Jobs {
     Count(usize),
 }
 
+// A cost may stand in a table of a form: 1 to 15, and in form 1 no other than 1.
+fn cost_stands(form: u32, cost: u16) -> bool
+    ensures { λ r. ⌜ r ≡ costStands form cost ⌝ }
+{
+    if form == 1 {
+        return cost == 1;
+    }
+    if cost == 0 {
+        return false;
+    }
+    cost <= 15
+}
+
 // Takes row k over into the array, if its numbers and its place in its job are in range. Behind the last job begun the array has
 // the end of the rows taken, so a row that begins a job finds its own place there.
-fn take_row(table: &[u16], k: usize, plan: &mut Sheet) -> bool
-    requires { ⌜ (k < length (now table) / 4) × RowsTaken (now table) k (now plan) ⌝ }
-    ensures { λ r. ⌜ RowTaken (before table) k r (after plan) ⌝ }
+fn take_row(form: u32, table: &[u16], k: usize, plan: &mut Sheet) -> bool
+    requires { ⌜ (k < length (now table) / 5) × RowsTaken form (now table) k (now plan) ⌝ }
+    ensures { λ r. ⌜ RowTaken form (before table) k r (after plan) ⌝ }
 {
-    let at = 4 * k;
+    let at = 5 * k;
     let number = wide16(table[at]);
     let weight = table[at + 1];
+    let cost = table[at + 4];
     if weight == 0 {
+        return false;
+    }
+    if !cost_stands(form, cost) {
         return false;
     }
     if 256 <= number {
@@ -117,22 +136,22 @@ fn take_row(table: &[u16], k: usize, plan: &mut Sheet) -> bool
     }
     set_frame(plan, number, weight);
     set_first(plan, number + 1, k + 1);
-    set_action(plan, k, number, table[at + 2], table[at + 3]);
+    set_action(plan, k, number, table[at + 2], table[at + 3], cost);
     true
 }
 
 // Takes the rows over into the array, and tells how many jobs they have.
-pub fn take_rows(table: &[u16], plan: &mut Sheet) -> Jobs
-    requires { ⌜ TableKept (now table) × (length (now table) / 4 ≤ 2048) × Blank (now plan) ⌝ }
-    ensures { λ r. ⌜ Taken (rowsOf (before table)) r (after plan) ⌝ }
+pub fn take_rows(form: u32, table: &[u16], plan: &mut Sheet) -> Jobs
+    requires { ⌜ TableKept (now table) × (length (now table) / 5 ≤ 2048) × Blank (now plan) ⌝ }
+    ensures { λ r. ⌜ Taken form (rowsOf (before table)) r (after plan) ⌝ }
 {
-    let rows = table.len() / 4;
+    let rows = table.len() / 5;
     let mut k = 0;
     while k < rows {
-        if !take_row(table, k, plan) {
+        if !take_row(form, table, k, plan) {
             return Jobs::Refused(Refusal::Range);
         }
         k += 1;
     }
-    Jobs::Count(wide16(table[4 * rows - 4]) + 1)
+    Jobs::Count(wide16(table[5 * rows - 5]) + 1)
 }

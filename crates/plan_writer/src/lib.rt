@@ -1,6 +1,6 @@
-// Writing plan bytes from a plan that was read or taken over (document 01, "Plan").
+// Writing plan bytes from a plan that was read or taken over (document 01, "Plan"; document 02, L5).
 ghost use mathlib.Core.Path.{_≡_};
-ghost use Prim.Native.Nat.{_^_, _≤_, _<_};
+ghost use Prim.Native.Nat.{ℕ, _^_, _≤_, _<_};
 ghost use mathlib.Core.List.{_++_};
 ghost use lib.ListN.{length, drop};
 ghost use Rattle.fields.specs.Field.{bitsOf, number};
@@ -8,13 +8,14 @@ ghost use Rattle.fields.specs.Sink.{Sound, Room, Put};
 ghost use Rattle.plan.specs.Contract.{Some, _⇒_, before, after};
 ghost use Rattle.plan.specs.Sheet.{PlanIn};
 ghost use Rattle.plan_writer.specs.Writer.{numberBits, planBits, planBytes};
-ghost use Rattle.plan_writer.specs.ActionBits.{Writable, actionBits};
+ghost use Rattle.plan_writer.specs.ActionBits.{Writable, fieldsOf, actionBits};
 ghost use Rattle.plan_writer.specs.Given.{WritesInto};
 use fields::field::Sink;
 use fields::field::finish;
 use fields::field::put;
 use plan::sheet::Sheet;
 use plan::sheet::child_at;
+use plan::sheet::cost_at;
 use plan::sheet::first_of;
 use plan::sheet::frame_of;
 use plan::sheet::job_at;
@@ -42,28 +43,56 @@ fn number_scale(x: usize) -> u64
     if x == 0 { 2 } else { 512 }
 }
 
-// How many bits the plan's fields take.
-pub fn plan_bits(jobs: usize, actions: usize, plan: &Sheet) -> usize
+// How many bits an action takes: its two numbers, and in form 2 four more for its cost.
+fn action_bits(form: u32, child: usize, target: usize) -> usize
+    ensures { λ r. ⌜ ((cost : ℕ) → r ≡ length (fieldsOf form child target cost)) × (r ≤ 22) ⌝ }
+{
+    let numbers = number_bits(child) + number_bits(target);
+    if form == 1 { numbers } else { numbers + 4 }
+}
+
+// Those bits as one field.
+fn action_field(form: u32, child: usize, target: usize, cost: usize) -> u64
+    requires { ⌜ (child ≤ 256) × (target ≤ 256) × (cost < 16) ⌝ }
+    ensures { λ r. ⌜ r ≡ number (fieldsOf form child target cost) ⌝ }
+{
+    let numbers = number_field(child) * number_scale(target) + number_field(target);
+    if form == 1 {
+        numbers
+    } else {
+        16 * numbers + cost as u64
+    }
+}
+
+// How many bits the plan's fields take in a form.
+pub fn plan_bits(form: u32, jobs: usize, actions: usize, plan: &Sheet) -> usize
     requires { ⌜ Some (PlanIn jobs actions (now plan)) ⌝ }
-    ensures { λ r. ⌜ (r < 65536) × (PlanIn jobs actions (before plan) ⇒ (λ p. r ≡ length (planBits p))) ⌝ }
+    ensures { λ r. ⌜ (r < 65536) × (PlanIn jobs actions (before plan) ⇒ (λ p. r ≡ length (planBits form p))) ⌝ }
 {
     let mut bits = 17 + 24 * jobs;
     let mut k = 0;
     while k < actions {
-        bits += number_bits(child_at(plan, k)) + number_bits(target_at(plan, k));
+        bits += action_bits(form, child_at(plan, k), target_at(plan, k));
         k += 1;
     }
     bits
 }
 
-// The two numbers of an action go out as one field: the product and the test of what is held are paid once.
-fn put_numbers(out: &mut [u8], sink: Sink, child: usize, target: usize) -> Sink
-    requires { ⌜ Sound (now out) sink × (child ≤ 256) × (target ≤ 256)
-        × Room (now out) sink (length (numberBits child ++ numberBits target)) ⌝ }
-    ensures { λ r. ⌜ Put (before out) sink (numberBits child ++ numberBits target) (after out) r ⌝ }
+// The two numbers and the cost of an action go out as one field: the product and the test of what is held are paid once.
+fn put_fields(
+    out: &mut [u8],
+    sink: Sink,
+    form: u32,
+    child: usize,
+    target: usize,
+    cost: usize,
+) -> Sink
+    requires { ⌜ Sound (now out) sink × (child ≤ 256) × (target ≤ 256) × (cost < 16)
+        × Room (now out) sink (length (fieldsOf form child target cost)) ⌝ }
+    ensures { λ r. ⌜ Put (before out) sink (fieldsOf form child target cost) (after out) r ⌝ }
 {
-    let value = number_field(child) * number_scale(target) + number_field(target);
-    put(out, sink, value, number_bits(child) + number_bits(target))
+    let value = action_field(form, child, target, cost);
+    put(out, sink, value, action_bits(form, child, target))
 }
 
 // A job's frame and its number of actions, as one field.
@@ -74,24 +103,38 @@ fn put_header(out: &mut [u8], sink: Sink, frame: u32, size: usize) -> Sink
     put(out, sink, 256 * frame as u64 + size as u64, 24)
 }
 
-fn put_action(out: &mut [u8], sink: Sink, k: usize, plan: &Sheet) -> Sink
-    requires { ⌜ Sound (now out) sink × Writable (now plan) k × Room (now out) sink (length (actionBits (now plan) k)) ⌝ }
-    ensures { λ r. ⌜ Put (before out) sink (actionBits (before plan) k) (after out) r ⌝ }
+fn put_action(out: &mut [u8], sink: Sink, form: u32, k: usize, plan: &Sheet) -> Sink
+    requires { ⌜ Sound (now out) sink × Writable (now plan) k × Room (now out) sink (length (actionBits form (now plan) k)) ⌝ }
+    ensures { λ r. ⌜ Put (before out) sink (actionBits form (before plan) k) (after out) r ⌝ }
 {
     let j = job_at(plan, k);
     let start = first_of(plan, j);
     if start == k {
         let s = put_header(out, sink, frame_of(plan, j), first_of(plan, j + 1) - start);
-        return put_numbers(out, s, child_at(plan, k), target_at(plan, k));
+        return put_fields(
+            out,
+            s,
+            form,
+            child_at(plan, k),
+            target_at(plan, k),
+            cost_at(plan, k),
+        );
     }
-    put_numbers(out, sink, child_at(plan, k), target_at(plan, k))
+    put_fields(
+        out,
+        sink,
+        form,
+        child_at(plan, k),
+        target_at(plan, k),
+        cost_at(plan, k),
+    )
 }
 
-// Writes the plan's bytes, and tells how many they are.
-pub fn write_plan(out: &mut [u8], jobs: usize, actions: usize, plan: &Sheet) -> usize
-    requires { ⌜ Some (WritesInto (length (now out)) jobs actions (now plan)) ⌝ }
+// Writes the plan's bytes in a form, and tells how many they are.
+pub fn write_plan(out: &mut [u8], form: u32, jobs: usize, actions: usize, plan: &Sheet) -> usize
+    requires { ⌜ Some (WritesInto (length (now out)) form jobs actions (now plan)) ⌝ }
     ensures { λ r. ⌜ PlanIn jobs actions (before plan)
-        ⇒ (λ p. (r ≡ length (planBytes p)) × (after out ≡ planBytes p ++ drop (length (planBytes p)) (before out))) ⌝ }
+        ⇒ (λ p. (r ≡ length (planBytes form p)) × (after out ≡ planBytes form p ++ drop (length (planBytes form p)) (before out))) ⌝ }
 {
     let mut sink = put(
         out,
@@ -100,13 +143,13 @@ pub fn write_plan(out: &mut [u8], jobs: usize, actions: usize, plan: &Sheet) -> 
             held: 0,
             bits: 0,
         },
-        1,
+        form as u64,
         8,
     );
     sink = put(out, sink, jobs as u64, 9);
     let mut k = 0;
     while k < actions {
-        sink = put_action(out, sink, k, plan);
+        sink = put_action(out, sink, form, k, plan);
         k += 1;
     }
     finish(out, sink)

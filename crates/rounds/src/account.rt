@@ -44,8 +44,8 @@ pub fn opened(n: usize, weight: u32) -> Account
     }
 }
 
-// After the turn of worker w, which did an action and is left as it stands now, and after so many idle turns before it. Both
-// set the count of rounds to this one, so that it does not matter which is counted first.
+// After the turn of worker w, which worked on an action and is left as it stands now, and after so many idle turns before it.
+// Both set the count of rounds to this one, so that it does not matter which is counted first.
 pub fn turned(
     account: Account,
     round: usize,

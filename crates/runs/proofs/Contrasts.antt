@@ -7,6 +7,7 @@
 --        job 2, one, joins position 3; frames 1
 --   L == job 0, four actions, spawns 1 at 1; job 1, one, joins position 3; frames 1
 --   M == job 0, four actions, spawns 1 at 0 and 2 at 1; job 1, one, joins position 3; job 2, two, last joins position 3; frames 1
+--   N == job 0, three actions, of which the first takes three rounds and spawns 1; job 1, one, joins position 2; frames 1
 --   done p s j i == the row of action i of job j
 --   undone rows  == how many actions have no round
 use Prim.Native.Nat.{ℕ, zero, suc}
@@ -22,7 +23,7 @@ use Rattle.runs.specs.Setting.{Setting, setting, countIn}
 use Rattle.runs.specs.Run.{run}
 use Rattle.runs.specs.Misses.{misses}
 use Rattle.runs.specs.Cases.{row}
-use Rattle.courses.proofs.Contrasts.{plain, spawns, joins, of, G}
+use Rattle.courses.proofs.Contrasts.{plain, spawns, joins, taking, of, G}
 
 abbrev H : Plan
 H =
@@ -36,7 +37,7 @@ H =
 abbrev K : Plan
 K =
     of (spawns 1 ∷ plain ∷ plain ∷ plain ∷ [])
-    ∷ of (plain ∷ record { spawn = 3; join = 3 } ∷ plain ∷ joins 3 ∷ [])
+    ∷ of (plain ∷ record { spawn = 3; join = 3; cost = 1 } ∷ plain ∷ joins 3 ∷ [])
     ∷ of (joins 3 ∷ [])
     ∷ []
 
@@ -45,6 +46,9 @@ L = of (plain ∷ spawns 1 ∷ plain ∷ plain ∷ []) ∷ of (joins 3 ∷ []) �
 
 abbrev M : Plan
 M = of (spawns 1 ∷ spawns 2 ∷ plain ∷ plain ∷ []) ∷ of (joins 3 ∷ []) ∷ of (plain ∷ joins 3 ∷ []) ∷ []
+
+abbrev N : Plan
+N = of (taking 3 (spawns 1) ∷ plain ∷ plain ∷ []) ∷ of (joins 2 ∷ []) ∷ []
 
 pub H-accepted : Accepted H
 unfolding inRange spawnRules joinRules entering spawnAt
@@ -61,6 +65,10 @@ L-accepted = record { range = tt; spawns = tt; joins = tt }
 pub M-accepted : Accepted M
 unfolding inRange spawnRules joinRules entering spawnAt
 M-accepted = record { range = tt; spawns = tt; joins = tt }
+
+pub N-accepted : Accepted N
+unfolding inRange spawnRules joinRules entering spawnAt
+N-accepted = record { range = tt; spawns = tt; joins = tt }
 
 abbrev G-run : State
 G-run = run (setting G 2 (0 ∷ []))
@@ -82,6 +90,9 @@ G-given = run (setting G 3 (0 ∷ 1 ∷ 1 ∷ []))
 
 abbrev M-run : State
 M-run = run (setting M 3 (0 ∷ 0 ∷ 1 ∷ 0 ∷ 1 ∷ []))
+
+abbrev N-run : State
+N-run = run (setting N 2 (0 ∷ []))
 
 abbrev done : Plan → State → ℕ → ℕ → Row
 done p s j i = getD (s .rows) (place p j i) noRow
@@ -157,3 +168,18 @@ idle-before-given = refl
 pub missed-once : misses G-all-ask-0 ≡ 1
 unfolding misses countIn work
 missed-once = refl
+
+-- job 0's first action takes rounds 1 to 3: job 1 is spawned in round 3 and does its action in round 4
+pub effect-in-last-round : done N N-run 1 0 ≡ row 4 0
+unfolding run countIn work
+effect-in-last-round = refl
+
+-- its row is its last round
+pub row-of-last-round : done N N-run 0 0 ≡ row 3 0
+unfolding run countIn work
+row-of-last-round = refl
+
+-- each of its rounds is a worked turn
+pub turns-worked : N-run .tally .actions ≡ 6
+unfolding run countIn work
+turns-worked = refl

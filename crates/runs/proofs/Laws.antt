@@ -2,6 +2,7 @@
 pub mod Fit
 pub mod Admitted
 pub mod Start
+pub mod Turns
 pub mod Least
 pub mod Picks
 pub mod Lined
@@ -12,6 +13,7 @@ pub mod ServeSound
 pub mod Sound
 pub mod Deques
 pub mod Rests
+pub mod Steady
 pub mod Rounds
 pub mod Coursed
 pub mod Tallies

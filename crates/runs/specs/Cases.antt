@@ -9,7 +9,7 @@ use lib.Dec.{eqb}
 use Rattle.plan.specs.Refusal.{Outcome, refused, accepted}
 use Rattle.plan.specs.Test.{both, all}
 use Rattle.plan.specs.Plan.{Plan}
-use Rattle.plan.specs.Reader.{readPlan}
+use Rattle.plan.specs.Reader.{Read, readPlan}
 use Rattle.plan_measure.specs.Measure.{longest, heaviest}
 use Rattle.courses.specs.Row.{Row}
 use Rattle.runs.specs.State.{State}
@@ -56,10 +56,10 @@ sameRows [] (b ∷ bs) = false
 sameRows (a ∷ l) [] = false
 sameRows (a ∷ l) (b ∷ bs) = both (both (eqb (a .round) (b .round)) (eqb (a .worker) (b .worker))) (sameRows l bs)
 
-abbrev pub counted : Outcome Plan → Outcome State → List Told → Bool
+abbrev pub counted : Outcome Read → Outcome State → List Told → Bool
 counted (refused k) o told = false
-counted (accepted p) (refused k) told = false
-counted (accepted p) (accepted s) told = all (λ t. eqb (valueOf (t .count) p s) (t .value)) told
+counted (accepted r) (refused k) told = false
+counted (accepted r) (accepted s) told = all (λ t. eqb (valueOf (t .count) (r .plan) s) (t .value)) told
 
 abbrev pub rowed : Outcome State → List Row → Bool
 rowed (refused k) rows = false
@@ -153,4 +153,50 @@ worked =
     record { plan = E; workers = 2; choices = 0 ∷ 1 ∷ []; answer = counts (is steals 1 ∷ is bare 1 ∷ is idle-victim 1 ∷ []) }
     ∷ record { plan = F; workers = 2; choices = 0 ∷ []; answer = counts (is steals 1 ∷ is bare 3 ∷ is idle-victim 0 ∷ []) }
     ∷ record { plan = F; workers = 3; choices = 0 ∷ []; answer = counts (is steals 1 ∷ is bare 4 ∷ is idle-victim 0 ∷ []) }
+    ∷ []
+
+-- document 02, L5: E in form 2, with the costs 2 1 3 1 2 of job 0, 4 1 of job 1 and 5 of job 2
+unfoldable pub E2 : List ℕ
+E2 =
+    0x02 ∷ 0x01 ∷ 0x80 ∷ 0x02 ∷ 0x02 ∷ 0xC0 ∷ 0x44 ∷ 0x0C ∷ 0x08 ∷ 0x60 ∷ 0x84 ∷ 0x00 ∷ 0x06 ∷ 0x04 ∷ 0x22 ∷ 0x08 ∷ 0x20 ∷ 0x00 ∷ 0x40 ∷ 0x28 ∷ 0x22 ∷ 0x80 ∷ []
+
+-- one job of one action, which takes three rounds
+unfoldable pub one-of-3 : List ℕ
+one-of-3 = 0x02 ∷ 0x00 ∷ 0x80 ∷ 0x00 ∷ 0x80 ∷ 0x86 ∷ []
+
+-- the schedule of the run of E2 by two workers below, in which 0.3 (round 9) is given to worker 1, which works on 2.0 from round 8 to 12
+unfoldable pub E2-schedule-clash : List ℕ
+E2-schedule-clash =
+    0x02 ∷ 0x10 ∷ 0x04 ∷ 0x00 ∷ 0x00 ∷ 0x02 ∷ 0x00 ∷ 0x00 ∷ 0x41 ∷ 0x00 ∷ 0x07 ∷ 0x10 ∷ 0x00 ∷ 0x91 ∷ 0x00 ∷ 0x0E ∷ 0x10 ∷ 0x00 ∷ 0x60 ∷ 0x00 ∷ 0x07 ∷ 0x00 ∷ 0x00 ∷ 0xC1 ∷ []
+
+unfoldable pub costed : List Case
+unfolding E2 one-of-3 E2-schedule-clash
+costed =
+    record { plan = one-of-3; workers = 1; choices = []; answer = counts (is rounds 3 ∷ is actions 3 ∷ is longest′ 3 ∷ is idle 0 ∷ []) }
+    ∷ record {
+      plan = E2;
+      workers = 1;
+      choices = [];
+      answer = counts (is rounds 19 ∷ is actions 19 ∷ is longest′ 13 ∷ is path 7 ∷ is peak 7 ∷ is idle 0 ∷ []);
+    }
+    ∷ record {
+      plan = E2;
+      workers = 2;
+      choices = 0 ∷ 1 ∷ [];
+      answer =
+          with-rows
+          (is rounds 14
+          ∷ is actions 19
+          ∷ is longest′ 13
+          ∷ is path 7
+          ∷ is peak 7
+          ∷ is idle 9
+          ∷ is requests 8
+          ∷ is steals 2
+          ∷ is bare 3
+          ∷ is idle-victim 3
+          ∷ [])
+          (row 2 0 ∷ row 4 1 ∷ row 7 1 ∷ row 9 0 ∷ row 14 1 ∷ row 6 0 ∷ row 7 0 ∷ row 12 1 ∷ []);
+    }
+    ∷ record { plan = E2; workers = 2; choices = 0 ∷ 1 ∷ []; answer = schedule E2-schedule-clash 12 }
     ∷ []

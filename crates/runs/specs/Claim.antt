@@ -1,6 +1,6 @@
 -- What demand 3 says: one claim about a whole run, from its start to its end, and with it the sums that the run's counts keep.
 --   Bounds S rows t      == the claim, said of any rows and any tally for the setting S, and of the last state of its run
---   Bounded S schedule t == the same of the rows that are read off a schedule's bytes, and a tally
+--   Bounded S form schedule t == the same of the rows that are read off the bytes of a schedule of that form, and a tally
 --   Claim S              == it holds of the rows and the tally of the run of S
 --   Demand3              == for all accepted plan bytes, all worker counts 1 to 16 and all accepted lists of choices
 --   EveryOrder           == for every order of steals: lists of choices of any length, whose entries name workers
@@ -11,8 +11,8 @@ use lib.ListN.{take, getD}
 use lib.Dec.{T, ltb}
 use Rattle.plan.specs.Refusal.{accepted}
 use Rattle.plan.specs.Test.{all}
-use Rattle.plan.specs.Plan.{Plan, size, total}
-use Rattle.plan.specs.Reader.{readPlan}
+use Rattle.plan.specs.Plan.{size, total}
+use Rattle.plan.specs.Reader.{Read, readPlan}
 use Rattle.plan_measure.specs.Measure.{work, longest, heaviest}
 use Rattle.runs.specs.declared.tally.Tally.{Tally}
 use Rattle.courses.specs.Row.{Row, noRow, place}
@@ -21,7 +21,7 @@ use Rattle.runs.specs.State.{nextOf}
 use Rattle.runs.specs.Steal.{waiting}
 use Rattle.runs.specs.Run.{run, workersFit, choicesFit}
 use Rattle.runs.specs.Misses.{misses}
-use Rattle.courses.specs.Schedule.{readSchedule}
+use Rattle.courses.specs.Schedule.{scheduleLength, readSchedule}
 use Rattle.courses.specs.Living.{weightAfter, peakOf, lastRound}
 
 module _ (S : Setting) where
@@ -46,7 +46,7 @@ module _ (S : Setting) where
     pub peak : t .peak ≡ peakOf plan rows
     pub below-peak : (r w : ℕ) → weightAfter plan rows r w ≤ t .peak
     pub rounds : t .rounds ≡ lastRound rows
-    -- T1 turns did an action, and "P × rounds = actions + idle turns"
+    -- in T1 turns an action was worked on, and "P × rounds = actions + idle turns"
     pub actions : t .actions ≡ work plan
     pub turns : workers * t .rounds ≡ t .actions + t .idle
     -- "requests = steals + misses + requests still waiting", as the run ends; document 02, L2, of bare and idle-victim: "Their sum is the
@@ -54,10 +54,10 @@ module _ (S : Setting) where
     pub requests : t .requests ≡ t .steals + t .bare + t .«idle_victim» + waiting workers (run S .workers)
     pub misses-split : t .bare + t .«idle_victim» ≡ misses S
 
-  -- the first 4 + 2 × actions bytes are a schedule of P workers for the plan, and the bounds hold of its rows with the tally
-  pub record Bounded (schedule : List ℕ) (t : Tally) : Type 0 where
+  -- the first bytes are a schedule of P workers for the plan, and the bounds hold of its rows with the tally
+  pub record Bounded (form : ℕ) (schedule : List ℕ) (t : Tally) : Type 0 where
     pub rows : List Row
-    pub read : readSchedule (take (4 + 2 * total plan) schedule) (total plan) ≡ accepted (record { workers = workers; rows = rows })
+    pub read : readSchedule form (take (scheduleLength form (total plan)) schedule) (total plan) ≡ accepted (record { workers = workers; rows = rows })
     pub bounds : Bounds rows t
 
   abbrev pub Claim : Type 0
@@ -65,12 +65,12 @@ module _ (S : Setting) where
 
 abbrev pub Demand3 : Type 0
 Demand3 =
-    (s : List ℕ) (p : Plan) (n : ℕ) (choices : List ℕ) → readPlan s ≡ accepted p → T (workersFit n) → T (choicesFit n choices)
-    → Claim (setting p n choices)
+    (s : List ℕ) (r : Read) (n : ℕ) (choices : List ℕ) → readPlan s ≡ accepted r → T (workersFit n) → T (choicesFit n choices)
+    → Claim (setting (r .plan) n choices)
 
 -- An entry takes at most 4,096 choices and reads them again from the first once they are used up. A run lays finitely many requests,
 -- so a list that is long enough names any victims that anybody may choose, one after the other, as the run goes on.
 abbrev pub EveryOrder : Type 0
 EveryOrder =
-    (s : List ℕ) (p : Plan) (n : ℕ) (choices : List ℕ) → readPlan s ≡ accepted p → T (workersFit n) → T (all (λ c. ltb c n) choices)
-    → Claim (setting p n choices)
+    (s : List ℕ) (r : Read) (n : ℕ) (choices : List ℕ) → readPlan s ≡ accepted r → T (workersFit n) → T (all (λ c. ltb c n) choices)
+    → Claim (setting (r .plan) n choices)

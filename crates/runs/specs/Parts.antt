@@ -1,4 +1,5 @@
 -- Parts of a turn and of a service, by name. Proofs and private contracts cite them; no promise of a public entry does.
+--   freshOf s j      == the rounds spent on each job's next action once job j's is done
 --   afterOf s j      == how many actions of each job are done once job j has done its next one
 --   aboveOf p s w j  == worker w's deque after rule 1
 --   pickOf S r v ws  == whose request victim v serves in round r: the worker's number plus 1, or 0
@@ -17,6 +18,9 @@ use Rattle.runs.specs.Steal.{oldest}
 
 abbrev pub afterOf : State → ℕ → List ℕ
 afterOf s j = set (s .next) j (suc (nextOf s j))
+
+abbrev pub freshOf : State → ℕ → List ℕ
+freshOf s j = set (s .spent) j 0
 
 abbrev pub aboveOf : Plan → State → ℕ → ℕ → List ℕ
 aboveOf p s w j = woken (wakes p (s .next) (afterOf s j) j (nextOf s j)) (parent p j) (dequeOf s w)

@@ -11,7 +11,7 @@ use lib.Dec.{leb, ltb}
 use Rattle.plan.specs.Test.{both, either, all}
 use Rattle.plan.specs.Refusal.{Outcome, refused, accepted}
 use Rattle.plan.specs.Plan.{Plan, size}
-use Rattle.plan.specs.Reader.{readPlan}
+use Rattle.plan.specs.Reader.{Read, readPlan}
 use Rattle.plan_measure.specs.Measure.{work}
 use Rattle.runs.specs.Setting.{Setting, setting, countIn}
 use Rattle.runs.specs.State.{State, nextOf, start}
@@ -50,13 +50,13 @@ unfoldable pub choicesFit : ℕ → List ℕ → Bool
 choicesFit n choices =
     both (all (λ c. ltb c n) choices) (both (leb (length choices) 4096) (either (leb n 1) (leb 1 (length choices))))
 
-unfoldable pub admitted : Outcome Plan → ℕ → List ℕ → Outcome State
+unfoldable pub admitted : Outcome Read → ℕ → List ℕ → Outcome State
 unfolding run workersFit choicesFit
 admitted (refused k) n choices = refused k
-admitted (accepted p) n choices =
+admitted (accepted r) n choices =
     elim (workersFit n) [
       | false ↦ refused 7
-      | true ↦ elim (choicesFit n choices) [ false ↦ refused 8 | true ↦ accepted (run (setting p n choices)) ]
+      | true ↦ elim (choicesFit n choices) [ false ↦ refused 8 | true ↦ accepted (run (setting (r .plan) n choices)) ]
     ]
 
 unfoldable pub runOf : List ℕ → ℕ → List ℕ → Outcome State

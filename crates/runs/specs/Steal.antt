@@ -27,6 +27,7 @@ laid S r w s =
     let choices = S .choices in
     record {
       next = s .next;
+      spent = s .spent;
       workers = set (s .workers) w (Waiting (getD choices ((t .requests) % length choices) 0) r);
       deques = s .deques;
       rows = s .rows;
@@ -97,6 +98,7 @@ unfoldable pub given : ℕ → ℕ → Taken → State → State
 given v w taken s =
     record {
       next = s .next;
+      spent = s .spent;
       workers = set (s .workers) w (thief taken);
       deques = set (s .deques) v (dropTop (dequeOf s v));
       rows = s .rows;

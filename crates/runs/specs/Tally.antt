@@ -2,7 +2,7 @@
 -- `noCounts` and in the updates below; beside them a tally is written out in `recounted` and `withMiss` (`turns` S/Count) alone, for
 -- several idle turns at once and for a miss of either kind.
 --   noCounts frame        == the counts as a run begins, where job 0 has that frame
---   withAction t r weight == after a turn of round r that did an action, after which the living frames weigh `weight`
+--   withAction t r weight == after a turn of round r in which an action was worked on, after which the living frames weigh `weight`
 --   withIdle t r          == after a turn of round r of a worker that held nothing when the round began
 --   withRequest t         == after a request
 --   withSteal t           == after a service that gave the top job of the victim's deque

@@ -1,4 +1,5 @@
 -- What the entry `run` answers and leaves in the lent schedule (document 01, "Turned down").
+--   readInto x n choices schedule     == the same of what was read
 --   runInto plan n choices schedule   == the tally and the schedule's bytes, or the refusal: 1 to 6, then 7, 8, 9
 --   Claimed plan n choices r schedule == demand 3's claim and the sums, of what was returned and written
 --   ranOf r                           == the outcome that an answer stands for
@@ -9,14 +10,13 @@ use mathlib.Core.List.{List, _++_}
 use lib.ListN.{length, drop}
 use lib.Dec.{leb}
 use Rattle.plan.specs.Refusal.{Outcome, refused, accepted, numberOf}
-use Rattle.plan.specs.Plan.{Plan}
-use Rattle.plan.specs.Reader.{readPlan}
+use Rattle.plan.specs.Reader.{Read, readPlan}
 use Rattle.runs.specs.declared.tally.Tally.{Tally}
 use Rattle.scheduler.specs.declared.run.Ran.{Ran}
 use Rattle.scheduler.specs.declared.run.Ran.the-variants.{Refused, Done}
 use Rattle.runs.specs.State.{State}
 use Rattle.runs.specs.Setting.{setting}
-use Rattle.runs.specs.Run.{runOf}
+use Rattle.runs.specs.Run.{admitted}
 use Rattle.courses.specs.Schedule.{scheduleBytes}
 use Rattle.runs.specs.Claim.{Bounded}
 
@@ -24,22 +24,28 @@ pub record Result : Type 0 where
   pub answer : Outcome Tally
   pub schedule : List ℕ
 
--- 9 where the schedule is longer than its buffer; "On success, bytes .. beyond the output keep what they held."
-unfoldable pub resulted : Outcome State → ℕ → List ℕ → Result
+-- a schedule of that form; 9 where it is longer than its buffer; "On success, bytes .. beyond the output keep what they held."
+unfoldable pub resulted : ℕ → Outcome State → ℕ → List ℕ → Result
 unfolding scheduleBytes
-resulted (refused k) n schedule = record { answer = refused k; schedule = schedule }
-resulted (accepted s) n schedule =
-    elim (leb (length (scheduleBytes n (s .rows))) (length schedule)) [
+resulted form (refused k) n schedule = record { answer = refused k; schedule = schedule }
+resulted form (accepted s) n schedule =
+    elim (leb (length (scheduleBytes form n (s .rows))) (length schedule)) [
       | false ↦ record { answer = refused 9; schedule = schedule }
       | true ↦ record {
         answer = accepted (s .tally);
-        schedule = scheduleBytes n (s .rows) ++ drop (length (scheduleBytes n (s .rows))) schedule;
+        schedule = scheduleBytes form n (s .rows) ++ drop (length (scheduleBytes form n (s .rows))) schedule;
       }
     ]
 
+-- document 02, L5: "A run writes the schedule in its plan's form."
+unfoldable pub readInto : Outcome Read → ℕ → List ℕ → List ℕ → Result
+unfolding resulted admitted
+readInto (refused k) n choices schedule = record { answer = refused k; schedule = schedule }
+readInto (accepted x) n choices schedule = resulted (x .form) (admitted (accepted x) n choices) n schedule
+
 unfoldable pub runInto : List ℕ → ℕ → List ℕ → List ℕ → Result
-unfolding resulted runOf
-runInto plan n choices schedule = resulted (runOf plan n choices) n schedule
+unfolding readInto readPlan
+runInto plan n choices schedule = readInto (readPlan plan) n choices schedule
 
 abbrev pub ranOf : Ran → Outcome Tally
 ranOf (Refused cause) = refused (numberOf cause)
@@ -48,4 +54,4 @@ ranOf (Done t) = accepted t
 -- where the run was done, the plan was accepted, and the claim holds of the rows read off the schedule, with the tally
 abbrev pub Claimed : List ℕ → ℕ → List ℕ → Ran → List ℕ → Type 0
 Claimed plan n choices r schedule =
-    (t : Tally) → r ≡ Done t → (p : Plan) × (readPlan plan ≡ accepted p) × Bounded (setting p n choices) schedule t
+    (t : Tally) → r ≡ Done t → (x : Read) × (readPlan plan ≡ accepted x) × Bounded (setting (x .plan) n choices) (x .form) schedule t

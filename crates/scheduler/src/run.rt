@@ -1,10 +1,11 @@
-// A whole run (document 01, "Worker and round" and "Turned down").
+// A whole run (document 01, "Worker and round" and "Turned down"; document 02, L5).
 ghost use mathlib.Core.Path.{_≡_};
 ghost use Rattle.plan.specs.Contract.{Some, _⇒_, before, after};
 ghost use Rattle.runs.specs.Run.{choicesFit};
 ghost use Rattle.scheduler.specs.Entry.{runInto, ranOf, Claimed};
-ghost use Rattle.scheduler.specs.RunRead.{RunIn, Answered};
+ghost use Rattle.scheduler.specs.RunRead.{RunsIn, Answered};
 ghost use Rattle.scheduler.specs.Choices.{largestOf};
+use crate::length::schedule_length;
 use crate::write::write_header;
 use crate::write::write_rows;
 use numbers::larger8;
@@ -49,8 +50,9 @@ fn choices_fit(choices: &[u8], n: usize) -> bool
     wide8(largest(choices)) < n
 }
 
-// Runs the plan that the array holds and writes its schedule. `entering` has how many joins enter each action.
+// Runs the plan that the array holds and writes its schedule in that form. `entering` has how many joins enter each action.
 pub fn run_read(
+    form: u32,
     actions: usize,
     workers: u32,
     choices: &[u8],
@@ -58,9 +60,9 @@ pub fn run_read(
     entering: &[u8; 2048],
     schedule: &mut [u8],
 ) -> Ran
-    requires { ⌜ Some (RunIn actions (now plan) (now entering)) ⌝ }
-    ensures { λ r. ⌜ RunIn actions (before plan) (before entering)
-        ⇒ Answered workers (before choices) (before schedule) r (after schedule) ⌝ }
+    requires { ⌜ Some (RunsIn form actions (now plan) (now entering)) ⌝ }
+    ensures { λ r. ⌜ RunsIn form actions (before plan) (before entering)
+        ⇒ Answered form workers (before choices) (before schedule) r (after schedule) ⌝ }
 {
     if workers == 0 {
         return Ran::Refused(Refusal::Workers);
@@ -72,13 +74,13 @@ pub fn run_read(
     if !choices_fit(choices, n) {
         return Ran::Refused(Refusal::Choices);
     }
-    if schedule.len() < 4 + 2 * actions {
+    if schedule.len() < schedule_length(form, actions) {
         return Ran::Refused(Refusal::Short);
     }
     let mut rows = [0u32; 2048];
     let t = run_rounds(n, actions, choices, plan, entering, &mut rows);
-    write_header(schedule, n, actions);
-    write_rows(&mut schedule[4..], actions, &rows);
+    write_header(schedule, form, n, actions);
+    write_rows(&mut schedule[4..], form, actions, &rows);
     Ran::Done(t)
 }
 
@@ -92,13 +94,10 @@ pub fn run(plan: &[u8], workers: u32, choices: &[u8], schedule: &mut [u8]) -> Ra
     let mut entering = [0u8; 2048];
     match read_into(plan, &mut sheet, &mut entering) {
         Found::Refused(cause) => Ran::Refused(cause),
-        Found::Plan { jobs: _, actions } => run_read(
+        Found::Plan {
+            form,
+            jobs: _,
             actions,
-            workers,
-            choices,
-            &sheet,
-            &entering,
-            schedule,
-        ),
+        } => run_read(form, actions, workers, choices, &sheet, &entering, schedule),
     }
 }

@@ -5,5 +5,6 @@ pub mod Weights
 pub mod Held
 pub mod Sending
 pub mod Settling
+pub mod Spending
 pub mod Rows
 pub mod TallyCell

@@ -3,12 +3,12 @@
 --                      at stage g of round r, where b are the workers as the round began
 --   Moment, At      == a setting, a round, the workers as it began and a state; the state is that of a run at a stage
 --   Held            == at moment m worker w holds job j, whose next action stands at place k
---   Sending         == .. and the arrays stand for m
+--   Sending         == .. and the arrays stand for m, but that no round is spent on job j's next action any more
 --   Acting          == .. and so does the weight of the living frames
 --   Sent            == the action is counted and rule 1 followed
 --   Settling        == Held and Sent, the weight is that of the living frames at m, and the action spawned none
 --   After           == the arrays stand for the state t of a run of p, and the answer `after` for its worker w and living frames
---   Acted           == .. where t is the state after the turn of worker w, which holds job j
+--   Acted           == .. where t is the state after a turn in which worker w, which holds job j, finishes its next action
 --   Turning         == at moment m worker w, which holds a job, is about to take its turn; the arrays stand for m
 --   TurnTaken       == they stand for the state after it
 use Prim.Native.Nat.{ℕ, _≤_, _<_}
@@ -26,10 +26,10 @@ use Rattle.runs.specs.declared.worker.Worker.{Worker}
 use Rattle.runs.specs.declared.worker.Worker.the-variants.{Holding}
 use Rattle.runs.specs.Setting.{Setting}
 use Rattle.runs.specs.State.{State, nextOf, workerOf, holds}
-use Rattle.runs.specs.Turn.{turn, turnOf}
+use Rattle.runs.specs.Turn.{finished, turnOf}
 use Rattle.runs.specs.Run.{choicesFit}
 use Rattle.runs.specs.Trace.{Stage, turning, Trace}
-pub use Rattle.runs.specs.Parts.{afterOf, aboveOf}
+pub use Rattle.runs.specs.Parts.{afterOf, freshOf, aboveOf}
 use Rattle.deques.specs.Dequed.{Dequed}
 use Rattle.turns.specs.declared.turn.Turned.{Turned}
 use Rattle.turns.specs.Progress.{Progressed}
@@ -60,7 +60,7 @@ pub record Held (k j w : ℕ) (plan : List ℕ) (m : Moment) : Type 0 where
 
 pub record Sending (k j w : ℕ) (plan progress deques : List ℕ) (m : Moment) : Type 0 where
   pub held : Held k j w plan m
-  pub progressed : Progressed (m .setting .plan) (m .state .next) progress
+  pub progressed : Progressed (m .setting .plan) (m .state .next) (freshOf (m .state) j) progress
   pub dequed : Dequed deques (m .state .deques)
 
 pub record Acting (k j w weighs : ℕ) (plan progress deques : List ℕ) (m : Moment) : Type 0 where
@@ -68,7 +68,7 @@ pub record Acting (k j w weighs : ℕ) (plan progress deques : List ℕ) (m : Mo
   pub weighed : weighs ≡ weight (m .setting .plan) (m .state .next)
 
 pub record Sent (j w : ℕ) (progress deques : List ℕ) (m : Moment) : Type 0 where
-  pub progressed : Progressed (m .setting .plan) (afterOf (m .state) j) progress
+  pub progressed : Progressed (m .setting .plan) (afterOf (m .state) j) (freshOf (m .state) j) progress
   pub dequed : Dequed deques (set (m .state .deques) w (aboveOf (m .setting .plan) (m .state) w j))
 
 pub record Settling (k j w weighs : ℕ) (plan progress deques : List ℕ) (m : Moment) : Type 0 where
@@ -80,12 +80,12 @@ pub record Settling (k j w weighs : ℕ) (plan progress deques : List ℕ) (m : 
 pub record After (w : ℕ) (after : Turned) (progress deques : List ℕ) (p : Plan) (t : State) : Type 0 where
   pub worker : after .worker ≡ workerOf t w
   pub weighed : after .weight ≡ weight p (t .next)
-  pub progressed : Progressed p (t .next) progress
+  pub progressed : Progressed p (t .next) (t .spent) progress
   pub dequed : Dequed deques (t .deques)
 
 abbrev pub Acted : ℕ → ℕ → Turned → List ℕ → List ℕ → Moment → Type 0
 Acted j w after progress deques m =
-    After w after progress deques (m .setting .plan) (turn (m .setting .plan) (m .round) w j (m .state))
+    After w after progress deques (m .setting .plan) (finished (m .setting .plan) (m .round) w j (m .state))
 
 pub record Turning (x : Worker) (r w weighs : ℕ) (plan progress deques rows : List ℕ) (m : Moment) : Type 0 where
   pub run : At (turning w) m
@@ -95,7 +95,7 @@ pub record Turning (x : Worker) (r w weighs : ℕ) (plan progress deques rows : 
   pub holding : holds x ≡ true
   pub weighed : weighs ≡ weight (m .setting .plan) (m .state .next)
   pub planned : Planned plan (m .setting .plan)
-  pub progressed : Progressed (m .setting .plan) (m .state .next) progress
+  pub progressed : Progressed (m .setting .plan) (m .state .next) (m .state .spent) progress
   pub dequed : Dequed deques (m .state .deques)
   pub rowed : Rowed (m .setting .plan) (m .state) rows
 

@@ -27,7 +27,7 @@ pub fn no_counts(frame: u32) -> Tally
     }
 }
 
-// A turn that did an action; `weight` is that of the living frames after it.
+// A turn in which an action was worked on; `weight` is that of the living frames after it.
 fn with_action(t: Tally, round: u32, weight: u32) -> Tally
     requires { ⌜ Countable t ⌝ }
     ensures { λ r. ⌜ r ≡ withAction t round weight ⌝ }
@@ -98,7 +98,7 @@ fn count_idles(t: &mut Tally, round: u32, turns: u32)
     *t = with_idles(*t, round, turns);
 }
 
-// The tally after a turn that did an action.
+// The tally after a turn in which an action was worked on.
 pub fn acted(t: Tally, round: usize, weight: u32) -> Tally
     requires { ⌜ (round < 4294967296) × Countable t ⌝ }
     ensures { λ r. ⌜ r ≡ withAction t round weight ⌝ }

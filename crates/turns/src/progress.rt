@@ -1,14 +1,19 @@
-// The progress of a run as one array: from 0 on how many actions of each of 256 jobs are done, and from 512 on how many joins each of
-// 2,048 actions misses. The 256 places from 256 on are left for the rounds spent on a job's next action: nothing reads or writes
-// them yet.
+// The progress of a run as one array: from 0 on how many actions of each of 256 jobs are done, from 256 on how many rounds were spent on
+// each job's next action, and from 512 on how many joins each of 2,048 actions misses.
 ghost use mathlib.Core.Path.{_≡_};
 ghost use mathlib.Core.Logic.{_≢_};
-ghost use Prim.Native.Nat.{_-_, _<_};
+ghost use Prim.Native.Nat.{_-_, _≤_, _<_};
 ghost use Rattle.plan.specs.Contract.{before, after};
-ghost use Rattle.turns.specs.Progress.{doneOf, withDone, missingAt, withMissing};
+ghost use Rattle.turns.specs.Progress.{doneOf, withDone, spentAt, Spent, missingAt, withMissing};
+ghost use Rattle.plan.specs.Sheet.{costAt};
+use numbers::byte;
 use numbers::wide8;
+use plan::sheet::Sheet;
+use plan::sheet::cost_at;
 
 pub type Progress = [u8; 2560];
+
+const SPENT: usize = 256;
 
 const MISSING: usize = 512;
 
@@ -26,6 +31,25 @@ pub fn count_done(progress: &mut Progress, j: usize)
     ensures { λ _. ⌜ after progress ≡ withDone (before progress) j ⌝ }
 {
     progress[j] = progress[j] + 1;
+}
+
+// Spends a round on the action at place k, the next one of job j: whether it goes on after this round. Where an action takes one round,
+// none is ever noted.
+pub fn spend(progress: &mut Progress, j: usize, k: usize, plan: &Sheet) -> bool
+    requires { ⌜ (j < 256) × (k < 2048) × (spentAt (now progress) j < costAt (now plan) k) × (costAt (now plan) k ≤ 15) ⌝ }
+    ensures { λ r. ⌜ Spent j k (before plan) (before progress) r (after progress) ⌝ }
+{
+    let cost = cost_at(plan, k);
+    if cost == 1 {
+        return false;
+    }
+    let spent = wide8(progress[SPENT + j]) + 1;
+    if spent < cost {
+        progress[SPENT + j] = byte(spent);
+        return true;
+    }
+    progress[SPENT + j] = 0;
+    false
 }
 
 // How many joins the action at place k misses.

@@ -14,7 +14,7 @@ pub fn row_at(rows: &Rows, k: usize) -> u32
     rows[k]
 }
 
-// The action at place k was done in such a round by worker w.
+// Worker w did the action at place k, whose last round is this one.
 pub fn set_row(rows: &mut Rows, k: usize, round: usize, w: usize)
     requires { ⌜ (k < 2048) × (round < 65536) × (w < 16) ⌝ }
     ensures { λ _. ⌜ after rows ≡ withRow (before rows) k round w ⌝ }

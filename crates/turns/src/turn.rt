@@ -1,10 +1,11 @@
-// A worker's turn (document 01, "Worker and round", rules 1 to 3), with its row of the schedule.
+// A worker's turn (document 01, "Worker and round", rules 1 to 3; document 02, L5), with its row of the schedule.
 ghost use Rattle.plan.specs.Contract.{Some, _⇒_, before, after};
 ghost use Rattle.turns.specs.Moments.{Sending, Acting, Sent, Settling, Acted, Turning, TurnTaken};
 use crate::progress::Progress;
 use crate::progress::count_done;
 use crate::progress::done_of;
 use crate::progress::missing_at;
+use crate::progress::spend;
 use crate::progress::take_join;
 use crate::rows::Rows;
 use crate::rows::set_row;
@@ -132,6 +133,9 @@ pub fn turn(
     };
     let j = wide8(held);
     let k = first_of(plan, j) + done_of(progress, j);
+    if spend(progress, j, k, plan) {
+        return Turned { worker, weight };
+    }
     set_row(rows, k, round, w);
     act(k, j, w, weight, plan, progress, deques)
 }

@@ -11,11 +11,11 @@ use lib.ListN.{length, getD}
 use lib.Dec.{ltb}
 use Rattle.plan.specs.Refusal.{Outcome, refused, accepted}
 use Rattle.plan.specs.Plan.{Plan}
-use Rattle.plan.specs.Reader.{readPlan}
+use Rattle.plan.specs.Reader.{readPlan, Read}
 use Rattle.plan.proofs.Laws.Accepted.{accepted-kept}
 use Rattle.plan.proofs.Laws.Outcomes.{refused-accepted}
 use Rattle.plan_measure.specs.declared.Measures.{Measures}
-use Rattle.plan_measure.specs.Measure.{work, longest, heaviest}
+use Rattle.plan_measure.specs.Measure.{work, longest, heaviest, measuresOf}
 use Rattle.runs.specs.Setting.{Setting, setting}
 use Rattle.runs.specs.Run.{run, admitted, runOf}
 use Rattle.runs.proofs.Laws.Fit.{Fit}
@@ -29,7 +29,8 @@ use Rattle.build.specs.Build.{countsOf, ranWith, choiceCount, planIn, ch
 use Rattle.build.proofs.Laws.Builds.{counted}
 
 counts-bounded : {S : Setting} → Fit S
-    → CountBounds S (counted (run S .tally) (record { actions = work (S .plan); longest = longest (S .plan); path = heaviest (S .plan) }))
+    → CountBounds S (counted (run S .tally) (measuresOf (S .plan)))
+unfolding measuresOf
 counts-bounded {S} fit =
     let b = run-bounds fit in
     let (r, began, t, e, q) = run-trace fit in
@@ -50,26 +51,26 @@ counts-bounded {S} fit =
 
 module _ (plan : List ℕ) (n : ℕ) (choices : List ℕ) (c : Counts) where
   abbrev Holds : Type 0
-  Holds = (p : Plan) × (readPlan plan ≡ accepted p) × CountBounds (setting p n choices) c
+  Holds = (x : Read) × (readPlan plan ≡ accepted x) × CountBounds (setting (x .plan) n choices) c
 
   ran-claimed : ranWith plan n choices ≡ accepted c → Holds
-  unfolding ranWith countsOf runOf
+  unfolding ranWith countsOf runOf measuresOf
   ran-claimed e = by-plan (readPlan plan) refl e
     where
-      by-run : (p : Plan) → readPlan plan ≡ accepted p → Stopped p n choices ⊎ Went p n choices
-          → countsOf (accepted p) (admitted (accepted p) n choices) ≡ accepted c → Holds
-      by-run p f (inl s) e = refused-accepted (sym (ap (countsOf (accepted p)) (s .not-run)) ∙ e)
-      by-run p f (inr w) e =
-          let fit : Fit (setting p n choices) = record { plan = accepted-kept plan p f; some = w .some; most = w .most } in
-          let measures : Measures = record { actions = work p; longest = longest p; path = heaviest p } in
-          let told : Counts = counted (run (setting p n choices) .tally) measures in
-          let x : _≡_ {A = Outcome Counts} (accepted told) (accepted c) = sym (ap (countsOf (accepted p)) (w .ran)) ∙ e in
+      by-run : (x : Read) → readPlan plan ≡ accepted x → Stopped x n choices ⊎ Went x n choices
+          → countsOf (accepted x) (admitted (accepted x) n choices) ≡ accepted c → Holds
+      by-run x f (inl s) e = refused-accepted (sym (ap (countsOf (accepted x)) (s .not-run)) ∙ e)
+      by-run x f (inr w) e =
+          let S = setting (x .plan) n choices in
+          let fit : Fit S = record { plan = accepted-kept plan x f; some = w .some; most = w .most } in
+          let told : Counts = counted (run S .tally) (measuresOf (x .plan)) in
+          let y : _≡_ {A = Outcome Counts} (accepted told) (accepted c) = sym (ap (countsOf (accepted x)) (w .ran)) ∙ e in
           let same : told ≡ c = cc in
-          (p, f, rw same at (counts-bounded fit))
+          (x, f, rw same at (counts-bounded fit))
 
-      by-plan : (o : Outcome Plan) → readPlan plan ≡ o → countsOf o (admitted o n choices) ≡ accepted c → Holds
+      by-plan : (o : Outcome Read) → readPlan plan ≡ o → countsOf o (admitted o n choices) ≡ accepted c → Holds
       by-plan (refused k) f e = refused-accepted e
-      by-plan (accepted p) f e = by-run p f (outcome p n choices) e
+      by-plan (accepted x) f e = by-run x f (outcome x n choices) e
 
 -- the first three tests turn the input down
 tested : {A : Type 0} (a b c : Bool) (o : Outcome A) {x : A}

@@ -1,4 +1,4 @@
--- What a run into a schedule of 4,100 bytes tells of the build: the schedule fits, so what was answered is the build's own
+-- What a run into a schedule of 5,124 bytes tells of the build: the schedule fits, so what was answered is the build's own
 -- outcome. Then what the build's input asks for.
 use Prim.Native.Nat.{ℕ, _+_, _-_, _≤_, _<_}
 use mathlib.Core.Path.{_≡_, sym, ap, ap₂, _∙_}
@@ -9,13 +9,13 @@ use lib.ListN.{length, getD, take, drop, length-drop}
 use lib.Seq.{take-all}
 use borrow.Author.Tests.{le-leb, lt-ltb, le-ltb}
 use Rattle.plan.specs.Refusal.{Outcome, refused, accepted}
-use Rattle.plan.specs.Plan.{Plan}
-use Rattle.plan.specs.Rules.{Accepted}
-use Rattle.plan.specs.Reader.{readPlan}
+use Rattle.plan.specs.Plan.{Plan, total}
+use Rattle.plan.specs.Rules.{Accepted, costsFit}
+use Rattle.plan.specs.Reader.{readPlan, Read}
 use Rattle.plan.specs.Found.{ReadPlan}
 use Rattle.plan.proofs.Laws.Valid.{total-range}
 use Rattle.plan_measure.specs.declared.Measures.{Measures}
-use Rattle.plan_measure.specs.Measure.{work, longest, heaviest, measured}
+use Rattle.plan_measure.specs.Measure.{work, longest, heaviest, measured, measuresOf}
 use Rattle.runs.specs.Setting.{setting}
 use Rattle.runs.specs.declared.tally.Tally.{Tally}
 use Rattle.runs.specs.Run.{run, admitted, runOf}
@@ -27,6 +27,8 @@ use Rattle.build.specs.Build.{countsOf, ranWith, choiceCount, buildOf}
 use Rattle.build.specs.Parts.{BuildIn}
 use Rattle.scheduler.proofs.Laws.RunBytes.{run-fits}
 use Rattle.scheduler.proofs.Laws.RunAnswers.{read-runs}
+use lib.Dec.{T}
+use Rattle.courses.proofs.Laws.ScheduleBytes.{length-most}
 
 -- the counts that are printed, of a tally and of measures
 abbrev pub counted : Tally → Measures → Counts
@@ -45,60 +47,67 @@ counted t m =
     }
 
 -- a plan that was read can be built
-pub read-builds : {bytes : List ℕ} {jobs actions : ℕ} {plan entering : List ℕ} (g : ReadPlan bytes jobs actions plan entering)
-    → BuildIn jobs actions plan entering (g .is)
-read-builds g = record { held = g .held; runs = read-runs _ _ _ _ _ g }
+pub read-builds : {bytes : List ℕ} {form jobs actions : ℕ} {plan entering : List ℕ} (g : ReadPlan bytes form jobs actions plan entering)
+    → BuildIn form jobs actions plan entering (g .is)
+read-builds g = record { held = g .held; runs = read-runs _ _ _ _ _ _ g }
 
-module _ (p : Plan) (ok : Accepted p) (n : ℕ) (choices schedule : List ℕ) (long : 4100 ≤ length schedule) where
+module _ (form : ℕ) (p : Plan) (ok : Accepted p) (byte : form < 256) (costs : T (costsFit form p)) (n : ℕ) (choices schedule : List ℕ)
+    (long : 5124 ≤ length schedule) where
+  abbrev x : Read
+  x = record { form = form; plan = p }
+
   abbrev answer : Outcome Tally
-  answer = resulted (admitted (accepted p) n choices) n schedule .answer
+  answer = resulted form (admitted (accepted x) n choices) n schedule .answer
 
   abbrev built : Outcome Counts
-  built = countsOf (accepted p) (admitted (accepted p) n choices)
+  built = countsOf (accepted x) (admitted (accepted x) n choices)
 
   -- the run is turned down, or its tally is answered
-  stopped-answer : (s : Stopped p n choices) → answer ≡ refused (s .cause)
+  stopped-answer : (s : Stopped x n choices) → answer ≡ refused (s .cause)
   unfolding resulted
-  stopped-answer s = ap (λ o. resulted o n schedule .answer) (s .not-run)
+  stopped-answer s = ap (λ o. resulted form o n schedule .answer) (s .not-run)
 
-  went-answer : Went p n choices → answer ≡ accepted (run (setting p n choices) .tally)
+  went-answer : Went x n choices → answer ≡ accepted (run (setting p n choices) .tally)
   unfolding resulted
   went-answer w =
-      let fits : length (scheduleBytes n (run (setting p n choices) .rows)) ≤ length schedule =
-      omega (arith, run-fits p n choices (record { plan = ok; some = w .some; most = w .most }), total-range p ok) in
-      let whole : resulted (admitted (accepted p) n choices) n schedule ≡ record {
+      let fits : length (scheduleBytes form n (run (setting p n choices) .rows)) ≤ length schedule =
+      omega (
+        arith,
+        run-fits p n choices (record { plan = ok; some = w .some; most = w .most }) form byte costs,
+        length-most form (total p) (total-range p ok .1),
+      ) in
+      let whole : resulted form (admitted (accepted x) n choices) n schedule ≡ record {
         answer = accepted (run (setting p n choices) .tally);
-        schedule = scheduleBytes n (run (setting p n choices) .rows) ++ drop (length (scheduleBytes n (run (setting p n choices) .rows))) schedule;
+        schedule = scheduleBytes form n (run (setting p n choices) .rows) ++ drop (length (scheduleBytes form n (run (setting p n choices) .rows))) schedule;
       } = rw (w .ran, resulted, le-leb _ _ fits) in
       ap (λ (r : Result). r .answer) whole
 
   pub build-refused : (k : ℕ) → _≡_ {A = Outcome Tally} (refused k) answer → _≡_ {A = Outcome Counts} (refused k) built
   unfolding countsOf
-  build-refused k e = go (outcome p n choices)
+  build-refused k e = go (outcome x n choices)
     where
-      go : Stopped p n choices ⊎ Went p n choices → _≡_ {A = Outcome Counts} (refused k) built
+      go : Stopped x n choices ⊎ Went x n choices → _≡_ {A = Outcome Counts} (refused k) built
       go (inl s) =
-          let x : _≡_ {A = Outcome Tally} (refused k) (refused (s .cause)) = e ∙ stopped-answer s in
+          let y : _≡_ {A = Outcome Tally} (refused k) (refused (s .cause)) = e ∙ stopped-answer s in
           let i : k ≡ s .cause = cc in
-          ap (λ m. refused m) i ∙ sym (ap (countsOf (accepted p)) (s .not-run))
+          ap (λ m. refused m) i ∙ sym (ap (countsOf (accepted x)) (s .not-run))
       go (inr w) =
-          let x : _≡_ {A = Outcome Tally} (refused k) (accepted (run (setting p n choices) .tally)) = e ∙ went-answer w in
+          let y : _≡_ {A = Outcome Tally} (refused k) (accepted (run (setting p n choices) .tally)) = e ∙ went-answer w in
           absurd (let z : _≡_ {A = ℕ} 0 1 = cc in omega arith)
 
   pub build-counted : (t : Tally) (m : Measures) → _≡_ {A = Outcome Tally} (accepted t) answer
-      → _≡_ {A = Outcome Measures} (accepted m) (measured (accepted p)) → accepted (counted t m) ≡ built
-  unfolding countsOf measured
-  build-counted t m e q = go (outcome p n choices)
+      → m ≡ measuresOf p → accepted (counted t m) ≡ built
+  unfolding countsOf measuresOf
+  build-counted t m e q = go (outcome x n choices)
     where
-      go : Stopped p n choices ⊎ Went p n choices → accepted (counted t m) ≡ built
+      go : Stopped x n choices ⊎ Went x n choices → accepted (counted t m) ≡ built
       go (inl s) =
-          let x : _≡_ {A = Outcome Tally} (accepted t) (refused (s .cause)) = e ∙ stopped-answer s in
+          let y : _≡_ {A = Outcome Tally} (accepted t) (refused (s .cause)) = e ∙ stopped-answer s in
           absurd (let z : _≡_ {A = ℕ} 0 1 = cc in omega arith)
       go (inr w) =
-          let x : _≡_ {A = Outcome Tally} (accepted t) (accepted (run (setting p n choices) .tally)) = e ∙ went-answer w in
+          let y : _≡_ {A = Outcome Tally} (accepted t) (accepted (run (setting p n choices) .tally)) = e ∙ went-answer w in
           let i : t ≡ run (setting p n choices) .tally = cc in
-          let j : m ≡ record { actions = work p; longest = longest p; path = heaviest p } = cc in
-          ap₂ (λ t m. accepted (counted t m)) i j ∙ sym (ap (countsOf (accepted p)) (w .ran))
+          ap₂ (λ t m. accepted (counted t m)) i q ∙ sym (ap (countsOf (accepted x)) (w .ran))
 
 -- the build of bytes, by what reading them tells
 module _ (bytes : List ℕ) (n : ℕ) (choices : List ℕ) where
@@ -106,10 +115,10 @@ module _ (bytes : List ℕ) (n : ℕ) (choices : List ℕ) where
   unfolding ranWith countsOf
   ran-refused k e = rw e
 
-  pub ran-read : (p : Plan) (o : Outcome Counts) → readPlan bytes ≡ accepted p → o ≡ countsOf (accepted p) (admitted (accepted p) n choices)
+  pub ran-read : (x : Read) (o : Outcome Counts) → readPlan bytes ≡ accepted x → o ≡ countsOf (accepted x) (admitted (accepted x) n choices)
       → o ≡ ranWith bytes n choices
   unfolding ranWith runOf
-  ran-read p o e q = q ∙ sym (ap (λ r. countsOf r (admitted r n choices)) e)
+  ran-read x o e q = q ∙ sym (ap (λ r. countsOf r (admitted r n choices)) e)
 
 -- what the input asks for, by its length and its choice count
 module _ (input : List ℕ) where

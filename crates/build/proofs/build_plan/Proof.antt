@@ -14,15 +14,15 @@ read-into-requires c κs = (refl, refl)
 enum-known-cause : tie.Need-enum-known-cause
 enum-known-cause c = search needs
 
-enum-known-jobs : tie.Need-enum-known-jobs
-enum-known-jobs c = search needs
+enum-known-form : tie.Need-enum-known-form
+enum-known-form c = search needs
 
 -- what was read
-plan-read : (c : tie.After-jobs)
+plan-read : (c : tie.After-form)
     → let r = c .before .before in
     let a = r .before .before .before .before .before .args in
-    ReadPlan (now (a .plan)) (c .jobs .given .0 .0) (c .jobs .given .0 .1 .0) (r .read-into .last .1 .0) (r .read-into .last .1 .1 .0)
-plan-read c = found-plan _ _ _ _ (c .before .before .read-into .ensures) _ _ (c .jobs .given .1)
+    ReadPlan (now (a .plan)) (c .form .given .0 .0) (c .form .given .0 .1 .0) (c .form .given .0 .1 .1 .0) (r .read-into .last .1 .0) (r .read-into .last .1 .1 .0)
+plan-read c = found-plan _ _ _ _ (c .before .before .read-into .ensures) _ _ _ (c .form .given .1)
 
 build-read-requires : tie.Need-build-read-requires
 build-read-requires c κs =
@@ -37,7 +37,7 @@ returns c =
 returns-2 : tie.Need-returns-2
 returns-2 c =
     let g = plan-read (c .before .before .before .before) in
-    ran-read _ _ _ (g .is) _ (g .read) (c .build-read .ensures (g .is) (read-builds g))
+    ran-read _ _ _ _ _ (g .read) (c .build-read .ensures (g .is) (read-builds g))
 
 pub build-plan-spec : {M : Type 1} → statement M
 build-plan-spec =
@@ -45,7 +45,7 @@ build-plan-spec =
     (tie.spec
     read-into-requires
     enum-known-cause
-    enum-known-jobs
+    enum-known-form
     build-read-requires
     returns
     returns-2)

@@ -27,13 +27,13 @@ measure-read-requires c κs =
 returns : tie.Need-returns
 returns c = λ p g.
     let r = c .before .before .before .before in
-    build-refused p (g .held .planned .rules) _ _ _ (omega arith) _
+    build-refused _ p (g .held .planned .rules) (g .runs .byte) (g .runs .costs) _ _ _ (omega arith) _
     (sym (ap ranOf (c .before .cause .given .1)) ∙ ap (λ (r : Result). r .answer) (r .run-read .ensures p (g .runs) .0))
 
 returns-2 : tie.Need-returns-2
 returns-2 c = λ p g.
     let r = c .before .before .before .before .before in
-    build-counted p (g .held .planned .rules) _ _ _ (omega arith) _ _
+    build-counted _ p (g .held .planned .rules) (g .runs .byte) (g .runs .costs) _ _ _ (omega arith) _ _
     (sym (ap ranOf (c .before .before .t .given .1)) ∙ ap (λ (r : Result). r .answer) (r .run-read .ensures p (g .runs) .0))
     (c .measure-read .ensures p (g .held))
 

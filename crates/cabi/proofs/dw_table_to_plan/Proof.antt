@@ -21,7 +21,7 @@ enum-known-n c = search needs
 units-requires : tie.Need-units-requires
 units-requires c κs =
     let r = c .before .before .before .before .before .table-to-plan in
-    omega (arith, toPlan-few _ _ _ (answer-count _ _ _ (r .ensures) _ (c .before .n .given .1)))
+    omega (arith, toPlan-few _ _ _ _ (answer-count _ _ _ (r .ensures) _ (c .before .n .given .1)))
 
 same-length : tie.Need-same-length
 same-length c = search needs

@@ -3,9 +3,9 @@
 --   stood-on    == behind an action, in its job
 --   next-known, stood-born == past the end of a job's actions there is a next job, and it stands there
 --   stand-given == what the test of the rules is given, and so carries, is what the walk is given
---   row-within, round-some == a row's bytes are there, and its round is not 0
+--   row-within  == a row's place is one of the array
 --   job-small, parent-small, spawn-some, spawn-within, spawn-round-is == what is read of a job's spawn is in range, and is its round
-use Prim.Native.Nat.{ℕ, suc, _+_, _-_, _*_, _/_, _≤_, _<_}
+use Prim.Native.Nat.{ℕ, suc, _+_, _-_, _/_, _≤_, _<_}
 use mathlib.Core.Path.{_≡_, ap, sym, _∙_}
 use mathlib.Core.Logic.{by-cases}
 use mathlib.Core.List.{List}
@@ -19,12 +19,14 @@ use Rattle.plan.specs.Sheet.{firstOf, parentOf, spawnOf}
 use Rattle.plan.proofs.Laws.Placed.{start, start-suc, start-all, start-below, placed-at, place-below}
 use Rattle.plan.proofs.Laws.Valid.{jobs-range, size-range, total-range, older, spawned-there}
 use Rattle.checker.specs.declared.rules.Standing.{Standing}
-use Rattle.checker.specs.Rows.{word}
+use Rattle.courses.specs.Schedule.{Span}
+use Rattle.checker.specs.Chains.{entry}
+use Rattle.checker.specs.Rows.{spanAt}
 use Rattle.checker.specs.Given.{Task, Tasked, SpawnGiven, StandGiven, RulesGiven}
 use Rattle.checker.specs.Judging.{spawnRound, Stood}
 use Rattle.checker.proofs.Laws.Following.{before-next, before-root, before-born}
 
-module _ (p : Plan) (ok : Accepted p) (row : ℕ → ℕ) where
+module _ (p : Plan) (ok : Accepted p) (span : ℕ → Span) where
   -- whose action stands at a place
   job-of : (j k : ℕ) → j < length p → start p j ≤ k → k < start p j + size p j → getD (placed p) k noPlaced .job ≡ j
   job-of j k h l b =
@@ -37,8 +39,8 @@ module _ (p : Plan) (ok : Accepted p) (row : ℕ → ℕ) where
   below : (j k : ℕ) → j < length p → k < start p j + size p j → k < total p
   below j k h b = omega (arith, start-next j h, start-below p (j + 1))
 
-  pub stood-first : (f : ℕ) → f ≡ start p 0 + size p 0 → 1 ≤ row 0 / 16 → Stood p row 0 (record { job = 0; end = f; round = 0 })
-  stood-first f e some =
+  pub stood-first : (f : ℕ) → f ≡ start p 0 + size p 0 → Stood p span 0 (record { job = 0; end = f; round = 0 })
+  stood-first f e =
       let n = jobs-range p ok in
       record {
         known = omega (arith, n);
@@ -47,11 +49,11 @@ module _ (p : Plan) (ok : Accepted p) (row : ℕ → ℕ) where
         near = omega arith;
         told = λ l.
             let d = job-of 0 0 (omega (arith, n)) (omega arith) (omega arith) in
-            before-root p ok row 0 (omega (arith, total-range p ok)) (omega arith) d some;
+            before-root p ok span 0 (omega (arith, total-range p ok)) (omega arith) d;
       }
 
-  module _ (k : ℕ) (s : Standing) (at : Stood p row k s) where
-    pub stood-on : k < s .end → (r : ℕ) → r ≡ row k / 16 → Stood p row (k + 1) (record { job = s .job; end = s .end; round = r })
+  module _ (k : ℕ) (s : Standing) (at : Stood p span k s) where
+    pub stood-on : k < s .end → (r : ℕ) → r ≡ span k .last → Stood p span (k + 1) (record { job = s .job; end = s .end; round = r })
     stood-on l r e =
         record {
           known = at .known;
@@ -60,8 +62,8 @@ module _ (p : Plan) (ok : Accepted p) (row : ℕ → ℕ) where
           near = omega arith;
           told = λ b.
               let d = job-of (s .job) (k + 1) (at .known) (omega (arith, at .begun)) (omega (arith, at .ends)) in
-              before-next p ok row (k + 1) (below (s .job) (k + 1) (at .known) (omega (arith, at .ends))) r
-              (omega (arith, at .begun, ap (start p) d)) (e ∙ ap (λ n. row n / 16) (omega arith));
+              before-next p ok span (k + 1) (below (s .job) (k + 1) (at .known) (omega (arith, at .ends))) r
+              (omega (arith, at .begun, ap (start p) d)) (e ∙ ap (λ n. span n .last) (omega arith));
         }
 
     -- past the end of the job's actions
@@ -72,8 +74,8 @@ module _ (p : Plan) (ok : Accepted p) (row : ℕ → ℕ) where
           (λ e. absurd (omega (arith, at .ends, start-next (s .job) (at .known), ap (start p) e, start-all p)))
           (λ d. omega (arith, at .known))
 
-      pub stood-born : (f r : ℕ) → f ≡ start p (s .job + 1) + size p (s .job + 1) → r ≡ spawnRound p row (s .job + 1)
-          → (k < f) × Stood p row k (record { job = s .job + 1; end = f; round = r })
+      pub stood-born : (f r : ℕ) → f ≡ start p (s .job + 1) + size p (s .job + 1) → r ≡ spawnRound p span (s .job + 1)
+          → (k < f) × Stood p span k (record { job = s .job + 1; end = f; round = r })
       stood-born f r e m =
           let begins : k ≡ start p (s .job + 1) = omega (arith, at .ends, at .near, start-next (s .job) (at .known)) in
           let some = size-range p ok (s .job + 1) next-known in
@@ -84,28 +86,24 @@ module _ (p : Plan) (ok : Accepted p) (row : ℕ → ℕ) where
               begun = omega arith;
               ends = e;
               near = omega (arith, some);
-              told = λ l. before-born p ok row k h (omega (arith, ap (start p) d)) r (omega (arith, d)) (m ∙ ap (spawnRound p row) (sym d));
+              told = λ l. before-born p ok span k h (omega (arith, ap (start p) d)) r (omega (arith, d)) (m ∙ ap (spawnRound p span) (sym d));
             },
           )
 
 -- over the arrays
-module _ (s plan : List ℕ) (t : Task) where
+module _ (words plan : List ℕ) (t : Task) where
   abbrev p : Plan
   p = t .plan
 
-  module _ (g : Tasked s plan t) (x : ℕ) (h : x < total p) where
-    pub row-within : 5 + 2 * x < length s
-    row-within = omega (arith, g .bytes .long, g .all)
+  pub row-within : Tasked words plan t → (x : ℕ) → x < total p → x < 2048
+  row-within g x h = omega (arith, total-range p (g .planned .rules))
 
-    pub round-some : 1 ≤ word s x / 16
-    round-some = omega (arith, g .bytes .row x (omega (arith, g .all)), g .bytes .round x (omega (arith, g .all)), g .bytes .worker x (omega (arith, g .all)))
-
-  pub stand-given : (k : ℕ) {workers actions : ℕ} → RulesGiven workers actions s plan t → k < actions
-      → {at : Standing} → Stood p (word s) k at → StandGiven k at s plan t
+  pub stand-given : (k : ℕ) {form workers actions : ℕ} → RulesGiven form workers actions words plan t → k < actions
+      → {at : Standing} → Stood p (spanAt words plan) k at → StandGiven k at words plan t
   stand-given k g l at = record { within = omega (arith, g .count); stood = at; tasked = g .tasked }
 
   -- the spawn of a job
-  module _ (j : ℕ) (g : SpawnGiven j s plan t) where
+  module _ (j : ℕ) (g : SpawnGiven j words plan t) where
     parent-older : parent p j < j
     parent-older = older p (g .tasked .planned .rules) j (g .later) (g .known)
 
@@ -143,5 +141,5 @@ module _ (s plan : List ℕ) (t : Task) where
                   (spawned-there p (g .tasked .planned .rules) j (g .later) (g .known) .0),
             )
 
-        pub spawn-round-is : (w : ℕ) → w ≡ word s (u + (i - 1)) → w / 16 ≡ spawnRound p (word s) j
-        spawn-round-is w e = ap (λ n. n / 16) e ∙ ap (λ n. word s n / 16) place-is
+        pub spawn-round-is : (w : ℕ) → w ≡ entry words (u + (i - 1)) → w / 16 ≡ spawnRound p (spanAt words plan) j
+        spawn-round-is w e = ap (λ n. n / 16) e ∙ ap (λ n. entry words n / 16) place-is

@@ -12,12 +12,12 @@ use lib.Dec.{T}
 use lib.ListN.{length}
 use Rattle.plan.specs.Rules.{Accepted}
 use Rattle.plan_measure.proofs.Laws.Follows.{act}
-use Rattle.courses.proofs.Laws.Course.{Core, nextIn, spentIn, rowIn, New, Old, acted, acts-new, Terms, Works, Ends, Hands}
+use Rattle.courses.proofs.Laws.Course.{Core, cost, nextIn, spentIn, rowIn, New, Old, acted, acts-new, Terms, Works, Ends, Hands}
 use Rattle.courses.proofs.Laws.Course.{Course, begins, next-round, rests, works, ends}
 use Rattle.courses.proofs.Laws.Kept.{Kept, other, course-kept}
 
 module _ (e : Terms) where
-  open Terms e using (plan, cost, steady)
+  open Terms e using (plan, steady)
 
   abbrev pub Before : Core → ℕ → ℕ → ℕ → Type 0
   Before c w s r = (h m : ℕ) → h < length plan → m < nextIn c h → rowIn plan c h m .worker ≡ w → rowIn plan c h m .round + s < r

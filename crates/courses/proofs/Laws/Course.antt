@@ -4,8 +4,9 @@
 --                         and the peak
 --   New j c h i        == action i of job h is the one that job j does next
 --   Old p c c′ h i     == action i of job h was done in the core c, and has the same row in c′
---   Terms              == the plan, how many turns each action takes, a number above every worker's, a bound on the weight in each
---                         round, and whether a job that was begun stays with its worker
+--   cost x             == how many turns an action takes
+--   Terms              == the plan, a number above every worker's, a bound on the weight in each round, and whether a job that was begun
+--                         stays with its worker
 --   Begins p c         == c is how a course begins
 --   Hands e k b b′ c   == a round begins with the hands b′ after one with the hands b in which the workers below k had their turns;
 --                         b w is suc j where worker w has job j, and 0 where it has none
@@ -58,9 +59,11 @@ place-apart p j i k h b l c m e = go (ℕ-discrete j k) (decLt j k)
     go (no f) (yes q) = absurd (omega (arith, start-suc p j b, start-rises p (suc j) k q (omega arith)))
     go (no f) (no g) = absurd (omega (arith, start-suc p k c, start-rises p (suc k) j (omega arith) (omega arith)))
 
+abbrev pub cost : Placed → ℕ
+cost x = x .cost
+
 pub record Terms : Type 0 where
   pub plan : Plan
-  pub cost : Placed → ℕ
   pub workers : ℕ
   pub bound : ℕ → ℕ
   pub steady : Bool
@@ -133,7 +136,7 @@ pub acts-new : {p : Plan} {r w j : ℕ} {c c′ : Core} → Acts p r w j c c′ 
 acts-new a h i e = rw (e .0, e .1) (a .writes)
 
 module _ (e : Terms) where
-  open Terms e using (plan, cost, workers, bound, steady)
+  open Terms e using (plan, workers, bound, steady)
 
   pub record Hands (k : ℕ) (b b′ : ℕ → ℕ) (c : Core) : Type 0 where
     -- all that had a job in the last round have had their turns, and job 0 has not ended

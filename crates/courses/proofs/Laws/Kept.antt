@@ -23,7 +23,7 @@ use Rattle.lines.proofs.Laws.Start.{none-closed}
 use Rattle.lines.proofs.Laws.Progress
 use Rattle.lines.proofs.Laws.Act.{Act, acted-closed, stays}
 use Rattle.courses.proofs.Laws.PlanShape.{shape, shape-valid}
-use Rattle.courses.proofs.Laws.Course.{Core, nextIn, spentIn, rowIn, New, Old, acted, acts-new, acts-kept}
+use Rattle.courses.proofs.Laws.Course.{Core, cost, nextIn, spentIn, rowIn, New, Old, acted, acts-new, acts-kept}
 use Rattle.courses.proofs.Laws.Course.{Terms, Begins, Hands, Works, Ends, Course, begins, next-round, rests, works, ends}
 
 pub record Done (n r k : ℕ) (a : Row) : Type 0 where
@@ -36,7 +36,7 @@ pub done-on : {n r k k′ : ℕ} {a : Row} → k ≤ k′ → Done n r k a → D
 done-on l d = record { first = d .first; known = d .known; latest = d .latest; turn = λ z. omega (arith, d .turn z) }
 
 module _ (e : Terms) where
-  open Terms e using (plan, cost, workers)
+  open Terms e using (plan, workers)
 
   pub record Free (r : ℕ) (c : Core) (j : ℕ) : Type 0 where
     pub early : spentIn c j < r

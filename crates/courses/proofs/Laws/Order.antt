@@ -1,58 +1,51 @@
 -- The order of the rows of a course that has ended: each action comes so many rounds after all that it must follow as it takes turns, so
 -- that no chain of actions takes more turns than there are rounds; and, where the course is steady, the rows keep the rules of a schedule.
---   costs f l    == how many turns the actions of a list take
 --   course-later == an action's turns come after the rounds of all that it must follow
 --   course-chain == there are no fewer rounds than a chain takes turns
 --   course-apart == where the course is steady, no worker works on two actions at a time
---   course-keeps == where besides every action takes one turn, the rows keep the rules of a schedule
+--   course-keeps == .. and the rows keep the rules of a schedule
 use Prim.Native.Nat.{ℕ, suc, _+_, _-_, _≤_, _<_}
 use mathlib.Core.Path.{_≡_, refl, ap, sym, _∙_}
-use mathlib.Core.Logic.{_⊎_, inl, inr, ⊎-elim}
+use mathlib.Core.Logic.{_⊎_, inl, inr, ⊎-elim, by-cases}
 use mathlib.Core.Bool.{Bool, true, false, not}
 use mathlib.Core.List.{List, [], _∷_}
 use native.Mathlib.Omega.{arith}
-use native.Mathlib.Nat.{le-of-eq}
-use lib.ListN.{length, getD}
-use lib.Dec.{T, eqb, ltb, eqb→eq, lt→ltb, not-T}
+use native.Mathlib.Decide.{decLe}
+use lib.ListN.{length, getD, take}
+use lib.Dec.{T, eqb, leb, ltb, eqb→eq, leb→le, le→leb, lt→ltb, not-T}
 use Rattle.plan.specs.Test.{both, either, all, largest}
 use Rattle.plan.specs.Plan.{Plan, Placed, size, total, placed, noPlaced}
 use Rattle.plan.specs.Rules.{Accepted}
 use Rattle.plan.proofs.Laws.Lists.{both-intro, both-left, both-right, all-by}
-use Rattle.plan.proofs.Laws.Placed.{place-below, locate}
+use Rattle.plan.proofs.Laws.Placed.{placed-length, placed-of, place-below, locate}
 use Rattle.plan.proofs.Laws.Valid.{jobs-range, size-range}
-use Rattle.plan_measure.specs.Measure.{mustFollow, Member, Chain, longest}
+use Rattle.plan_measure.specs.Measure.{mustFollow, Member, Chain, costs, longest}
 use Rattle.plan_measure.proofs.Laws.Largest.{member-at, largest-above}
 use Rattle.plan_measure.proofs.Laws.Follows as F
 use Rattle.plan_measure.proofs.Laws.Follows.{act, member-acts, Follows, next, born, joined, follows-of}
 use Rattle.plan_measure.proofs.Laws.Chains.{longest-chain}
 use Rattle.courses.specs.Row.{Row, noRow, place}
-use Rattle.courses.specs.Schedule.{rowOf, clash, alone, inOrder, keeps}
+use Rattle.courses.specs.Schedule.{rowOf, spanOf, clash, alone, inOrder, keeps}
 use Rattle.courses.specs.Living.{lastRound}
-use Rattle.courses.proofs.Laws.Course.{Core, nextIn, rowIn, Terms, Course}
+use Rattle.courses.proofs.Laws.Course.{Core, cost, nextIn, rowIn, Terms, Course}
 use Rattle.courses.proofs.Laws.Kept.{Done, course-kept, course-all, course-ended}
 use Rattle.courses.proofs.Laws.Apart.{course-calm}
 
--- no two rows of a list clash
-pub alone-by : (rows : List Row)
-    → ((k h : ℕ) → k < h → h < length rows → T (clash (getD rows k noRow) (getD rows h noRow)) → ⊥) → T (alone rows)
-alone-by [] f = tt
-alone-by (a ∷ rows) f =
-    both-intro (all (λ b. not (clash a b)) rows) (alone rows)
-    (all-by (λ b. not (clash a b)) rows noRow (λ i l. not-T (clash a (getD rows i noRow)) (f 0 (suc i) (omega arith) (omega arith))))
-    (alone-by rows (λ k h l m. f (suc k) (suc h) (omega arith) (omega arith)))
+-- no two actions of a list clash
+pub alone-by : (p : Plan) (rows : List Row) (l : List Placed)
+    → ((k h : ℕ) → k < h → h < length l → T (clash (spanOf p rows (getD l k noPlaced)) (spanOf p rows (getD l h noPlaced))) → ⊥)
+    → T (alone p rows l)
+alone-by p rows [] f = tt
+alone-by p rows (x ∷ l) f =
+    let rule : Placed → Bool = λ y. not (clash (spanOf p rows x) (spanOf p rows y)) in
+    both-intro (all rule l) (alone p rows l)
+    (all-by rule l noPlaced (λ i b. not-T (clash (spanOf p rows x) (spanOf p rows (getD l i noPlaced))) (f 0 (suc i) (omega arith) (omega arith))))
+    (alone-by p rows l (λ k h a b. f (suc k) (suc h) (omega arith) (omega arith)))
 
 -- a test where another holds
 pub unless : (a b : Bool) → (T a → T b) → T (either (not a) b)
 unless true b f = f tt
 unless false b f = tt
-
-abbrev pub costs : (Placed → ℕ) → List Placed → ℕ
-costs f [] = 0
-costs f (x ∷ l) = f x + costs f l
-
-costs-one : (f : Placed → ℕ) → ((x : Placed) → f x ≡ 1) → (l : List Placed) → costs f l ≡ length l
-costs-one f h [] = refl
-costs-one f h (x ∷ l) = omega (arith, h x, costs-one f h l)
 
 -- the first action of a chain is one of the plan's
 chain-head : (p : Plan) (x : Placed) (l : List Placed) → Chain p (x ∷ l) → Member x (placed p)
@@ -67,7 +60,7 @@ by-place p x y s (joined o a q) = joined o a (sym (ap (λ z. z .join) (s .is)) �
 
 module _ (e : Terms) (ok : Accepted (e .plan)) {r idle k : ℕ} {b : ℕ → ℕ} {c : Core} (t : Course e r idle k b c)
     (ended : size (e .plan) 0 ≤ nextIn c 0) where
-  open Terms e using (plan, cost, workers, steady)
+  open Terms e using (plan, workers, steady)
 
   -- every action is done
   done : (j i : ℕ) → j < length plan → i < size plan j → i < nextIn c j
@@ -93,14 +86,14 @@ module _ (e : Terms) (ok : Accepted (e .plan)) {r idle k : ℕ} {b : ℕ → ℕ
       )
 
   -- the turns of a chain come one after the other
-  rises : (x : Placed) (l : List Placed) → Chain plan (x ∷ l) → rowOf plan (c .rows) x .round + costs cost l ≤ r
+  rises : (x : Placed) (l : List Placed) → Chain plan (x ∷ l) → rowOf plan (c .rows) x .round + costs l ≤ r
   rises x [] m =
       let u = member-acts plan x m in
       omega (arith, course-kept e ok t .done (x .job) (x .position) (u .known) (done (x .job) (x .position) (u .known) (u .within)) .latest)
   rises x (y ∷ l) m = omega (arith, rises y l (m .2), course-later y x (chain-head plan y l (m .2)) (m .0) (m .1))
 
   -- so there are no fewer rounds than a chain takes turns
-  pub course-chain : (l : List Placed) → Chain plan l → costs cost l ≤ r
+  pub course-chain : (l : List Placed) → Chain plan l → costs l ≤ r
   course-chain [] m = omega arith
   course-chain (x ∷ l) m =
       let u = member-acts plan x (chain-head plan x l m) in
@@ -143,60 +136,75 @@ module _ (e : Terms) (ok : Accepted (e .plan)) {r idle k : ℕ} {b : ℕ → ℕ
         (u .known) (done (x .job) (x .position) (u .known) (u .within))
         (v .known) (done (y .job) (y .position) (v .known) (v .within)) f g)
 
-  -- where every action takes one turn
-  module _ (one : (x : Placed) → cost x ≡ 1) where
-    -- there are no fewer rounds than the longest chain has actions
-    pub course-least : longest plan ≤ r
-    course-least =
-        let o = longest-chain plan ok .one in
-        omega (arith, course-chain (o .0) (o .1), costs-one cost one (o .0), o .2)
+  -- there are no fewer rounds than the chain of largest cost takes
+  pub course-least : longest plan ≤ r
+  course-least = let o = longest-chain plan ok .one in omega (arith, course-chain (o .0) (o .1), o .2)
 
-    module _ (calm : T steady) where
-      -- no two rows are of one round and one worker
-      pub course-alone : (k h : ℕ) → k < total plan → h < total plan → getD (c .rows) k noRow .round ≡ getD (c .rows) h noRow .round
-          → getD (c .rows) k noRow .worker ≡ getD (c .rows) h noRow .worker → k ≡ h
-      course-alone k h l m f g =
-          let x = locate plan k l in
-          let y = locate plan h m in
-          let f′ = rw (x .place, y .place) at f in
-          let g′ = rw (x .place, y .place) at g in
-          ⊎-elim (λ q. x .place ∙ ap (place plan (x .job)) (q .1) ∙ ap (λ j. place plan j (y .position)) (q .0) ∙ sym (y .place))
-          (λ q. absurd (omega (arith, one (act plan (y .job) (y .position)))))
-          (course-calm e ok calm t .apart (x .job) (x .position) (y .job) (y .position)
-          (x .known) (done (x .job) (x .position) (x .known) (x .within))
-          (y .known) (done (y .job) (y .position) (y .known) (y .within)) g′ (le-of-eq f′))
+  module _ (calm : T steady) where
+    -- the rows keep the rules of a schedule
+    pub course-keeps : T (keeps plan workers (c .rows))
+    unfolding keeps inOrder
+    course-keeps =
+        both-intro (all begins (placed plan)) (both (alone plan rows (placed plan)) (both (inOrder plan rows) (all manned rows)))
+        (all-by begins (placed plan) noPlaced first)
+        (both-intro (alone plan rows (placed plan)) (both (inOrder plan rows) (all manned rows)) (alone-by plan rows (placed plan) none)
+        (both-intro (inOrder plan rows) (all manned rows)
+        (all-by (λ x. all (λ y. rule x y) (placed plan)) (placed plan) noPlaced
+        (λ k l. all-by (rule (getD (placed plan) k noPlaced)) (placed plan) noPlaced (λ h m. order k h l m)))
+        (all-by manned rows noRow (λ k l. lt→ltb (getD rows k noRow .worker) workers (course-row k (omega (arith, course-kept e ok t .long)) .known)))))
+      where
+        rows : List Row
+        rows = c .rows
 
-      -- the rows keep the rules of a schedule
-      pub course-keeps : T (keeps plan workers (c .rows))
-      unfolding keeps inOrder
-      course-keeps =
-          both-intro (alone (c .rows)) (both (inOrder plan (c .rows)) (all (λ a. ltb (a .worker) workers) (c .rows)))
-          (alone-by (c .rows) none)
-          (both-intro (inOrder plan (c .rows)) (all (λ a. ltb (a .worker) workers) (c .rows))
-          (all-by (λ x. all (λ y. rule x y) (placed plan)) (placed plan) noPlaced
-          (λ k l. all-by (rule (getD (placed plan) k noPlaced)) (placed plan) noPlaced (λ h m. order k h l m)))
-          (all-by (λ a. ltb (a .worker) workers) (c .rows) noRow
-          (λ k l. lt→ltb (getD (c .rows) k noRow .worker) workers (course-row k (omega (arith, long)) .known))))
-        where
-          long : length (c .rows) ≡ total plan
-          long = course-kept e ok t .long
+        begins : Placed → Bool
+        begins x = leb 1 (spanOf plan rows x .first)
 
-          rule : Placed → Placed → Bool
-          rule x y = either (not (mustFollow plan x y)) (ltb (rowOf plan (c .rows) y .round) (rowOf plan (c .rows) x .round))
+        manned : Row → Bool
+        manned a = ltb (a .worker) workers
 
-          none : (k h : ℕ) → k < h → h < length (c .rows) → T (clash (getD (c .rows) k noRow) (getD (c .rows) h noRow)) → ⊥
-          none k h l m z =
-              let x = getD (c .rows) k noRow in
-              let y = getD (c .rows) h noRow in
-              let q : k ≡ h = course-alone k h (omega (arith, long)) (omega (arith, long))
-              (eqb→eq (x .round) (y .round) (both-left (eqb (x .round) (y .round)) _ z))
-              (eqb→eq (x .worker) (y .worker) (both-right (eqb (x .round) (y .round)) _ z)) in
-              omega arith
+        rule : Placed → Placed → Bool
+        rule x y = either (not (mustFollow plan x y)) (ltb (spanOf plan rows y .last) (spanOf plan rows x .first))
 
-          order : (k h : ℕ) → k < length (placed plan) → h < length (placed plan)
-              → T (rule (getD (placed plan) k noPlaced) (getD (placed plan) h noPlaced))
-          order k h l m =
-              let x = getD (placed plan) k noPlaced in
-              let y = getD (placed plan) h noPlaced in
-              unless (mustFollow plan x y) _ (λ f. lt→ltb (rowOf plan (c .rows) y .round) (rowOf plan (c .rows) x .round)
-              (omega (arith, one x, course-later x y (member-at (placed plan) noPlaced k l) (member-at (placed plan) noPlaced h m) f)))
+        member : (k : ℕ) → k < length (placed plan) → Member (getD (placed plan) k noPlaced) (placed plan)
+        member k l = member-at (placed plan) noPlaced k l
+
+        first : (k : ℕ) → k < length (placed plan) → T (begins (getD (placed plan) k noPlaced))
+        first k l =
+            let x = getD (placed plan) k noPlaced in
+            let u = member-acts plan x (member k l) in
+            let w = course-kept e ok t .worth (x .job) (x .position) (u .known) (done (x .job) (x .position) (u .known) (u .within)) in
+            le→leb 1 (spanOf plan rows x .first) (omega (arith, ap cost (u .is), w))
+
+        -- no action stands at two places
+        same : (k h : ℕ) → k < h → h < length (placed plan)
+            → getD (placed plan) k noPlaced .job ≡ getD (placed plan) h noPlaced .job
+            → getD (placed plan) k noPlaced .position ≡ getD (placed plan) h noPlaced .position → ⊥
+        same k h l m q i =
+            let n = placed-length plan in
+            let u = placed-of plan k (omega arith) in
+            let v = placed-of plan h (omega arith) in
+            omega (arith, u .place, v .place, ap (λ j. total (take j plan)) q)
+
+        none : (k h : ℕ) → k < h → h < length (placed plan)
+            → T (clash (spanOf plan rows (getD (placed plan) k noPlaced)) (spanOf plan rows (getD (placed plan) h noPlaced))) → ⊥
+        none k h l m z =
+            let x = getD (placed plan) k noPlaced in
+            let y = getD (placed plan) h noPlaced in
+            let a = spanOf plan rows x in
+            let d = spanOf plan rows y in
+            let f = eqb→eq (a .worker) (d .worker) (both-left (eqb (a .worker) (d .worker)) _ z) in
+            let g = both-right (eqb (a .worker) (d .worker)) _ z in
+            let i = leb→le (a .first) (d .last) (both-left (leb (a .first) (d .last)) _ g) in
+            let j = leb→le (d .first) (a .last) (both-right (leb (a .first) (d .last)) _ g) in
+            by-cases (decLe (a .last) (d .last))
+            (λ q. ⊎-elim (λ u. same k h l m (u .0) (u .1)) (λ u. omega arith) (course-apart calm x y (member k (omega arith)) (member h m) f q))
+            (λ q. ⊎-elim (λ u. same k h l m (sym (u .0)) (sym (u .1))) (λ u. omega arith)
+            (course-apart calm y x (member h m) (member k (omega arith)) (sym f) (omega arith)))
+
+        order : (k h : ℕ) → k < length (placed plan) → h < length (placed plan)
+            → T (rule (getD (placed plan) k noPlaced) (getD (placed plan) h noPlaced))
+        order k h l m =
+            let x = getD (placed plan) k noPlaced in
+            let y = getD (placed plan) h noPlaced in
+            unless (mustFollow plan x y) _ (λ f. lt→ltb (spanOf plan rows y .last) (spanOf plan rows x .first)
+            (omega (arith, course-later x y (member k l) (member h m) f)))

@@ -28,7 +28,7 @@ use Rattle.courses.specs.Living.{notAfter}
 use Rattle.lines.proofs.Laws.Shape.{Closed}
 use Rattle.lines.proofs.Laws.Start.{none-closed}
 use Rattle.courses.proofs.Laws.PlanShape.{shape}
-use Rattle.courses.proofs.Laws.Course.{Core, nextIn, spentIn, rowIn, acted, acts-kept, Terms, Begins, Works, Ends}
+use Rattle.courses.proofs.Laws.Course.{Core, cost, nextIn, spentIn, rowIn, acted, acts-kept, Terms, Begins, Works, Ends}
 use Rattle.courses.proofs.Laws.Course.{Course, begins, next-round, rests, works, ends}
 use Rattle.courses.proofs.Laws.Start.{none-weight}
 use Rattle.courses.proofs.Laws.Kept.{Done, Kept, course-kept}
@@ -69,7 +69,7 @@ abbrev pub Moment : Plan → Core → Row → Type 0
 Moment p c a = (a ≡ noRow) ⊎ ((j : ℕ) × (i : ℕ) × (j < length p) × (i < nextIn c j) × (rowIn p c j i ≡ a))
 
 module _ (e : Terms) where
-  open Terms e using (plan, cost, bound)
+  open Terms e using (plan, bound)
 
   pub record Past (c : Core) (r w : ℕ) (l : List ℕ) : Type 0 where
     pub closed : Closed (shape plan) (λ j. getD l j 0)

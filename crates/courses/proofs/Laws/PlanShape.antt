@@ -98,7 +98,7 @@ module _ (p : Plan) (next : List ℕ) where
     pub ready-is : (j : ℕ) → T (ready p next j) → Ready (shape p) done j
     unfolding ready sent
     ready-is j t k b a h e i =
-        let here : Placed = record { job = k; position = a; spawn = action p k a .spawn; join = action p k a .join } in
+        let here : Placed = record { job = k; position = a; spawn = action p k a .spawn; join = action p k a .join; cost = action p k a .cost } in
         let x : T (sent j here) = rw (placed-at p k a b h) at
         (all-at (sent j) (placed p) (both-right (either (leb 1 (done j)) (spawned p next j)) _ t) noPlaced (start p k + a)
         (omega (arith, placed-length p, place-below p k a b h))) in

@@ -6,9 +6,9 @@
 --                             on, or it is j's parent, no child of which lives and which nobody had
 --   Passes p w j c c′ h h′ == worker w, which finished an action of job j, then has such a job, or none; it has the one that was spawned,
 --                             or j if it goes on; and somebody has j's parent if j ended and no child of the parent lives
---   Pool p cost n r k b h c == c is the core of a pool's run of n workers in round r when the workers below k have had their turns; b are
+--   Pool p n r k b h c == c is the core of a pool's run of n workers in round r when the workers below k have had their turns; b are
 --                             the hands as the round began, and h those by now
---   Manned p cost n k b h c == what holds of such a core and such hands
+--   Manned p n k b h c == what holds of such a core and such hands
 --   pool-course            == the run of a pool is a course, steady and with the weight of n heaviest paths as its bound
 use Prim.Native.Nat.{ℕ, zero, suc, _*_, _≤_, _<_}
 use mathlib.Core.Path.{_≡_, refl, ap, sym, _∙_}
@@ -33,7 +33,7 @@ use Rattle.lines.proofs.Laws.Pool.{pool-leaves}
 use Rattle.lines.proofs.Laws.Weight.{filled-most}
 use Rattle.courses.proofs.Laws.PlanShape.{shape, shape-valid}
 use Rattle.courses.proofs.Laws.Course as Course
-use Rattle.courses.proofs.Laws.Course.{Core, nextIn, spentIn, Terms, Begins, Works, Ends, Hands, Paced, Course}
+use Rattle.courses.proofs.Laws.Course.{Core, cost, nextIn, spentIn, Terms, Begins, Works, Ends, Hands, Paced, Course}
 use Rattle.courses.proofs.Laws.Kept.{course-kept}
 use Rattle.courses.proofs.Laws.Space.{leaves-space}
 
@@ -71,7 +71,7 @@ module _ (p : Plan) where
     pub goes : action p j (nextIn c j) .spawn ≡ 0 → Goes (shape p) (nextIn c′) j → h′ w ≡ suc j
     pub dies : 1 ≤ j → size p j ≤ nextIn c′ j → Lone (shape p) (nextIn c′) (parent p j) → (v : ℕ) × (h′ v ≡ suc (parent p j))
 
-  module _ (cost : Placed → ℕ) (n : ℕ) where
+  module _ (n : ℕ) where
     pub data Pool : ℕ → ℕ → (ℕ → ℕ) → (ℕ → ℕ) → Core → Type 0 where
       starts : {h : ℕ → ℕ} {c : Core} → Begins p c → h 0 ≡ 1 → ((w : ℕ) → w ≢ 0 → h w ≡ 0) → Pool 1 0 h h c
       idles : {r k : ℕ} {b h : ℕ → ℕ} {c : Core} → Pool r k b h c → b k ≡ 0 → Pool r (suc k) b h c
@@ -82,7 +82,7 @@ module _ (p : Plan) where
       takes : {r : ℕ} {b h h′ : ℕ → ℕ} {c : Core} → Pool r n b h c → nextIn c 0 < size p 0 → Takes n h h′ c → Pool (suc r) 0 h′ h′ c
 
     abbrev pub terms : Terms
-    terms = record { plan = p; cost = cost; workers = n; bound = λ r. n * heaviest p; steady = true }
+    terms = record { plan = p; workers = n; bound = λ r. n * heaviest p; steady = true }
 
     pub record Manned (k : ℕ) (b h : ℕ → ℕ) (c : Core) : Type 0 where
       pub closed : Closed (shape p) (nextIn c)

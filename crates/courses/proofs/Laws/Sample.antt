@@ -10,7 +10,7 @@ use mathlib.Core.Bool.{false}
 use mathlib.Core.List.{[], _∷_}
 use native.Mathlib.Omega.{arith}
 use lib.ListN.{getD}
-use Rattle.plan.specs.Plan.{Plan, noAction, action}
+use Rattle.plan.specs.Plan.{Plan, action}
 use Rattle.courses.specs.Row.{noRow}
 use Rattle.courses.specs.Ready.{weight}
 use Rattle.lines.proofs.Laws.Shape.{Living, Ready}
@@ -19,12 +19,11 @@ use Rattle.courses.proofs.Laws.Course.{Core, nextIn, Terms, Begins, Han
 use Rattle.courses.proofs.Laws.Steps.{worked, finished, worked-works, finished-ends}
 
 abbrev pub samplePlan : Plan
-samplePlan = record { frame = 1; actions = noAction ∷ [] } ∷ []
+samplePlan = record { frame = 1; actions = record { spawn = 0; join = 0; cost = 2 } ∷ [] } ∷ []
 
 abbrev pub sampleTerms : Terms
 sampleTerms = record {
   plan = samplePlan;
-  cost = λ x. 2;
   workers = 2;
   bound = λ r. weight samplePlan (0 ∷ []) + weight samplePlan (1 ∷ []);
   steady = false;

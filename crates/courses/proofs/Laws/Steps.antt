@@ -2,6 +2,7 @@
 --   worked j c         == c after a turn with job j that does not finish its next action
 --   finished p r w j c == c after worker w finished the next action of job j in round r
 --   worked-works, finished-ends == these are the turns of a course
+--   zero-set           == what was set to 0 is 0, also past the end
 use Prim.Native.Nat.{ℕ, zero, suc, _<_, max}
 use mathlib.Core.Path.{_≡_, refl}
 use mathlib.Core.List.{List, [], _∷_}
@@ -42,7 +43,7 @@ worked-works p j c h = record {
   others = λ x f. getD-set-other (c .spent) j x (suc (spentIn c j)) 0 f;
 }
 
-zero-set : (l : List ℕ) (j : ℕ) → _≡_ {A = ℕ} (getD (set l j 0) j 0) 0
+pub zero-set : (l : List ℕ) (j : ℕ) → _≡_ {A = ℕ} (getD (set l j 0) j 0) 0
 zero-set [] j = refl
 zero-set (x ∷ l) zero = refl
 zero-set (x ∷ l) (suc j) = zero-set l j

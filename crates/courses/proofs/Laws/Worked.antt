@@ -18,11 +18,11 @@ use Rattle.plan.specs.Rules.{Accepted}
 use Rattle.plan_measure.proofs.Laws.Follows.{act}
 use Rattle.lines.proofs.Laws.Bounded.{find}
 use Rattle.lines.proofs.Laws.Sum.{sum, sum-le, sum-less, sum-same, sum-suc, sum-mono}
-use Rattle.courses.proofs.Laws.Course.{Core, nextIn, spentIn, Terms, Course, begins, next-round, rests, works, ends}
+use Rattle.courses.proofs.Laws.Course.{Core, cost, nextIn, spentIn, Terms, Course, begins, next-round, rests, works, ends}
 use Rattle.courses.proofs.Laws.Kept.{course-kept, course-done}
 
 module _ (e : Terms) where
-  open Terms e using (plan, cost, workers)
+  open Terms e using (plan, workers)
 
   abbrev pub upTo : ℕ → ℕ → ℕ
   upTo j i = sum i (λ a. cost (act plan j a))

@@ -1,6 +1,6 @@
 -- Steps of a reading that goes on: what was read first, what was tested, and what was read then.
 --   then-went-on, unless-went-on, when-went-on == from a reading that went on, what its first step gave and its test told
---   then-goes-on, unless-goes-on               == and the other way
+--   then-goes-on, unless-goes-on, when-goes-on == and the other way
 use Prim.Native.Nat.{ℕ}
 use native.Mathlib.Omega.{arith}
 use mathlib.Core.Path.{_≡_, refl, ap, _∙_}
@@ -31,3 +31,7 @@ then-goes-on m f e g = ap (λ x. then x f) e ∙ g
 pub unless-goes-on : {B : Type 0} {r : Step B} (c : Bool) (k : ℕ) (m : Step B) → c ≡ false → m ≡ r
     → _≡_ {A = Step B} (elim c [ true ↦ stop k | false ↦ m ]) r
 unless-goes-on c k m e g = rw e g
+
+pub when-goes-on : {B : Type 0} {r : Step B} (c : Bool) (k : ℕ) (m : Step B) → c ≡ true → m ≡ r
+    → _≡_ {A = Step B} (elim c [ false ↦ stop k | true ↦ m ]) r
+when-goes-on c k m e g = rw e g

@@ -3,7 +3,7 @@ use Prim.Native.Nat.{ℕ, _*_, _-_, _/_, _≤_}
 use native.Mathlib.Omega.{arith}
 use mathlib.Core.Path.{_≡_, sym, ap, _∙_}
 use mathlib.Core.List.{List}
-use lib.ListN.{length, take, drop, length-append}
+use lib.ListN.{length, getD, take, drop, length-append}
 use Rattle.plan.specs.declared.refusal.Refusal.{Refusal}
 use Rattle.plan.specs.Refusal.{refused, numberOf}
 use Rattle.fields.specs.Field.{Bytes}
@@ -11,7 +11,7 @@ use Rattle.plan_table.specs.declared.Answer.{Answer}
 use Rattle.plan_table.specs.declared.Answer.the-variants.{Refused, Count}
 use Rattle.plan_table.specs.Table.{Written, written, toTable, toPlan, answerOf}
 use Rattle.plan_table.proofs.Laws.Rows.{table-length}
-use Rattle.plan_table.proofs.Laws.RoundTrip.{toTable-told, toPlan-told, plan-table-plan, table-plan-table}
+use Rattle.plan_table.proofs.Laws.RoundTrip.{toTable-told, toPlan-told, plan-form, plan-table-plan, table-plan-table}
 use Rattle.own.specs.RoundTrip.{back, planBack, tableBack}
 
 module _ (first : Written) (r : Answer) (left : List ℕ) (e : record { answer = answerOf r; buffer = left } ≡ first) where
@@ -34,31 +34,37 @@ module _ (first : Written) (r : Answer) (left : List ℕ) (e : record { answer =
 -- a plan that was opened into n rows
 module _ (plan rows left : List ℕ) (r : Answer) (n : ℕ)
     (e : record { answer = answerOf r; buffer = left } ≡ toTable plan rows) (f : r ≡ Count n) where
-  pub rows-room : 4 * n ≤ length left
+  pub rows-room : 5 * n ≤ length left
   rows-room =
-      toTable-told plan rows n (answered _ r left e (Count n) f) λ p _ k b.
-      rw (left-is _ r left e, b, length-append) (omega (arith, table-length p))
+      toTable-told plan rows n (answered _ r left e (Count n) f) λ x _ k b.
+      rw (left-is _ r left e, b, length-append) (omega (arith, table-length (x .plan)))
 
-  -- the table that is closed is the part from 0 to 4 * n
-  pub plan-back : Bytes plan → (bytes : List ℕ) (second : Written) → second ≡ toPlan (take (4 * n - 0) (drop 0 left)) bytes
-      → (second ≡ planBack plan rows bytes) × (left ≡ toTable plan rows .buffer)
-  plan-back h bytes second g =
-      let whole : 4 * n - 0 ≡ 4 * n = omega arith in
+  -- it has a first byte
+  pub plan-some : Bytes plan → 1 ≤ length plan
+  plan-some h = toTable-told plan rows n (answered _ r left e (Count n) f) λ x q _ _. plan-form plan x h q .0
+
+  -- the table that is closed, in the form of the first byte, is the part from 0 to 5 * n
+  pub plan-back : Bytes plan → (bytes : List ℕ) (form : ℕ) → form ≡ getD plan 0 0 → (second : Written)
+      → second ≡ toPlan form (take (5 * n - 0) (drop 0 left)) bytes → (second ≡ planBack plan rows bytes) × (left ≡ toTable plan rows .buffer)
+  plan-back h bytes form i second g =
+      toTable-told plan rows n (answered _ r left e (Count n) f) λ x q _ _.
+      let whole : 5 * n - 0 ≡ 5 * n = omega arith in
+      let own : form ≡ x .form = i ∙ plan-form plan x h q .1 in
       counted-back _ r left e n f second plan (length plan) bytes
-      (rw (whole, left-is _ r left e) at g ∙ plan-table-plan plan rows bytes n h (answered _ r left e (Count n) f))
+      (rw (whole, left-is _ r left e, own) at g ∙ plan-table-plan plan rows bytes n x h q (answered _ r left e (Count n) f))
 
 -- a table that was closed into n bytes
-module _ (table bytes left : List ℕ) (r : Answer) (n : ℕ)
-    (e : record { answer = answerOf r; buffer = left } ≡ toPlan table bytes) (f : r ≡ Count n) where
+module _ (form : ℕ) (table bytes left : List ℕ) (r : Answer) (n : ℕ)
+    (e : record { answer = answerOf r; buffer = left } ≡ toPlan form table bytes) (f : r ≡ Count n) where
   pub bytes-room : n ≤ length left
   bytes-room =
-      toPlan-told table bytes n (answered _ r left e (Count n) f) λ p _ k b.
+      toPlan-told form table bytes n (answered _ r left e (Count n) f) λ p _ k b.
       rw (left-is _ r left e, b, length-append) (omega arith)
 
   -- the bytes that are opened are the part from 0 to n
   pub table-back : (rows : List ℕ) (second : Written) → second ≡ toTable (take (n - 0) (drop 0 left)) rows
-      → (second ≡ tableBack table bytes rows) × (left ≡ toPlan table bytes .buffer)
+      → (second ≡ tableBack form table bytes rows) × (left ≡ toPlan form table bytes .buffer)
   table-back rows second g =
       let whole : n - 0 ≡ n = omega arith in
-      counted-back _ r left e n f second table (length table / 4) rows
-      (rw (whole, left-is _ r left e) at g ∙ table-plan-table table bytes rows n (answered _ r left e (Count n) f))
+      counted-back _ r left e n f second table (length table / 5) rows
+      (rw (whole, left-is _ r left e) at g ∙ table-plan-table form table bytes rows n (answered _ r left e (Count n) f))

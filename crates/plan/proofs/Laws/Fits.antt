@@ -8,6 +8,7 @@ use lib.Dec.{T, eqb, leb, ltb, ltb→lt, leb→le, le→leb}
 use Rattle.plan.specs.Test.{both, all, below}
 use Rattle.plan.specs.Plan.{Action, Job, Plan, Placed, noPlaced, size, action, placedIn, placedFrom, placed, parent, spawnAt}
 use Rattle.plan.specs.Rules.{
+  costInRange,
   jobInRange,
   inRange,
   spawnFits,
@@ -19,11 +20,11 @@ use Rattle.plan.specs.Rules.{
   joinRules,
 }
 use Rattle.plan.proofs.Laws.Lists.{both-intro, both-left, both-right, all-at, all-by}
-use Rattle.plan.proofs.Laws.Spawning.{job-in-range, each-in-range, jobs-in-range}
+use Rattle.plan.proofs.Laws.Spawning.{job-in-range, costs-in-range, each-in-range, jobs-in-range}
 
 abbrev pub Small : List Action → Type 0
 Small [] = Unit {0}
-Small (a ∷ l) = (a .spawn ≤ 256) × (a .join ≤ 256) × Small l
+Small (a ∷ l) = (a .spawn ≤ 256) × (a .join ≤ 256) × (1 ≤ a .cost) × (a .cost ≤ 15) × Small l
 
 pub record JobFits (b : Job) : Type 0 where
   pub some-frame : 1 ≤ b .frame
@@ -48,14 +49,17 @@ all-back : {A : Type 0} (f : A → Bool) (l r : List A) → T (all f (l ++ r)) �
 all-back f [] r t = t
 all-back f (x ∷ l) r t = all-back f l r (both-right (f x) (all f (l ++ r)) t)
 
-actions-small : (j i : ℕ) (l : List Action) → T (all placedSmall (placedIn j i l)) → Small l
-actions-small j i [] t = tt
-actions-small j i (a ∷ l) t =
+actions-small : (j i : ℕ) (l : List Action) → T (all costInRange l) → T (all placedSmall (placedIn j i l)) → Small l
+actions-small j i [] c t = tt
+actions-small j i (a ∷ l) c t =
     let rest = all placedSmall (placedIn j (suc i) l) in
-    let b = both-left (both (leb (a .spawn) 256) (leb (a .join) 256)) rest t in (
+    let b = both-left (both (leb (a .spawn) 256) (leb (a .join) 256)) rest t in
+    let d = both-left (costInRange a) (all costInRange l) c in (
       leb→le (a .spawn) 256 (both-left (leb (a .spawn) 256) (leb (a .join) 256) b),
       leb→le (a .join) 256 (both-right (leb (a .spawn) 256) (leb (a .join) 256) b),
-      actions-small j (suc i) l (both-right (both (leb (a .spawn) 256) (leb (a .join) 256)) rest t),
+      leb→le 1 (a .cost) (both-left (leb 1 (a .cost)) (leb (a .cost) 15) d),
+      leb→le (a .cost) 15 (both-right (leb 1 (a .cost)) (leb (a .cost) 15) d),
+      actions-small j (suc i) l (both-right (costInRange a) (all costInRange l) c) (both-right (both (leb (a .spawn) 256) (leb (a .join) 256)) rest t),
     )
 
 jobs-fit : (j : ℕ) (p : List Job) → T (all jobInRange p) → T (all placedSmall (placedFrom j p)) → Fits p
@@ -67,7 +71,7 @@ jobs-fit j (b ∷ bs) r t =
         frame = omega (arith, f);
         some-action = f .2;
         actions = omega (arith, f);
-        small = actions-small j 0 (b .actions) (all-front placedSmall (placedIn j 0 (b .actions)) (placedFrom (suc j) bs) t);
+        small = actions-small j 0 (b .actions) (costs-in-range b (both-left (jobInRange b) (all jobInRange bs) r)) (all-front placedSmall (placedIn j 0 (b .actions)) (placedFrom (suc j) bs) t);
       },
       jobs-fit (suc j) bs (both-right (jobInRange b) (all jobInRange bs) r) (all-back placedSmall (placedIn j 0 (b .actions)) (placedFrom (suc j) bs) t),
     )

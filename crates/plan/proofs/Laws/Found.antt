@@ -13,8 +13,8 @@ use Rattle.plan.specs.Found.{ReadPlan, ReadInto}
 use Rattle.plan.proofs.Laws.Valid.{jobs-range, total-range}
 
 module _ (s : List ℕ) (r : Found) (plan entering : List ℕ) (h : ReadInto s r plan entering) where
-  pub found-plan : (jobs actions : ℕ) → r ≡ Found.Plan jobs actions → ReadPlan s jobs actions plan entering
-  found-plan jobs actions e = rw e at h
+  pub found-plan : (form jobs actions : ℕ) → r ≡ Found.Plan form jobs actions → ReadPlan s form jobs actions plan entering
+  found-plan form jobs actions e = rw e at h
 
   pub found-none : (cause : Refusal) → r ≡ Found.Refused cause → readPlan s ≡ refused (numberOf cause)
   found-none cause e = rw e at h

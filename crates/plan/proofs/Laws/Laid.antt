@@ -5,7 +5,7 @@ use mathlib.Core.List.{List}
 use native.Mathlib.Numerals.{add-one}
 use lib.ListN.{length}
 use Rattle.plan.specs.Plan.{Plan, size, action}
-use Rattle.plan.specs.Sheet.{childAt, targetAt, jobAt, firstOf, Laid}
+use Rattle.plan.specs.Sheet.{childAt, targetAt, jobAt, costAt, firstOf, Laid}
 use Rattle.plan.proofs.Laws.Placed.{start, placed-at, place-below, start-suc}
 
 module _ (plan : List ℕ) (p : Plan) (g : Laid plan p) (j : ℕ) (h : j < length p) where
@@ -21,3 +21,6 @@ module _ (plan : List ℕ) (p : Plan) (g : Laid plan p) (j : ℕ) (h : j < lengt
 
     pub laid-target : targetAt plan (start p j + i) ≡ action p j i .join
     laid-target = g .targets (start p j + i) (place-below p j i h b) ∙ ap (λ a. a .join) (placed-at p j i h b)
+
+    pub laid-cost : costAt plan (start p j + i) ≡ action p j i .cost
+    laid-cost = g .costs (start p j + i) (place-below p j i h b) ∙ ap (λ a. a .cost) (placed-at p j i h b)

@@ -45,4 +45,5 @@ module _ (plan : List ℕ) (p : Plan) (g : Laid plan p) (c q x : ℕ) (h : c < l
         owners = λ k b. elsewhere (5121 + k) (omega (arith, few)) (omega (arith, few)) ∙ g .owners k b;
         children = λ k b. elsewhere k (omega (arith, total-in-range p (g .range))) (omega (arith, total-in-range p (g .range))) ∙ g .children k b;
         targets = λ k b. elsewhere (2048 + k) (omega (arith, total-in-range p (g .range))) (omega (arith, total-in-range p (g .range))) ∙ g .targets k b;
+        costs = λ k b. elsewhere (7169 + k) (omega (arith, few)) (omega (arith, few)) ∙ g .costs k b;
       }

@@ -36,14 +36,14 @@ total-append [] q = omega arith
 total-append (b ∷ p) q = omega (arith, total-append p q)
 
 pub placedIn-at : (j o : ℕ) (l : List Action) (i n : ℕ) → i < length l → o + i ≡ n
-    → getD (placedIn j o l) i noPlaced ≡ record { job = j; position = n; spawn = getD l i noAction .spawn; join = getD l i noAction .join }
+    → getD (placedIn j o l) i noPlaced ≡ record { job = j; position = n; spawn = getD l i noAction .spawn; join = getD l i noAction .join; cost = getD l i noAction .cost }
 placedIn-at j o [] i n h e = absurd (not-suc-le-zero h)
 placedIn-at j o (a ∷ l) zero n h e =
     let e′ : o ≡ n = omega arith in rw e′
 placedIn-at j o (a ∷ l) (suc i) n h e = placedIn-at j (suc o) l i n (le-of-suc-le-suc h) (omega arith)
 
 placedFrom-at : (o : ℕ) (p : List Job) (j i n : ℕ) → j < length p → i < size p j → o + j ≡ n
-    → getD (placedFrom o p) (start p j + i) noPlaced ≡ record { job = n; position = i; spawn = action p j i .spawn; join = action p j i .join }
+    → getD (placedFrom o p) (start p j + i) noPlaced ≡ record { job = n; position = i; spawn = action p j i .spawn; join = action p j i .join; cost = action p j i .cost }
 placedFrom-at o [] j i n h b e = absurd (not-suc-le-zero h)
 placedFrom-at o (b ∷ bs) zero i n h l e =
     let f : i < length (placedIn o 0 (b .actions)) = rw placedIn-length l in
@@ -57,7 +57,7 @@ placedFrom-at o (b ∷ bs) (suc j) i n h l e =
 
 -- what stands at the place of action i of job j
 pub placed-at : (p : Plan) (j i : ℕ) → j < length p → i < size p j
-    → getD (placed p) (start p j + i) noPlaced ≡ record { job = j; position = i; spawn = action p j i .spawn; join = action p j i .join }
+    → getD (placed p) (start p j + i) noPlaced ≡ record { job = j; position = i; spawn = action p j i .spawn; join = action p j i .join; cost = action p j i .cost }
 placed-at p j i h b = placedFrom-at 0 p j i j h b (zero-add j)
 
 pub start-suc : (p : Plan) (j : ℕ) → j < length p → start p (suc j) ≡ start p j + size p j
@@ -116,15 +116,16 @@ pub record Stands (p : Plan) (k : ℕ) (a : Placed) : Type 0 where
   pub place : k ≡ start p (a .job) + a .position
   pub spawn : a .spawn ≡ action p (a .job) (a .position) .spawn
   pub join : a .join ≡ action p (a .job) (a .position) .join
+  pub cost : a .cost ≡ action p (a .job) (a .position) .cost
 
 pub placed-of : (p : Plan) (k : ℕ) → k < total p → Stands p k (getD (placed p) k noPlaced)
 placed-of p k h = found (locate p k h)
   where
     found : Located p k → Stands p k (getD (placed p) k noPlaced)
     found r =
-        let e : getD (placed p) k noPlaced ≡ record { job = r .job; position = r .position; spawn = action p (r .job) (r .position) .spawn; join = action p (r .job) (r .position) .join }
+        let e : getD (placed p) k noPlaced ≡ record { job = r .job; position = r .position; spawn = action p (r .job) (r .position) .spawn; join = action p (r .job) (r .position) .join; cost = action p (r .job) (r .position) .cost }
         = ap (λ n. getD (placed p) n noPlaced) (r .place) ∙ placed-at p (r .job) (r .position) (r .known) (r .within) in
-        rw e (record { known = r .known; within = r .within; place = r .place; spawn = refl; join = refl })
+        rw e (record { known = r .known; within = r .within; place = r .place; spawn = refl; join = refl; cost = refl })
 
 -- no two actions stand at one place
 pub place-once : (p : Plan) (q t r u : ℕ) → q < length p → t < size p q → r < length p → u < size p r → start p q + t ≡ start p r + u

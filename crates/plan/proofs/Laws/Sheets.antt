@@ -11,18 +11,18 @@ use lib.ListN.{length, getD, take, set, length-append, length-set, length-replic
 use lib.Seq.{getD-append-add, getD-set-same, getD-set-other, take-append-le, take-all}
 use Rattle.plan.specs.Plan.{Action, Job, Plan, Placed, job, total, placed, placedIn, noAction, noJob, noPlaced}
 use Rattle.plan.specs.Rules.{inRange, joinRules}
-use Rattle.plan.specs.Sheet.{childAt, targetAt, frameOf, firstOf, spawnOf, jobAt, withAction, Blank, LaidIn, SpawnedIn, PlanIn}
+use Rattle.plan.specs.Sheet.{childAt, targetAt, frameOf, firstOf, spawnOf, jobAt, costAt, withAction, Blank, LaidIn, SpawnedIn, PlanIn}
 use Rattle.plan.specs.Progress.{withActions, withJob, withJobs}
 use Rattle.plan.proofs.Laws.Spawning.{jobs-in-range, total-in-range}
 use Rattle.plan.proofs.Laws.Placed.{placed-length, placedIn-at, placedFrom-append, total-append}
 
 -- one action or job more
 pub actions-one-more : (plan : List ℕ) (k j : ℕ) (l : List Action) (x : Action)
-    → withActions plan k j (l ++ (x ∷ [])) ≡ withAction (withActions plan k j l) (k + length l) j (x .spawn) (x .join)
+    → withActions plan k j (l ++ (x ∷ [])) ≡ withAction (withActions plan k j l) (k + length l) j (x .spawn) (x .join) (x .cost)
 actions-one-more plan k j [] x = rw add-zero
 actions-one-more plan k j (y ∷ l) x =
     let e : suc k + length l ≡ k + length (y ∷ l) = omega arith in
-    rw (actions-one-more (withAction plan k j (y .spawn) (y .join)) (suc k) j l x, e)
+    rw (actions-one-more (withAction plan k j (y .spawn) (y .join) (y .cost)) (suc k) j l x, e)
 
 pub jobs-one-more : (plan : List ℕ) (k j : ℕ) (l : List Job) (x : Job)
     → withJobs plan k j (l ++ (x ∷ [])) ≡ withJob (withJobs plan k j l) (k + total l) (j + length l) x
@@ -38,54 +38,64 @@ jobs-one-more plan k j (y ∷ l) x =
 -- the array stays as long
 actions-long : (plan : List ℕ) (k j : ℕ) (l : List Action) → length (withActions plan k j l) ≡ length plan
 actions-long plan k j [] = refl
-actions-long plan k j (x ∷ l) = actions-long (withAction plan k j (x .spawn) (x .join)) (suc k) j l ∙ rw (length-set, length-set, length-set)
+actions-long plan k j (x ∷ l) = actions-long (withAction plan k j (x .spawn) (x .join) (x .cost)) (suc k) j l ∙ rw (length-set, length-set, length-set, length-set)
 
 -- what one action leaves as it was
-pub action-kept : (plan : List ℕ) (k j child target m : ℕ) → m ≢ k → m ≢ 2048 + k → m ≢ 5121 + k
-    → getD (withAction plan k j child target) m 0 ≡ getD plan m 0
-action-kept plan k j child target m f g h =
-    getD-set-other (set (set plan k child) (2048 + k) target) (5121 + k) m j 0 h
+pub action-kept : (plan : List ℕ) (k j child target cost m : ℕ) → m ≢ k → m ≢ 2048 + k → m ≢ 5121 + k → m ≢ 7169 + k
+    → getD (withAction plan k j child target cost) m 0 ≡ getD plan m 0
+action-kept plan k j child target cost m f g h i =
+    getD-set-other (set (set (set plan k child) (2048 + k) target) (5121 + k) j) (7169 + k) m cost 0 i
+    ∙ getD-set-other (set (set plan k child) (2048 + k) target) (5121 + k) m j 0 h
     ∙ getD-set-other (set plan k child) (2048 + k) m target 0 g ∙ getD-set-other plan k m child 0 f
 
 -- a place that none of n actions from place k on is written to
 abbrev Apart : (k n m : ℕ) → Type 0
-Apart k n m = (i : ℕ) → i < n → (m ≢ k + i) × (m ≢ 2048 + (k + i)) × (m ≢ 5121 + (k + i))
+Apart k n m = (i : ℕ) → i < n → (m ≢ k + i) × (m ≢ 2048 + (k + i)) × (m ≢ 5121 + (k + i)) × (m ≢ 7169 + (k + i))
 
 actions-kept : (plan : List ℕ) (k j : ℕ) (l : List Action) (m : ℕ) → Apart k (length l) m → getD (withActions plan k j l) m 0 ≡ getD plan m 0
 actions-kept plan k j [] m h = refl
 actions-kept plan k j (x ∷ l) m h =
     let z = h 0 (omega arith) in
-    actions-kept (withAction plan k j (x .spawn) (x .join)) (suc k) j l m
+    actions-kept (withAction plan k j (x .spawn) (x .join) (x .cost)) (suc k) j l m
     (λ i b. omega (arith, h (suc i) (omega arith)))
-    ∙ action-kept plan k j (x .spawn) (x .join) m (omega (arith, z)) (omega (arith, z)) (omega (arith, z))
+    ∙ action-kept plan k j (x .spawn) (x .join) (x .cost) m (omega (arith, z)) (omega (arith, z)) (omega (arith, z)) (omega (arith, z))
 
 -- what was written at place k
-pub action-there : (plan : List ℕ) (k j child target : ℕ) → length plan ≡ 9217 → k < 2048
-    → (childAt (withAction plan k j child target) k ≡ child) × (targetAt (withAction plan k j child target) k ≡ target)
-    × (jobAt (withAction plan k j child target) k ≡ j)
-action-there plan k j child target long h = (
-  getD-set-other (set (set plan k child) (2048 + k) target) (5121 + k) k j 0 (omega arith)
-      ∙ getD-set-other (set plan k child) (2048 + k) k target 0 (omega arith) ∙ getD-set-same plan k child 0 (omega arith),
-  getD-set-other (set (set plan k child) (2048 + k) target) (5121 + k) (2048 + k) j 0 (omega arith)
-      ∙ getD-set-same (set plan k child) (2048 + k) target 0 (rw length-set (omega arith)),
-  getD-set-same (set (set plan k child) (2048 + k) target) (5121 + k) j 0 (rw (length-set, length-set) (omega arith)),
-)
+module _ (plan : List ℕ) (k j child target cost : ℕ) (long : length plan ≡ 9217) (h : k < 2048) where
+  abbrev there : List ℕ
+  there = withAction plan k j child target cost
+
+  before-cost : (m : ℕ) → m ≢ 7169 + k → getD there m 0 ≡ getD (set (set (set plan k child) (2048 + k) target) (5121 + k) j) m 0
+  before-cost m f = getD-set-other (set (set (set plan k child) (2048 + k) target) (5121 + k) j) (7169 + k) m cost 0 f
+
+  pub action-there : (childAt there k ≡ child) × (targetAt there k ≡ target) × (jobAt there k ≡ j) × (costAt there k ≡ cost)
+  action-there = (
+    before-cost k (omega arith) ∙ getD-set-other (set (set plan k child) (2048 + k) target) (5121 + k) k j 0 (omega arith)
+        ∙ getD-set-other (set plan k child) (2048 + k) k target 0 (omega arith) ∙ getD-set-same plan k child 0 (omega arith),
+    before-cost (2048 + k) (omega arith) ∙ getD-set-other (set (set plan k child) (2048 + k) target) (5121 + k) (2048 + k) j 0 (omega arith)
+        ∙ getD-set-same (set plan k child) (2048 + k) target 0 (rw length-set (omega arith)),
+    before-cost (5121 + k) (omega arith)
+        ∙ getD-set-same (set (set plan k child) (2048 + k) target) (5121 + k) j 0 (rw (length-set, length-set) (omega arith)),
+    getD-set-same (set (set (set plan k child) (2048 + k) target) (5121 + k) j) (7169 + k) cost 0 (rw (length-set, length-set, length-set) (omega arith)),
+  )
 
 actions-there : (plan : List ℕ) (k j : ℕ) (l : List Action) (i : ℕ) → length plan ≡ 9217 → k + length l ≤ 2048 → i < length l
     → (childAt (withActions plan k j l) (k + i) ≡ getD l i noAction .spawn)
     × (targetAt (withActions plan k j l) (k + i) ≡ getD l i noAction .join) × (jobAt (withActions plan k j l) (k + i) ≡ j)
+    × (costAt (withActions plan k j l) (k + i) ≡ getD l i noAction .cost)
 actions-there plan k j [] i long h b = absurd (not-suc-le-zero b)
 actions-there plan k j (x ∷ l) zero long h b =
-    let next = withAction plan k j (x .spawn) (x .join) in
-    let z = action-there plan k j (x .spawn) (x .join) long (omega arith) in
+    let next = withAction plan k j (x .spawn) (x .join) (x .cost) in
+    let z = action-there plan k j (x .spawn) (x .join) (x .cost) long (omega arith) in
     rw add-zero (
       actions-kept next (suc k) j l k (λ i d. omega arith) ∙ z .0,
       actions-kept next (suc k) j l (2048 + k) (λ i d. omega arith) ∙ z .1,
       actions-kept next (suc k) j l (5121 + k) (λ i d. omega arith) ∙ z .2,
+      actions-kept next (suc k) j l (7169 + k) (λ i d. omega arith) ∙ z .3,
     )
 actions-there plan k j (x ∷ l) (suc i) long h b =
     let e : k + suc i ≡ suc k + i = omega arith in
-    rw e (actions-there (withAction plan k j (x .spawn) (x .join)) (suc k) j l i (rw (length-set, length-set, length-set) long) (omega arith) (le-of-suc-le-suc b))
+    rw e (actions-there (withAction plan k j (x .spawn) (x .join) (x .cost)) (suc k) j l i (rw (length-set, length-set, length-set, length-set) long) (omega arith) (le-of-suc-le-suc b))
 
 -- the array has the jobs p, and no spawn is noted
 record Begun (plan : List ℕ) (p : Plan) : Type 0 where
@@ -95,6 +105,7 @@ record Begun (plan : List ℕ) (p : Plan) : Type 0 where
   owners : (k : ℕ) → k < total p → jobAt plan k ≡ getD (placed p) k noPlaced .job
   children : (k : ℕ) → k < total p → childAt plan k ≡ getD (placed p) k noPlaced .spawn
   targets : (k : ℕ) → k < total p → targetAt plan k ≡ getD (placed p) k noPlaced .join
+  costs : (k : ℕ) → k < total p → costAt plan k ≡ getD (placed p) k noPlaced .cost
   unspawned : (c : ℕ) → c < 256 → spawnOf plan c ≡ 0
 
 begun-none : (plan : List ℕ) → Blank plan → Begun plan []
@@ -105,6 +116,7 @@ begun-none plan e = rw e (record {
   owners = λ k h. absurd (not-suc-le-zero h);
   children = λ k h. absurd (not-suc-le-zero h);
   targets = λ k h. absurd (not-suc-le-zero h);
+  costs = λ k h. absurd (not-suc-le-zero h);
   unspawned = λ c h. getD-replicate 9217 (4865 + c) 0 0 (omega arith);
 })
   where
@@ -170,7 +182,7 @@ module _ (plan : List ℕ) (p : Plan) (x : Job) (h : Begun plan p) (few : length
 
   -- the action at place k
   abbrev Row : ℕ → Placed → Type 0
-  Row k a = (jobAt new k ≡ a .job) × (childAt new k ≡ a .spawn) × (targetAt new k ≡ a .join)
+  Row k a = (jobAt new k ≡ a .job) × (childAt new k ≡ a .spawn) × (targetAt new k ≡ a .join) × (costAt new k ≡ a .cost)
 
   row : (k : ℕ) → k < total (p ++ (x ∷ [])) → Row k (getD (placed (p ++ (x ∷ []))) k noPlaced)
   unfolding new rows framed
@@ -190,6 +202,7 @@ module _ (plan : List ℕ) (p : Plan) (x : Job) (h : Begun plan p) (few : length
             getD-set-other rows (4352 + (length p + 1)) (5121 + (total p + i)) (total p + length (x .actions)) 0 (omega arith) ∙ z .2,
             getD-set-other rows (4352 + (length p + 1)) (total p + i) (total p + length (x .actions)) 0 (omega arith) ∙ z .0,
             getD-set-other rows (4352 + (length p + 1)) (2048 + (total p + i)) (total p + length (x .actions)) 0 (omega arith) ∙ z .1,
+            getD-set-other rows (4352 + (length p + 1)) (7169 + (total p + i)) (total p + length (x .actions)) 0 (omega arith) ∙ z .3,
           )
 
       go : Dec (k < total p) → Row k (getD (placed (p ++ (x ∷ []))) k noPlaced)
@@ -200,6 +213,7 @@ module _ (plan : List ℕ) (p : Plan) (x : Job) (h : Begun plan p) (few : length
             kept (5121 + k) (omega arith) (omega arith) (λ i d. omega arith) ∙ h .owners k l,
             kept k (omega arith) (omega arith) (λ i d. omega arith) ∙ h .children k l,
             kept (2048 + k) (omega arith) (omega arith) (λ i d. omega arith) ∙ h .targets k l,
+            kept (7169 + k) (omega arith) (omega arith) (λ i d. omega arith) ∙ h .costs k l,
           )
       go (no n) = added (k - total p) (omega (arith, total-append p (x ∷ []))) (omega arith)
 
@@ -212,6 +226,7 @@ module _ (plan : List ℕ) (p : Plan) (x : Job) (h : Begun plan p) (few : length
     owners = λ k b. row k b .0;
     children = λ k b. row k b .1;
     targets = λ k b. row k b .2;
+    costs = λ k b. row k b .3;
     unspawned = λ c b. kept (4865 + c) (omega arith) (omega arith) (high (4865 + c) (omega arith) (omega arith)) ∙ h .unspawned c b;
   }
 
@@ -242,6 +257,7 @@ laid-all plan p jobs actions blank r e f =
         owners = h .owners;
         children = h .children;
         targets = h .targets;
+        costs = h .costs;
       };
       unspawned = λ c b. h .unspawned c (omega (arith, a));
     }

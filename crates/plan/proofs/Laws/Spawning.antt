@@ -8,8 +8,8 @@ use native.Mathlib.Nat.{not-suc-le-zero}
 use lib.Dec.{T, leb, ltb, eqb, leb→le, ltb→lt, eqb→eq, eqb-refl}
 use lib.ListN.{length, getD}
 use Rattle.plan.specs.Test.{both, either, all, count, below}
-use Rattle.plan.specs.Plan.{Job, Plan, Placed, job, size, action, total, placed, noJob, noPlaced, spawnerIn, spawner, parent, spawnAt}
-use Rattle.plan.specs.Rules.{jobInRange, inRange, spawnFits, spawnedOnce, spawnRules}
+use Rattle.plan.specs.Plan.{Job, Plan, Placed, job, size, action, total, placed, noAction, noJob, noPlaced, spawnerIn, spawner, parent, spawnAt}
+use Rattle.plan.specs.Rules.{costInRange, jobInRange, inRange, spawnFits, spawnedOnce, spawnRules}
 use Rattle.plan.specs.Kept.{spawning}
 use Rattle.plan.proofs.Laws.Lists.{both-left, both-right, true-of, false-of, all-at}
 use Rattle.plan.proofs.Laws.Counts.{decT, count-miss, count-same, below-all}
@@ -24,9 +24,15 @@ pub job-in-range : (b : Job) → T (jobInRange b) → (1 ≤ b .frame) × (b .fr
 job-in-range b t =
     let frames = both (leb 1 (b .frame)) (leb (b .frame) 65535) in
     let sizes = both (leb 1 (length (b .actions))) (leb (length (b .actions)) 255) in
-    let f = range-test 1 65535 (b .frame) (both-left frames sizes t) in
-    let s = range-test 1 255 (length (b .actions)) (both-right frames sizes t) in
+    let u = both-left (both frames sizes) (all costInRange (b .actions)) t in
+    let f = range-test 1 65535 (b .frame) (both-left frames sizes u) in
+    let s = range-test 1 255 (length (b .actions)) (both-right frames sizes u) in
     (f .0, f .1, s .0, s .1)
+
+-- the costs of a job's actions
+pub costs-in-range : (b : Job) → T (jobInRange b) → T (all costInRange (b .actions))
+costs-in-range b t =
+    both-right (both (both (leb 1 (b .frame)) (leb (b .frame) 65535)) (both (leb 1 (length (b .actions))) (leb (length (b .actions)) 255))) (all costInRange (b .actions)) t
 
 module _ (p : Plan) (r : T (inRange p)) where
   rest-test : T (both (all jobInRange p) (leb (total p) 2048))
@@ -48,6 +54,9 @@ module _ (p : Plan) (r : T (inRange p)) where
 
     pub size-in-range : (1 ≤ size p j) × (size p j ≤ 255)
     size-in-range = let r = job-in-range (job p j) job-test in (r .2, r .3)
+
+    pub cost-in-range : (i : ℕ) → i < size p j → (1 ≤ action p j i .cost) × (action p j i .cost ≤ 15)
+    cost-in-range i b = range-test 1 15 (action p j i .cost) (all-at costInRange (job p j .actions) (costs-in-range (job p j) job-test) noAction i b)
 
     pub frame-in-range : (1 ≤ job p j .frame) × (job p j .frame ≤ 65535)
     frame-in-range = let r = job-in-range (job p j) job-test in (r .0, r .1)
@@ -141,7 +150,7 @@ module _ (p : Plan) (s : T (spawnRules p)) where
       let k : start p q + i < total p = place-below p q i h b in
       let here : getD (placed p) (start p q + i) noPlaced .spawn ≡ suc c = rw (placed-at p q i h b) e in
       let fits = spawn-fits (length p) (getD (placed p) (start p q + i) noPlaced) c (spawn-allowed (start p q + i) k) here in
-      let is : spawner p c ≡ record { job = q; position = i; spawn = action p q i .spawn; join = action p q i .join } =
+      let is : spawner p c ≡ record { job = q; position = i; spawn = action p q i .spawn; join = action p q i .join; cost = action p q i .cost } =
       spawner-only c (placed p) (spawn-count c (fits .0) (fits .1)) (start p q + i) (omega (arith, placed-length p))
       (rw here (eqb-refl (suc c))) ∙ placed-at p q i h b in
       (fits .0, fits .1, ap (λ a. a .job) is, ap (λ a. a .position) is)

@@ -1,7 +1,7 @@
 -- What the steps of the reader give: their bounds, and what was read of a list of actions or jobs in turn.
 use Prim.Native.Nat.{ℕ, zero, suc, _+_, _*_, _^_, _≤_, _<_}
 use native.Mathlib.Omega.{arith}
-use mathlib.Core.Path.{_≡_, refl, ap, sym}
+use mathlib.Core.Path.{_≡_, refl, ap, sym, _∙_}
 use mathlib.Core.Bool.{Bool, true, false}
 use mathlib.Core.Logic.{_≢_}
 use mathlib.Core.List.{List, [], _∷_, _++_, append-assoc}
@@ -10,11 +10,12 @@ use lib.ListN.{length}
 use lib.Dec.{T, eqb, ltb, leb, le→leb}
 use Rattle.plan.specs.Test.{both, either, all}
 use Rattle.plan.specs.Plan.{Action, Job, Plan, total}
-use Rattle.plan.specs.Rules.{jobInRange, inRange}
+use Rattle.plan.specs.Rules.{costInRange, jobInRange, inRange}
 use Rattle.fields.specs.Field.{Step, stop, step, then, fieldAt}
-use Rattle.plan.specs.Reader.{numberAt, actionAt, actionsAt, jobsAt, planAt}
+use Rattle.plan.specs.Reader.{numberAt, costIn, actionAt, actionsAt, jobsAt, Read, isForm, planAt}
+use Rattle.plan.specs.Action.{costField}
 use Rattle.plan.specs.Progress.{Head, headerAt, oneJobAt}
-use Rattle.fields.proofs.Laws.Bits.{field-read, field-stop}
+use Rattle.fields.proofs.Laws.Bits.{field-read}
 
 module _ {A B : Type 0} where
   -- what comes after a step that stands had a first step that stands
@@ -50,16 +51,12 @@ T-both false b f g = f
 pub T-four : (a b c d : Bool) → T a → T b → T c → T d → T (both (both a b) (both c d))
 T-four a b c d f g h i = T-both (both a b) (both c d) (T-both a b f g) (T-both c d h i)
 
--- two stops that are equal have one number
-stop-again : {A : Type 0} (k n : ℕ) → _≡_ {A = Step A} (stop k) (stop n) → k ≡ 1 → n ≡ 1
-stop-again k n e f = cc
-
 -- what is left to read, behind what is read
 abbrev pub after : {A : Type 0} → List A → Step (List A) → Step (List A)
 after l x = then x (λ rest n. step (l ++ rest) n)
 
 module _ (s : List ℕ) where
-  -- how far a number or an action reaches
+  -- how far a number reaches
   pub number-next : (at v n : ℕ) → numberAt s at ≡ step v n → (v ≤ 256) × (n ≤ at + 9) × (n ≤ 8 * length s)
   unfolding numberAt
   number-next at v n e =
@@ -78,75 +75,99 @@ module _ (s : List ℕ) where
           let r = field-read s 8 m w q is in
           omega arith
 
-  -- a number or an action that is no step is one where the bits ran out
-  number-stop : (at n : ℕ) → numberAt s at ≡ stop n → n ≡ 1
-  unfolding numberAt
-  number-stop at n e =
-      step-cases (fieldAt s 1 at) (λ k f. stop-again {A = ℕ} k n (rw f at e) (field-stop s 1 at k f .0)) (λ there m f. go there m (rw f at e))
+module _ (form : ℕ) (s : List ℕ) where
+  -- what is written of a cost is small, and takes at most four bits
+  pub cost-field : (at v n : ℕ) → costField form s at ≡ step v n → (v ≤ 15) × (n ≤ at + 4) × (at ≤ 8 * length s → n ≤ 8 * length s)
+  cost-field at v n e = bool-cases (eqb form 1) (λ g. none (rw (g, costField) at e)) (λ g. some (rw (g, costField) at e))
     where
-      go : (there m : ℕ) → _≡_ {A = Step ℕ} (elim there [ zero ↦ step 0 m | suc one ↦ then (fieldAt s 8 m) (λ v at. step (suc v) at) ]) (stop n) → n ≡ 1
-      go zero m e = absurd (stop-no-step n 0 m (sym e))
-      go (suc one) m e =
-          step-cases (fieldAt s 8 m) (λ k f. stop-again {A = ℕ} k n (rw f at e) (field-stop s 8 m k f .0)) (λ v q f. absurd (stop-no-step n (suc v) q (sym (rw f at e))))
+      Small : Type 0
+      Small = (v ≤ 15) × (n ≤ at + 4) × (at ≤ 8 * length s → n ≤ 8 * length s)
 
-  pub action-stop : (at n : ℕ) → actionAt s at ≡ stop n → n ≡ 1
-  unfolding actionAt
-  action-stop at n e =
-      step-cases (numberAt s at) (λ k f. stop-again {A = Action} k n (rw f at e) (number-stop at k f)) (λ spawn m f.
-      step-cases (numberAt s m) (λ k g. stop-again {A = Action} k n (rw (f, g) at e) (number-stop m k g)) (λ join q g.
-      absurd (stop-no-step n (record { spawn = spawn; join = join }) q (sym (rw (f, g) at e)))))
+      none : _≡_ {A = Step ℕ} (step 1 at) (step v n) → Small
+      none e =
+          let f : 1 ≡ v = cc in
+          let g : at ≡ n = cc in
+          (omega arith, omega arith, λ h. omega arith)
 
-  pub action-next : (at : ℕ) (a : Action) (n : ℕ) → actionAt s at ≡ step a n → (n ≤ at + 18) × (n ≤ 8 * length s)
+      some : fieldAt s 4 at ≡ step v n → Small
+      some e = let (a, b, c, d) = field-read s 4 at v n e in (omega arith, omega arith, λ h. c)
+
+  -- a cost is what is written of it, if that is not 0
+  pub cost-is : (at : ℕ) → costIn form s at ≡ then (costField form s at) (λ cost at. elim (eqb cost 0) [ true ↦ stop 3 | false ↦ step cost at ])
+  unfolding costIn
+  cost-is at = bool-cases (eqb form 1) (λ g. rw (g, costIn, costField)) (λ g. rw (g, costIn, costField))
+
+  pub cost-next : (at v n : ℕ) → costIn form s at ≡ step v n
+      → (1 ≤ v) × (v ≤ 15) × (n ≤ at + 4) × (at ≤ 8 * length s → n ≤ 8 * length s)
+  cost-next at v n e =
+      let (cost, m, is, e₁) = then-step (costField form s at) _ v n (sym (cost-is at) ∙ e) in
+      bool-cases (eqb cost 0) (λ g. absurd (stop-no-step 3 v n (rw g at e₁))) (λ g.
+      let e₂ : _≡_ {A = Step ℕ} (step cost m) (step v n) = rw g at e₁ in
+      let f : cost ≡ v = cc in
+      let k : m ≡ n = cc in
+      let z : cost ≢ 0 = eqb-false cost 0 g in
+      let r = cost-field at cost m is in
+      (omega arith, omega (arith, r .0), omega (arith, r .1), λ h. omega (arith, r .2 h)))
+
+  pub action-next : (at : ℕ) (a : Action) (n : ℕ) → actionAt form s at ≡ step a n
+      → (n ≤ at + 22) × (n ≤ 8 * length s) × (1 ≤ a .cost) × (a .cost ≤ 15)
   unfolding actionAt
   action-next at a n e =
       let (spawn, m, is, e₁) = then-step (numberAt s at) _ a n e in
       let (join, q, is₁, e₂) = then-step (numberAt s m) _ a n e₁ in
-      let g : q ≡ n = cc in
-      omega (arith, number-next at spawn m is, number-next m join q is₁)
+      let (cost, o, is₂, e₃) = then-step (costIn form s q) _ a n e₂ in
+      let g : o ≡ n = cc in
+      let f : record { spawn = spawn; join = join; cost = cost } ≡ a = cc in
+      let c : cost ≡ a .cost = ap (λ x. x .cost) f in
+      let z = cost-next q cost o is₂ in
+      let y = number-next s m join q is₁ in
+      (omega (arith, number-next s at spawn m is), omega (arith, z .3 (y .2)), omega arith, omega arith)
 
-  -- n actions are n, each of at most 18 bits, and end within the bytes where they begin there
-  pub actions-next : (n at : ℕ) (l : List Action) (end : ℕ) → actionsAt s n at ≡ step l end → (length l ≡ n) × (end ≤ at + 18 * n) × (at ≤ 8 * length s → end ≤ 8 * length s)
+  -- n actions are n, each of at most 22 bits and a cost in range, and end within the bytes where they begin there
+  pub actions-next : (n at : ℕ) (l : List Action) (end : ℕ) → actionsAt form s n at ≡ step l end
+      → (length l ≡ n) × (end ≤ at + 22 * n) × (at ≤ 8 * length s → end ≤ 8 * length s) × T (all costInRange l)
   unfolding actionsAt
   actions-next zero at l end e =
       let f : [] ≡ l = cc in
       let g : at ≡ end = cc in
-      (sym (ap length f), omega arith, λ h. omega arith)
+      (sym (ap length f), omega arith, λ h. omega arith, rw (← f) tt)
   actions-next (suc n) at l end e =
-      let (a, m, is, e₁) = then-step (actionAt s at) _ l end e in
-      let (rest, q, is₁, e₂) = then-step (actionsAt s n m) _ l end e₁ in
+      let (a, m, is, e₁) = then-step (actionAt form s at) _ l end e in
+      let (rest, q, is₁, e₂) = then-step (actionsAt form s n m) _ l end e₁ in
       let f : a ∷ rest ≡ l = cc in
       let g : q ≡ end = cc in
       let h = action-next at a m is in
       let k = actions-next n m rest q is₁ in
       let j : length (a ∷ rest) ≡ length l = ap length f in
-      (omega arith, omega arith, λ _. omega (arith, k .2 (h .1)))
+      let c : T (costInRange a) = T-both (leb 1 (a .cost)) (leb (a .cost) 15) (le→leb 1 (a .cost) (h .2)) (le→leb (a .cost) 15 (h .3)) in
+      (omega arith, omega arith, λ _. omega (arith, k .2 (h .1)), rw (← f) (T-both (costInRange a) (all costInRange rest) c (k .3)))
 
   -- one action more is read behind the actions l
-  pub actions-more : (l : List Action) (x : Action) (n at at′ : ℕ) → actionAt s at ≡ step x at′ → after l (actionsAt s (suc n) at) ≡ after (l ++ (x ∷ [])) (actionsAt s n at′)
+  pub actions-more : (l : List Action) (x : Action) (n at at′ : ℕ) → actionAt form s at ≡ step x at′ → after l (actionsAt form s (suc n) at) ≡ after (l ++ (x ∷ [])) (actionsAt form s n at′)
   unfolding actionsAt
   actions-more l x n at at′ e =
-      rw e (step-cases (actionsAt s n at′) (λ k f. rw f) (λ rest m f. rw (f, append-assoc)))
+      rw e (step-cases (actionsAt form s n at′) (λ k f. rw f) (λ rest m f. rw (f, append-assoc)))
 
-  pub actions-out : (l : List Action) (n at k : ℕ) → actionAt s at ≡ stop k → after l (actionsAt s (suc n) at) ≡ stop 1
+  pub actions-out : (l : List Action) (n at k : ℕ) → actionAt form s at ≡ stop k → after l (actionsAt form s (suc n) at) ≡ stop k
   unfolding actionsAt
-  actions-out l n at k e = rw (e, action-stop at k e)
+  actions-out l n at k e = rw e
 
   -- the jobs are a job and then the others
-  pub jobs-step : (n k at : ℕ) → jobsAt s (suc n) k at ≡ then (oneJobAt s k at) (λ x at. then (jobsAt s n (k + length (x .actions)) at) (λ rest at. step (x ∷ rest) at))
+  pub jobs-step : (n k at : ℕ) → jobsAt form s (suc n) k at ≡ then (oneJobAt form s k at) (λ x at. then (jobsAt form s n (k + length (x .actions)) at) (λ rest at. step (x ∷ rest) at))
   unfolding jobsAt oneJobAt headerAt
   jobs-step n k at =
       step-cases (fieldAt s 16 at) (λ q e. rw e) (λ weight m e.
       rw e (bool-cases (eqb weight 0) (λ f. rw (f, then)) (λ f.
       rw (f, then) (step-cases (fieldAt s 8 m) (λ q g. rw g) (λ size q g.
       rw g (bool-cases (either (eqb size 0) (ltb 2048 (k + size))) (λ h. rw (h, then)) (λ h.
-      rw (h, then) (step-cases (actionsAt s size q) (λ r i. rw i) (λ l r i. rw (i, actions-next size q l r i .0))))))))))
+      rw (h, then) (step-cases (actionsAt form s size q) (λ r i. rw i) (λ l r i. rw (i, actions-next size q l r i .0))))))))))
 
   -- one job more is read behind the jobs p
-  pub jobs-more : (p : Plan) (x : Job) (n k at at′ : ℕ) → oneJobAt s k at ≡ step x at′ → after p (jobsAt s (suc n) k at) ≡ after (p ++ (x ∷ [])) (jobsAt s n (k + length (x .actions)) at′)
+  pub jobs-more : (p : Plan) (x : Job) (n k at at′ : ℕ) → oneJobAt form s k at ≡ step x at′ → after p (jobsAt form s (suc n) k at) ≡ after (p ++ (x ∷ [])) (jobsAt form s n (k + length (x .actions)) at′)
   jobs-more p x n k at at′ e =
-      rw (jobs-step, e) (step-cases (jobsAt s n (k + length (x .actions)) at′) (λ q f. rw f) (λ rest m f. rw (f, append-assoc)))
+      rw (jobs-step, e) (step-cases (jobsAt form s n (k + length (x .actions)) at′) (λ q f. rw f) (λ rest m f. rw (f, append-assoc)))
 
-  pub jobs-stop : (p : Plan) (m n k at : ℕ) → oneJobAt s k at ≡ stop m → after p (jobsAt s (suc n) k at) ≡ stop m
+  pub jobs-stop : (p : Plan) (m n k at : ℕ) → oneJobAt form s k at ≡ stop m → after p (jobsAt form s (suc n) k at) ≡ stop m
   jobs-stop p m n k at e = rw (jobs-step, e)
 
   -- what is read is in range, and ends within the bytes
@@ -167,33 +188,35 @@ module _ (s : List ℕ) where
       let b : size ≢ 0 = eqb-false size 0 (r .0) in
       omega (arith, ltb-false 2048 (k + size) (r .1), field-read s 16 at weight m is, field-read s 8 m size q is₁)))
 
-  pub job-next : (k at : ℕ) (x : Job) (n : ℕ) → oneJobAt s k at ≡ step x n → T (jobInRange x) × (k + length (x .actions) ≤ 2048) × (n ≤ at + 24 + 18 * length (x .actions)) × (n ≤ 8 * length s)
+  pub job-next : (k at : ℕ) (x : Job) (n : ℕ) → oneJobAt form s k at ≡ step x n → T (jobInRange x) × (k + length (x .actions) ≤ 2048) × (n ≤ at + 24 + 22 * length (x .actions)) × (n ≤ 8 * length s)
   unfolding oneJobAt
   job-next k at x n e =
       let (h, m, is, e₁) = then-step (headerAt s k at) _ x n e in
-      let (l, q, is₁, e₂) = then-step (actionsAt s (h .size) m) _ x n e₁ in
+      let (l, q, is₁, e₂) = then-step (actionsAt form s (h .size) m) _ x n e₁ in
       let i : record { frame = h .weight; actions = l } ≡ x = cc in
       let j : q ≡ n = cc in
       let w : h .weight ≡ x .frame = ap (λ x. x .frame) i in
       let z : length l ≡ length (x .actions) = ap (λ x. length (x .actions)) i in
       let r = header-next k at h m is in
       let t = actions-next (h .size) m l q is₁ in (
-        T-four (leb 1 (x .frame)) (leb (x .frame) 65535) (leb 1 (length (x .actions))) (leb (length (x .actions)) 255)
-            (le→leb 1 (x .frame) (omega arith)) (le→leb (x .frame) 65535 (omega arith)) (le→leb 1 (length (x .actions)) (omega arith)) (le→leb (length (x .actions)) 255 (omega arith)),
+        T-both (both (both (leb 1 (x .frame)) (leb (x .frame) 65535)) (both (leb 1 (length (x .actions))) (leb (length (x .actions)) 255))) (all costInRange (x .actions))
+            (T-four (leb 1 (x .frame)) (leb (x .frame) 65535) (leb 1 (length (x .actions))) (leb (length (x .actions)) 255)
+            (le→leb 1 (x .frame) (omega arith)) (le→leb (x .frame) 65535 (omega arith)) (le→leb 1 (length (x .actions)) (omega arith)) (le→leb (length (x .actions)) 255 (omega arith)))
+            (let y : l ≡ x .actions = ap (λ x. x .actions) i in rw (← y) (t .3)),
         omega arith,
         omega arith,
         omega (arith, t .2 (r .6)),
       )
 
-  pub jobs-next : (n k at : ℕ) (p : Plan) (end : ℕ) → k ≤ 2048 → jobsAt s n k at ≡ step p end → (length p ≡ n) × T (all jobInRange p) × (k + total p ≤ 2048) × (end ≤ at + 24 * n + 18 * total p) × (at ≤ 8 * length s → end ≤ 8 * length s)
+  pub jobs-next : (n k at : ℕ) (p : Plan) (end : ℕ) → k ≤ 2048 → jobsAt form s n k at ≡ step p end → (length p ≡ n) × T (all jobInRange p) × (k + total p ≤ 2048) × (end ≤ at + 24 * n + 22 * total p) × (at ≤ 8 * length s → end ≤ 8 * length s)
   unfolding jobsAt
   jobs-next zero k at p end h e =
       let i : [] ≡ p = cc in
       let j : at ≡ end = cc in
       (ap length (sym i), rw (← i) tt, rw (← i) (omega arith), omega arith, λ b. omega arith)
   jobs-next (suc n) k at p end h e =
-      let (x, m, is, e₁) = then-step (oneJobAt s k at) _ p end (rw jobs-step at e) in
-      let (rest, q, is₁, e₂) = then-step (jobsAt s n (k + length (x .actions)) m) _ p end e₁ in
+      let (x, m, is, e₁) = then-step (oneJobAt form s k at) _ p end (rw jobs-step at e) in
+      let (rest, q, is₁, e₂) = then-step (jobsAt form s n (k + length (x .actions)) m) _ p end e₁ in
       let i : x ∷ rest ≡ p = cc in
       let j : q ≡ end = cc in
       let r = job-next k at x m is in
@@ -202,20 +225,26 @@ module _ (s : List ℕ) where
       let w : total (x ∷ rest) ≡ total p = ap total i in
       (omega arith, rw (← i) (T-both (jobInRange x) (all jobInRange rest) (r .0) (t .1)), omega arith, omega arith, λ _. omega (arith, t .4 (r .3)))
 
-  pub plan-next : (p : Plan) (end : ℕ) → planAt s ≡ step p end → T (inRange p) × (end < 2 ^ 16) × (end ≤ 8 * length s)
+module _ (s : List ℕ) where
+  pub plan-next : (x : Read) (end : ℕ) → planAt s ≡ step x end
+      → T (inRange (x .plan)) × (end < 2 ^ 16) × (end ≤ 8 * length s) × T (isForm (x .form))
   unfolding planAt inRange
-  plan-next p end e =
-      let (form, m, is, e₁) = then-step (fieldAt s 8 0) _ p end e in
-      bool-cases (eqb form 1) (λ f.
-      let (jobs, q, is₁, e₂) = then-step (fieldAt s 9 m) _ p end (rw f at e₁) in
-      bool-cases (either (eqb jobs 0) (ltb 256 jobs)) (λ g. absurd (stop-no-step 3 p end (rw g at e₂))) (λ g.
+  plan-next x end e =
+      let (form, m, is, e₁) = then-step (fieldAt s 8 0) _ x end e in
+      bool-cases (isForm form) (λ f.
+      let (jobs, q, is₁, e₂) = then-step (fieldAt s 9 m) _ x end (rw f at e₁) in
+      bool-cases (either (eqb jobs 0) (ltb 256 jobs)) (λ g. absurd (stop-no-step 3 x end (rw g at e₂))) (λ g.
+      let (p, o, is₂, e₃) = then-step (jobsAt form s jobs 0 q) _ x end (rw g at e₂) in
+      let i : record { form = form; plan = p } ≡ x = cc in
+      let j : o ≡ end = cc in
       let r = either-false (eqb jobs 0) (ltb 256 jobs) g in
-      let t = jobs-next jobs 0 q p end (omega arith) (rw g at e₂) in
+      let t = jobs-next form s jobs 0 q p o (omega arith) is₂ in
       let a : jobs ≢ 0 = eqb-false jobs 0 (r .0) in
       let b : jobs ≤ 256 = ltb-false 256 jobs (r .1) in (
-        T-four (leb 1 (length p)) (leb (length p) 256) (all jobInRange p) (leb (total p) 2048)
-            (le→leb 1 (length p) (omega arith)) (le→leb (length p) 256 (omega arith)) (t .1) (le→leb (total p) 2048 (omega arith)),
+        rw (← i) (T-four (leb 1 (length p)) (leb (length p) 256) (all jobInRange p) (leb (total p) 2048)
+            (le→leb 1 (length p) (omega arith)) (le→leb (length p) 256 (omega arith)) (t .1) (le→leb (total p) 2048 (omega arith))),
         omega (arith, field-read s 8 0 form m is .1, field-read s 9 m jobs q is₁ .1),
-        t .4 (field-read s 9 m jobs q is₁ .2),
+        omega (arith, t .4 (field-read s 9 m jobs q is₁ .2)),
+        rw (← i) (rw f tt),
       )))
-      (λ f. absurd (stop-no-step 2 p end (rw f at e₁)))
+      (λ f. absurd (stop-no-step 2 x end (rw f at e₁)))

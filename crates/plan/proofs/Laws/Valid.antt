@@ -59,7 +59,7 @@ module _ (p : Plan) (ok : Accepted p) where
 
   module _ (j i : ℕ) (h : j < length p) (b : i < size p j) where
     here : Placed
-    here = record { job = j; position = i; spawn = action p j i .spawn; join = action p j i .join }
+    here = record { job = j; position = i; spawn = action p j i .spawn; join = action p j i .join; cost = action p j i .cost }
 
     rules-here : T (both (joinFits p here) (both (fewEnter p here) (lastSends p here)))
     unfolding joinRules here

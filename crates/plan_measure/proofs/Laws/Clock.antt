@@ -10,8 +10,8 @@ use lib.ListN.{length}
 use Rattle.plan.specs.Plan.{Plan, size, action, parent, spawnAt}
 use Rattle.plan_measure.specs.Measure.{longest}
 use Rattle.plan_measure.specs.Times.{at, PlanOf, ends, begins, JobOf, JobGiven, JobTimed, TimedFrom, SendGiven, Sent, PassGiven, Passed}
-use Rattle.plan.specs.Sheet.{targetAt, firstOf, Laid}
-use Rattle.plan.proofs.Laws.Laid.{laid-child, laid-target}
+use Rattle.plan.specs.Sheet.{targetAt, costAt, firstOf, Laid}
+use Rattle.plan.proofs.Laws.Laid.{laid-child, laid-target, laid-cost}
 use Rattle.plan.proofs.Laws.Placed.{start, start-suc, start-below, place-below, place-once}
 use Rattle.plan.specs.Rules.{Accepted}
 use Rattle.plan.proofs.Laws.Valid.{older, spawned-there, spawned-once, join-target, size-range, jobs-range, total-range}
@@ -22,7 +22,7 @@ pub record Midway (p : Plan) (j i done : ℕ) (time late : ℕ → ℕ) : Type 0
   pub within : i ≤ size p j
   pub later : (c a : ℕ) → j < c → c < length p → a < size p c → time (start p c + a) + begins p c ≡ ends p c a
   pub own : (a : ℕ) → a < i → time (start p j + a) + begins p j ≡ ends p j a
-  pub lates : (q t : ℕ) → q < length p → t < size p q → late (start p q + t) + begins p q < ends p q t
+  pub lates : (q t : ℕ) → q < length p → t < size p q → late (start p q + t) + begins p q + action p q t .cost ≤ ends p q t
   pub came : (c a t : ℕ) → 1 ≤ c → c < length p → parent p c ≡ j → spawnAt p c < i → a < size p c → action p c a .join ≡ suc t
       → ends p c a ≤ begins p j + late (start p j + t)
   pub none : i ≡ 0 → done ≡ 0
@@ -59,19 +59,19 @@ module _ (p : Plan) (ok : Accepted p) where
       by c a l b u (no n) = let s : c ≡ j = omega arith in rw s (m .own a (rw (s, ← e) at u))
 
   module _ (j i done : ℕ) (time late : ℕ → ℕ) (known : j < length p) (within : i < size p j) (m : Midway p j i done time late) where
-    done-before : (a : ℕ) → i ≡ a → done + begins p j < ends p j i
+    done-before : (a : ℕ) → i ≡ a → done + begins p j + action p j i .cost ≤ ends p j i
     done-before zero e = rw e (omega (arith, m .none e, begins-first p ok j known))
     done-before (suc a) e = rw e (omega (arith, m .last a e, ends-next p ok j a known (rw e at within)))
 
-    -- the action is done one later than the one before it and than the joins into it
-    pub tick : suc (max done (late (start p j + i))) + begins p j ≡ ends p j i
+    -- the action is done by its cost later than the one before it or the last of the joins into it
+    pub tick : max done (late (start p j + i)) + action p j i .cost + begins p j ≡ ends p j i
     tick =
         let low = ends-within p ok j i (max done (late (start p j + i)) + begins p j) known within (omega arith)
         (λ k e. omega (arith, m .last k e))
         (λ c a h b q l e. omega (arith, m .came c a i h b q (join-target p ok c a i b l e .2) l e)) in
         omega (arith, done-before i refl, m .lates j i known within)
 
-    tick-small : max done (late (start p j + i)) < 2048
+    tick-small : max done (late (start p j + i)) + action p j i .cost ≤ 30720
     tick-small = omega (arith, tick, ends-small p ok j i known within)
 
     module _ (plan : List ℕ) (laid : Laid plan p) (time′ late′ : ℕ → ℕ) (done′ : ℕ)
@@ -90,7 +90,7 @@ module _ (p : Plan) (ok : Accepted p) where
       own′ a (no l) h = let e : a ≡ i = omega arith in rw e (omega arith)
 
       next-midway : ((k : ℕ) → late k ≤ late′ k)
-          → ((q t : ℕ) → q < length p → t < size p q → late′ (start p q + t) + begins p q < ends p q t)
+          → ((q t : ℕ) → q < length p → t < size p q → late′ (start p q + t) + begins p q + action p q t .cost ≤ ends p q t)
           → ((c a t : ℕ) → 1 ≤ c → c < length p → parent p c ≡ j → spawnAt p c ≡ i → a < size p c → action p c a .join ≡ suc t
           → ends p c a ≤ begins p j + late′ (start p j + t))
           → Midway p j (suc i) done′ time′ late′
@@ -164,13 +164,13 @@ module _ (p : Plan) (ok : Accepted p) where
             low : (q t : ℕ) → q < length p → t < size p q
                 → (late′ (start p q + t) ≡ late (start p q + t))
                 ⊎ ((k : ℕ) × (u : ℕ) × (firstOf plan c ≤ k) × (k < firstOf plan (suc c)) × (targetAt plan k ≡ suc u) × (start p q + t ≡ start p j + u) × (late′ (start p q + t) ≡ done′ + time′ k))
-                → late′ (start p q + t) + begins p q < ends p q t
+                → late′ (start p q + t) + begins p q + action p q t .cost ≤ ends p q t
             low q t h b (inl f) = omega (arith, m .lates q t h b)
             low q t h b (inr (k, u, l, r, g, w, f)) =
                 let o = once in
                 let (x, y) = place-once p q t j u h b known (target k u l r g) w in
                 let z = ends-sent p ok c (k - start p c) u (o .1) (child-at k l r .1) (sends k u l r g) in
-                let v : ends p c (k - start p c) < ends p j u = rw (o .2) at z in
+                let v : ends p c (k - start p c) + action p j u .cost ≤ ends p j u = rw (o .2) at z in
                 rw (x, y) (omega (arith, at-time k l r, ap late′ w))
 
             came : (d a t : ℕ) → 1 ≤ d → d < length p → parent p d ≡ j → spawnAt p d ≡ i → a < size p d → action p d a .join ≡ suc t
@@ -231,23 +231,27 @@ module _ (base end : ℕ) (plan time₀ late₀ : List ℕ) (of : JobOf) (g : Jo
     here : start (of .plan) (of .job) + (k - base) ≡ k
     here = omega (arith, g .start)
 
-    pub place-small : max done (late k) < 2048
-    place-small = rw here at (tick-small (of .plan) rules (of .job) (k - base) done time late (g .known) inside m)
+    cost-here : costAt plan k ≡ action (of .plan) (of .job) (k - base) .cost
+    cost-here = rw here at (laid-cost plan (of .plan) (g .planned .laid) (of .job) (g .known) (k - base) inside)
 
-    module _ (most : ℕ) (e : most ≡ max done (late k)) (time′ : ℕ → ℕ) (new : time′ k ≡ most + 1) (same : (n : ℕ) → (n ≡ k → ⊥) → time′ n ≡ time n) where
-      is : most + 1 + begins (of .plan) (of .job) ≡ ends (of .plan) (of .job) (k - base)
-      is = omega (arith, rw here at (tick (of .plan) rules (of .job) (k - base) done time late (g .known) inside m))
+    pub place-small : max done (late k) + costAt plan k ≤ 30720
+    place-small =
+        omega (arith, cost-here, rw here at (tick-small (of .plan) rules (of .job) (k - base) done time late (g .known) inside m))
 
-      pub place-given : PassGiven k base (most + 1) plan time′
+    module _ (now : ℕ) (e : now ≡ max done (late k) + costAt plan k) (time′ : ℕ → ℕ) (new : time′ k ≡ now) (same : (n : ℕ) → (n ≡ k → ⊥) → time′ n ≡ time n) where
+      is : now + begins (of .plan) (of .job) ≡ ends (of .plan) (of .job) (k - base)
+      is = omega (arith, cost-here, rw here at (tick (of .plan) rules (of .job) (k - base) done time late (g .known) inside m))
+
+      pub place-given : PassGiven k base now plan time′
       place-given =
           rw (here, ← (g .start)) at (pass-given (of .plan) rules (of .job) (k - base) done time late (g .known) inside m plan (g .planned .laid) time′ late
-          (most + 1) is (rw here new) (λ n f. same n (λ z. f (z ∙ sym here))))
+          now is (rw here new) (λ n f. same n (λ z. f (z ∙ sym here))))
 
-      pub place-next : (late′ : ℕ → ℕ) → Passed k base (most + 1) plan time′ late late′ → MidwayAt (k + 1) (most + 1) time′ late′
+      pub place-next : (late′ : ℕ → ℕ) → Passed k base now plan time′ late late′ → MidwayAt (k + 1) now time′ late′
       place-next late′ r =
           let n : k + 1 - base ≡ suc (k - base) = omega arith in
           rw n (pass-next (of .plan) rules (of .job) (k - base) done time late (g .known) inside m plan (g .planned .laid) time′ late′
-          (most + 1) is (rw here new) (λ n f. same n (λ z. f (z ∙ sym here)))
+          now is (rw here new) (λ n f. same n (λ z. f (z ∙ sym here)))
           (rw (here, ← (g .start)) r))
 
 -- job j - 1 is given where the jobs from j on are timed

@@ -20,7 +20,7 @@ use Rattle.plan_measure.proofs.Laws.Paths.{along, along-parent}
 
 -- action i of job j with its job and position
 abbrev pub act : Plan → ℕ → ℕ → Placed
-act p j i = record { job = j; position = i; spawn = action p j i .spawn; join = action p j i .join }
+act p j i = record { job = j; position = i; spawn = action p j i .spawn; join = action p j i .join; cost = action p j i .cost }
 
 pub act-member : (p : Plan) (j i : ℕ) → j < length p → i < size p j → Member (act p j i) (placed p)
 act-member p j i h b =
@@ -41,7 +41,7 @@ member-acts p x m =
     of k s = record {
       known = s .known;
       within = s .within;
-      is = λ i. record { job = x .job; position = x .position; spawn = s .spawn i; join = s .join i };
+      is = λ i. record { job = x .job; position = x .position; spawn = s .spawn i; join = s .join i; cost = s .cost i };
     }
 
 pub either-cases : (a b : Bool) → T (either a b) → T a ⊎ T b

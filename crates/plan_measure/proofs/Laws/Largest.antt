@@ -1,13 +1,16 @@
--- Members of a list, and the largest value of a function over them.
-use Prim.Native.Nat.{ℕ, zero, suc, _≤_, _<_, min, max}
-use mathlib.Core.Path.{_≡_, refl, ap, sym, _∙_}
+-- Members of a list, the largest value of a function over them, and how many pass a test.
+use Prim.Native.Nat.{ℕ, zero, suc, _+_, _≤_, _<_, max}
+use mathlib.Core.Path.{_≡_, refl, ap, sym}
 use mathlib.Core.Logic.{inl, inr}
+use mathlib.Core.Bool.{Bool, true, false}
 use mathlib.Core.List.{List, [], _∷_, _++_}
 use native.Mathlib.Omega.{arith}
 use native.Mathlib.Nat.{le-of-suc-le-suc, not-suc-le-zero}
 use native.Mathlib.Decide.{decLe, decLt}
+use lib.Dec.{T}
 use lib.ListN.{length, getD}
-use Rattle.plan.specs.Test.{largest, below}
+use Rattle.plan.specs.Test.{largest, count, below}
+use Rattle.plan.proofs.Laws.Counts.{count-hit, count-miss}
 use Rattle.plan_measure.specs.Measure.{Member}
 
 module _ {A : Type 0} where
@@ -41,11 +44,6 @@ module _ {A : Type 0} where
       go (yes a) r = (y, inl refl, omega arith)
       go (no n) r = let (x, m, e) = r (omega arith) in (x, inr m, omega arith)
 
-  -- values that are cut off at n have their largest cut off at n
-  pub largest-cut : (f g : A → ℕ) (n : ℕ) (l : List A) → ((x : A) → Member x l → f x ≡ min n (g x)) → largest f l ≡ min n (largest g l)
-  largest-cut f g n [] h = omega arith
-  largest-cut f g n (y ∷ l) h = omega (arith, h y (inl refl), largest-cut f g n l (λ x m. h x (inr m)))
-
   pub largest-same : (f g : A → ℕ) (l : List A) → ((x : A) → Member x l → f x ≡ g x) → largest f l ≡ largest g l
   largest-same f g [] h = refl
   largest-same f g (y ∷ l) h = omega (arith, h y (inl refl), largest-same f g l (λ x m. h x (inr m)))
@@ -54,28 +52,29 @@ module _ {A : Type 0} where
   largest-append f [] m = omega arith
   largest-append f (x ∷ l) m = omega (arith, largest-append f l m)
 
-  -- the other members of a list
-  others : (l : List A) (x : A) → Member x l
-      → (r : List A) × (length l ≡ suc (length r)) × ((y : A) → Member y l → (y ≡ x → ⊥) → Member y r)
-  others [] x m = absurd m
-  others (z ∷ l) x (inl e) = (l, refl, rest)
+-- of two tests, the second passes wherever the first does
+module _ {A : Type 0} (f g : A → Bool) (wider : (x : A) → T (f x) → T (g x)) where
+  -- d more pass the second
+  count-also : (d : ℕ) (x : A) (l : List A) → d + count f l ≤ count g l → d + count f (x ∷ l) ≤ count g (x ∷ l)
+  count-also d x l h = go (f x) (g x) (wider x)
     where
-      rest : (y : A) → Member y (z ∷ l) → (y ≡ x → ⊥) → Member y l
-      rest y (inl q) n = absurd (n (q ∙ sym e))
-      rest y (inr q) n = q
-  others (z ∷ l) x (inr m) = let (r, e, f) = others l x m in (z ∷ r, ap suc e, rest r f)
-    where
-      rest : (r : List A) → ((y : A) → Member y l → (y ≡ x → ⊥) → Member y r) → (y : A) → Member y (z ∷ l) → (y ≡ x → ⊥) → Member y (z ∷ r)
-      rest r f y (inl q) n = inl q
-      rest r f y (inr q) n = inr (f y q n)
+      go : (a b : Bool) → (T a → T b)
+          → d + elim a [ true ↦ suc (count f l) | false ↦ count f l ] ≤ elim b [ true ↦ suc (count g l) | false ↦ count g l ]
+      go true true i = omega arith
+      go true false i = absurd (i tt)
+      go false true i = omega arith
+      go false false i = h
 
-  -- a list over which f takes each value from 1 to n has n members
-  pub values-few : (f : A → ℕ) (n : ℕ) (l : List A) → ((v : ℕ) → 1 ≤ v → v ≤ n → (x : A) × Member x l × (f x ≡ v)) → n ≤ length l
-  values-few f zero l h = omega arith
-  values-few f (suc n) l h =
-      let (x, m, e) = h (suc n) (omega arith) (omega arith) in
-      let (r, s, o) = others l x m in
-      omega (arith, values-few f n r (λ v a b. let (y, i, q) = h v a (omega arith) in (y, o y i (λ z. omega (arith, ap f z)), q)))
+  count-wider : (l : List A) → 0 + count f l ≤ count g l
+  count-wider [] = omega arith
+  count-wider (x ∷ l) = count-also 0 x l (count-wider l)
+
+  -- and for a member it does where the first does not: then more pass the second
+  pub count-more : (x : A) → (T (f x) → ⊥) → T (g x) → (l : List A) → Member x l → 1 + count f l ≤ count g l
+  count-more x n t [] m = absurd m
+  count-more x n t (y ∷ l) (inl e) =
+      omega (arith, count-miss f y l (rw e at n), count-hit g y l (rw e at t), count-wider l)
+  count-more x n t (y ∷ l) (inr m) = count-also 1 y l (count-more x n t l m)
 
 -- the numbers below one more
 pub largest-more : (f : ℕ → ℕ) (n : ℕ) → largest f (below (suc n)) ≡ max (largest f (below n)) (f n)

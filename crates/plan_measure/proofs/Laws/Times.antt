@@ -1,41 +1,37 @@
--- When actions are done: after what they must follow, and right after the last of it.
-use Prim.Native.Nat.{ℕ, zero, suc, _-_, _≤_, _<_}
+-- When actions are done: each by its cost after all that it must follow, and by no more after the last of it.
+use Prim.Native.Nat.{ℕ, zero, suc, _+_, _-_, _≤_, _<_}
 use mathlib.Core.Path.{_≡_, refl, ap, sym, _∙_}
 use mathlib.Core.Bool.{Bool, true, false}
 use native.Mathlib.Omega.{arith}
-use native.Mathlib.Nat.{not-suc-le-zero}
+use native.Mathlib.Nat.{not-suc-le-zero, le-antisymm}
 use native.Mathlib.Decide.{decLe}
-use lib.Dec.{T, eqb·suc-zero}
+use lib.Dec.{eqb·suc-zero}
 use lib.ListN.{length}
 use Rattle.plan.specs.Plan.{Plan, Placed, size, action, total, placed, parent, spawnAt}
-use Rattle.plan_measure.specs.Measure.{mustFollow, after, longest}
+use Rattle.plan_measure.specs.Measure.{after, longest}
 use Rattle.plan.specs.Test.{largest}
 use Rattle.plan_measure.specs.Times.{ends, begins}
 use Rattle.plan_measure.proofs.Laws.Largest.{largest-above, largest-within}
 use Rattle.plan.specs.Rules.{Accepted}
 use Rattle.plan.proofs.Laws.Valid.{older, spawned-there, spawned-once, join-target, last-sends, size-range, jobs-range, total-range}
 use Rattle.plan_measure.proofs.Laws.Follows.{act, act-member, Acts, member-acts, Follows, next, born, joined, follows-of, of-follows}
-use Rattle.plan_measure.proofs.Laws.Chains.{when, after-times, timing-rises, timing-small, longest-timing}
-
-when-within : (b : Bool) (m n : ℕ) → (T b → m ≤ n) → when b m ≤ n
-when-within true m n h = h tt
-when-within false m n h = omega arith
+use Rattle.plan_measure.proofs.Laws.Chains.{before-within, after-times, after-small, timing-rises}
 
 module _ (p : Plan) (ok : Accepted p) where
   abbrev Here : ℕ → ℕ → Type 0
   Here j i = (j < length p) × (i < size p j)
 
-  rises : (j i q k : ℕ) → Here j i → Here q k → Follows p (act p j i) (act p q k) → ends p q k < ends p j i
+  rises : (j i q k : ℕ) → Here j i → Here q k → Follows p (act p j i) (act p q k) → ends p q k + action p j i .cost ≤ ends p j i
   unfolding ends
   rises j i q k h b f =
-      timing-rises p (after p (total p)) (after-times p ok) (act p j i) (act p q k) (act-member p j i (h .0) (h .1)) (act-member p q k (b .0) (b .1))
+      timing-rises p ok (after p (total p)) (after-times p ok) (act p j i) (act p q k) (act-member p j i (h .0) (h .1)) (act-member p q k (b .0) (b .1))
       (of-follows p (act p j i) (act p q k) f)
 
-  -- no time is above the number of actions
-  pub ends-small : (j i : ℕ) → j < length p → i < size p j → ends p j i ≤ 2048
+  -- no time is above 15 for each action
+  pub ends-small : (j i : ℕ) → j < length p → i < size p j → ends p j i ≤ 30720
   unfolding ends
   ends-small j i h b =
-      omega (arith, timing-small p (after p (total p)) (after-times p ok) (act p j i) (act-member p j i h b), total-range p ok)
+      omega (arith, after-small p ok (total p) (act p j i) (act-member p j i h b), total-range p ok)
 
   pub begins-spawn : (c : ℕ) → 1 ≤ c → begins p c ≡ ends p (parent p c) (spawnAt p c)
   unfolding begins
@@ -44,10 +40,10 @@ module _ (p : Plan) (ok : Accepted p) where
       ap (λ (b : Bool). elim b [ true ↦ 0 | false ↦ ends p (parent p (suc c)) (spawnAt p (suc c)) ]) (eqb·suc-zero c)
 
   -- the actions of a job are done one after the other, the first after the job's spawn
-  pub ends-next : (j i : ℕ) → j < length p → suc i < size p j → ends p j i < ends p j (suc i)
+  pub ends-next : (j i : ℕ) → j < length p → suc i < size p j → ends p j i + action p j (suc i) .cost ≤ ends p j (suc i)
   ends-next j i h b = rises j (suc i) j i (h, b) (h, omega arith) (next refl refl)
 
-  pub begins-first : (j : ℕ) → j < length p → begins p j < ends p j 0
+  pub begins-first : (j : ℕ) → j < length p → begins p j + action p j 0 .cost ≤ ends p j 0
   unfolding begins ends
   begins-first zero h =
       omega (arith, after-times p ok (act p 0 0) (act-member p 0 0 h (size-range p ok 0 h .0)))
@@ -68,28 +64,30 @@ module _ (p : Plan) (ok : Accepted p) where
       go (yes a) r = omega (arith, r a, ends-next j k h l)
       go (no a) r = let e : i ≡ suc k = omega arith in omega (arith, ap (ends p j) e)
 
-  pub begins-before : (j i : ℕ) → j < length p → i < size p j → begins p j < ends p j i
-  begins-before j i h b = omega (arith, begins-first j h, ends-rise j 0 i h (omega arith) b)
+  pub begins-before : (j i : ℕ) → j < length p → i < size p j → begins p j + action p j i .cost ≤ ends p j i
+  begins-before j zero h b = begins-first j h
+  begins-before j (suc i) h b =
+      omega (arith, begins-first j h, ends-rise j 0 i h (omega arith) (omega arith), ends-next j i h b)
 
-  -- an action is done after each that sends a join into it
-  pub ends-sent : (c a t : ℕ) → c < length p → a < size p c → action p c a .join ≡ suc t → ends p c a < ends p (parent p c) t
+  -- an action is done its cost after each that sends a join into it
+  pub ends-sent : (c a t : ℕ) → c < length p → a < size p c → action p c a .join ≡ suc t
+      → ends p c a + action p (parent p c) t .cost ≤ ends p (parent p c) t
   ends-sent c a t h b e =
       let (l, w, s, n) = join-target p ok c a t h b e in
       let o = older p ok c l h in
       rises (parent p c) t c a (omega arith, w) (h, b) (joined l refl e)
 
-  -- and right after the last of what it must follow
+  -- and just its cost after the last of what it must follow
   pub ends-within : (j i n : ℕ) → j < length p → i < size p j → begins p j ≤ n
       → ((k : ℕ) → i ≡ suc k → ends p j k ≤ n)
       → ((c a : ℕ) → 1 ≤ c → c < length p → parent p c ≡ j → a < size p c → action p c a .join ≡ suc i → ends p c a ≤ n)
-      → ends p j i ≤ suc n
+      → ends p j i ≤ action p j i .cost + n
   unfolding ends
   ends-within j i n h b first before sent =
       omega (
         arith,
         after-times p ok (act p j i) (act-member p j i h b),
-        largest-within (λ y. when (mustFollow p (act p j i) y) (after p (total p) y)) (placed p) n (λ y m.
-            when-within (mustFollow p (act p j i) y) (after p (total p) y) n (λ t. by y (member-acts p y m) (follows-of p (act p j i) y t))),
+        before-within p (after p (total p)) (act p j i) n (λ y m t. by y (member-acts p y m) (follows-of p (act p j i) y t)),
       )
     where
       of : (y : Placed) → Acts p y → ends p (y .job) (y .position) ≤ n → after p (total p) y ≤ n
@@ -122,7 +120,7 @@ module _ (p : Plan) (ok : Accepted p) where
           )
 
   pub longest-ends : longest p ≡ ends p 0 (size p 0 - 1)
-  unfolding ends
+  unfolding ends longest
   longest-ends =
       let (h, k) = jobs-range p ok in
       let (s, r) = size-range p ok 0 h in
@@ -131,7 +129,7 @@ module _ (p : Plan) (ok : Accepted p) where
       let within : largest (after p (total p)) (placed p) ≤ ends p 0 (size p 0 - 1)
       = largest-within (after p (total p)) (placed p) (ends p 0 (size p 0 - 1)) (λ x m.
       of x (member-acts p x m)) in
-      omega (arith, longest-timing p (after p (total p)) (after-times p ok))
+      le-antisymm within above
     where
       of : (x : Placed) → Acts p x → after p (total p) x ≤ ends p 0 (size p 0 - 1)
       of x s = omega (arith, ap (after p (total p)) (s .is), ends-below (suc (x .job)) (x .job) (x .position) (omega arith) (s .known) (s .within))

@@ -20,8 +20,8 @@ enum-known-jobs c = search needs
 -- what was read
 plan-read : (c : tie.After-jobs)
     → let r = c .before .before .read-into in
-    ReadPlan (now (c .before .before .before .before .before .before .args .bytes)) (c .jobs .given .0 .0) (c .jobs .given .0 .1 .0) (r .last .1 .0) (r .last .1 .1 .0)
-plan-read c = found-plan _ _ _ _ (c .before .before .read-into .ensures) _ _ (c .jobs .given .1)
+    ReadPlan (now (c .before .before .before .before .before .before .args .bytes)) (c .jobs .given .0 .0) (c .jobs .given .0 .1 .0) (c .jobs .given .0 .1 .1 .0) (r .last .1 .0) (r .last .1 .1 .0)
+plan-read c = found-plan _ _ _ _ (c .before .before .read-into .ensures) _ _ _ (c .jobs .given .1)
 
 measure-read-requires : tie.Need-measure-read-requires
 measure-read-requires c κs = let g = plan-read (c .before .before) in (g .is, g .held)
@@ -34,7 +34,7 @@ returns c =
 returns-2 : tie.Need-returns-2
 returns-2 c =
     let g = plan-read (c .before .before .before) in
-    measures-read _ (g .is) _ (g .read) (c .measure-read .ensures (g .is) (g .held))
+    measures-read _ _ _ (g .read) (c .measure-read .ensures (g .is) (g .held))
 
 pub measure-spec : {M : Type 1} → statement M
 measure-spec =

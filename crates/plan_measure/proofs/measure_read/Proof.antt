@@ -1,6 +1,6 @@
--- `measure_read` meets its contract, by what its two parts tell.
+-- `measure_read` meets its contract, by what its three parts tell.
 use native.Mathlib.Omega.{arith}
-use Rattle.plan_measure.proofs.Laws.Measuring.{measured-of, measured-by}
+use Rattle.plan_measure.proofs.Laws.Measuring.{measured-of, measured-all, measured-by}
 use Rattle.plan.proofs.Laws.Found.{counts-few}
 use Rattle.plan_measure.proofs.measure_read.Statement.{statement}
 use Rattle.plan_measure.proofs.measure_read.Tie as tie
@@ -10,26 +10,33 @@ cast-t4 c =
     let (p, g) = c .pre in
     omega (arith, counts-few _ _ _ p g)
 
+work-requires : tie.Need-work-requires
+work-requires c κs =
+    let (p, g) = c .pre in
+    (p, measured-all p _ _ _ g)
+
 longest-requires : tie.Need-longest-requires
 longest-requires c κs =
-    let (p, g) = c .pre in
+    let (p, g) = c .before .pre in
     (p, measured-of p _ _ _ g)
 
 heaviest-requires : tie.Need-heaviest-requires
 heaviest-requires c κs =
-    let (p, g) = c .before .pre in
+    let (p, g) = c .before .before .pre in
     (p, measured-of p _ _ _ g)
 
 returns : tie.Need-returns
 returns c = λ p g.
     let o = measured-of p _ _ _ g in
-    measured-by p _ _ _ g _ _ (c .before .longest .ensures p o) (c .heaviest .ensures p o)
+    measured-by p _ _ _ g _ _ _ (c .before .before .work .ensures p (measured-all p _ _ _ g)) (c .before .longest .ensures p o)
+    (c .heaviest .ensures p o)
 
 pub measure-read-spec : {M : Type 1} → statement M
 measure-read-spec =
     tie.close
     (tie.spec
     cast-t4
+    work-requires
     longest-requires
     heaviest-requires
     returns)

@@ -33,13 +33,20 @@ element-copy-out-later c = omega arith
 later-requires : tie.Need-later-requires Inv-loop μ-loop
 later-requires c κs = search needs
 
+cost-at-requires : tie.Need-cost-at-requires Inv-loop μ-loop
+cost-at-requires c κs = omega arith
+
+cast-done : tie.Need-cast-done Inv-loop μ-loop
+cast-done c = search needs
+
 add-done : tie.Need-add-done Inv-loop μ-loop
 add-done c =
-    let l = c .before .before .before in
+    let l = c .before .before .before .before in
     let (of, g) = l .before .pre in
     omega (
       arith,
-      c .later .ensures,
+      c .before .later .ensures,
+      c .cost-at .ensures .0,
       place-small _ _ _ _ _ of g _ _ _ _ (l .loop .inv .2) (omega arith) (l .loop .inv .5 of g),
     )
 
@@ -51,11 +58,11 @@ element-write-time c = omega arith
 
 pass-child-requires : tie.Need-pass-child-requires Inv-loop μ-loop
 pass-child-requires c κs =
-    let l = c .before .before .before .before .before in
+    let l = c .before .before .before .before .before .before in
     let (of, g) = l .before .pre in (
       l .loop .inv .1,
       place-given _ _ _ _ _ of g _ _ (at (l .loop .time)) _ (l .loop .inv .2) (omega arith) (l .loop .inv .5 of g)
-          _ (c .before .before .later .ensures) _
+          _ (omega (arith, c .before .before .before .later .ensures, c .before .before .cost-at .ensures .0)) _
           (getD-set-same (l .loop .time) _ _ 0 (omega arith)) (λ n d. getD-set-other (l .loop .time) _ n _ 0 d),
     )
 
@@ -67,7 +74,7 @@ loop-less c = omega arith
 
 loop-again : tie.Need-loop-again Inv-loop μ-loop
 loop-again c =
-    let l = c .before .before .before .before .before .before in
+    let l = c .before .before .before .before .before .before .before in
     let b : l .loop .k < length (l .loop .time) = omega arith in
     let h : l .loop .k < l .before .args .end = omega arith in (
       simp length-set (l .loop .inv .0),
@@ -77,7 +84,7 @@ loop-again c =
       l .loop .inv .4,
       λ of g.
           place-next _ _ _ _ _ of g _ _ (at (l .loop .time)) _ (l .loop .inv .2) h (l .loop .inv .5 of g)
-          _ (c .before .before .before .later .ensures) _
+          _ (omega (arith, c .before .before .before .before .later .ensures, c .before .before .before .cost-at .ensures .0)) _
           (getD-set-same (l .loop .time) _ _ 0 b) (λ n d. getD-set-other (l .loop .time) _ n _ 0 d) _ (c .pass-child .ensures .1),
     )
 
@@ -96,6 +103,8 @@ time-job-spec =
     mul-later
     element-copy-out-later
     later-requires
+    cost-at-requires
+    cast-done
     add-done
     mul-time
     element-write-time

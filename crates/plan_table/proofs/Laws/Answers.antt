@@ -9,14 +9,14 @@ use lib.Dec.{T, eqb}
 use borrow.Author.Tests.{le-leb, lt-leb}
 use Rattle.plan.specs.Refusal.{refused, accepted}
 use Rattle.plan.specs.Plan.{Plan, total}
-use Rattle.plan.specs.Reader.{readPlan}
+use Rattle.plan.specs.Reader.{isForm, readPlan}
 use Rattle.plan.specs.Sheet.{PlanIn}
 use Rattle.plan_table.specs.Table.{written, tableOf, tabled, toTable, rowsOf, rowRules, planOf, ruled, readTable, encoded, toPlan}
 use Rattle.plan.specs.Test.{both}
-use Rattle.plan.specs.Rules.{inRange, spawnRules, joinRules, Accepted}
+use Rattle.plan.specs.Rules.{inRange, costsFit, spawnRules, joinRules, Accepted}
 use Rattle.plan_writer.specs.Writer.{planBytes}
-use Rattle.plan_table.specs.GivenRows.{RowsGiven}
-use Rattle.plan.proofs.Laws.Lists.{true-of}
+use Rattle.plan_table.specs.GivenRows.{ranged, RowsGiven}
+use Rattle.plan.proofs.Laws.Lists.{true-of, both-intro}
 use Rattle.plan_table.proofs.Laws.Rows.{table-length}
 
 written-short : (output : List ℕ) (n : ℕ) (buffer : List ℕ) → length buffer < length output
@@ -33,64 +33,71 @@ pub table-refused : (s buffer : List ℕ) (n : ℕ) → readPlan s ≡ refused n
 unfolding toTable tabled
 table-refused s buffer n e = rw e
 
-tabled-plan : (s buffer : List ℕ) (p : Plan) → readPlan s ≡ accepted p → written (tableOf p) (total p) buffer ≡ toTable s buffer
-unfolding toTable tabled
-tabled-plan s buffer p e = rw e
+module _ (s buffer : List ℕ) (form : ℕ) (p : Plan) (e : readPlan s ≡ accepted (record { form = form; plan = p })) where
+  tabled-plan : written (tableOf p) (total p) buffer ≡ toTable s buffer
+  unfolding toTable tabled
+  tabled-plan = rw e
 
-pub table-short : (s buffer : List ℕ) (p : Plan) → readPlan s ≡ accepted p → length buffer < 4 * total p
-    → record { answer = refused 9; buffer = buffer } ≡ toTable s buffer
-table-short s buffer p e h =
-    sym (written-short (tableOf p) (total p) buffer (omega (arith, table-length p))) ∙ tabled-plan s buffer p e
+  pub table-short : length buffer < 5 * total p → record { answer = refused 9; buffer = buffer } ≡ toTable s buffer
+  table-short h = sym (written-short (tableOf p) (total p) buffer (omega (arith, table-length p))) ∙ tabled-plan
 
-pub table-whole : (s buffer : List ℕ) (p : Plan) (n : ℕ) (l : List ℕ) → readPlan s ≡ accepted p → n ≡ total p → 4 * n ≤ length buffer
-    → l ≡ tableOf p ++ drop (4 * n) buffer → record { answer = accepted n; buffer = l } ≡ toTable s buffer
-table-whole s buffer p n l e a h w =
-    rw (w, a, ← table-length p)
-    (sym (written-whole (tableOf p) (total p) buffer (omega (arith, table-length p))) ∙ tabled-plan s buffer p e)
+  pub table-whole : (n : ℕ) (l : List ℕ) → n ≡ total p → 5 * n ≤ length buffer → l ≡ tableOf p ++ drop (5 * n) buffer
+      → record { answer = accepted n; buffer = l } ≡ toTable s buffer
+  table-whole n l a h w =
+      rw (w, a, ← table-length p)
+      (sym (written-whole (tableOf p) (total p) buffer (omega (arith, table-length p))) ∙ tabled-plan)
 
--- what a plan answers: 3, 4, 5, 9, or its bytes
+-- what a plan answers in a form: 3, 4, 5, 9, or its bytes
 
-module _ (p : Plan) (buffer : List ℕ) where
-  out-of-range : inRange p ≡ false → record { answer = refused 3; buffer = buffer } ≡ encoded (ruled p) buffer
+module _ (form : ℕ) (p : Plan) (buffer : List ℕ) where
+  out-of-range : ranged form p ≡ false → record { answer = refused 3; buffer = buffer } ≡ encoded form (ruled form p) buffer
   unfolding ruled encoded
   out-of-range e = rw (ruled, e)
 
-  pub encoded-spawns : T (inRange p) → spawnRules p ≡ false → record { answer = refused 4; buffer = buffer } ≡ encoded (ruled p) buffer
-  unfolding ruled encoded
-  encoded-spawns r e = rw (ruled, true-of (inRange p) r, e)
+  module _ (range : T (inRange p)) (costs : T (costsFit form p)) where
+    in-range : ranged form p ≡ true
+    in-range = true-of (ranged form p) (both-intro (inRange p) (costsFit form p) range costs)
 
-  pub encoded-joins : T (inRange p) → T (spawnRules p) → joinRules p ≡ false
-      → record { answer = refused 5; buffer = buffer } ≡ encoded (ruled p) buffer
-  unfolding ruled encoded
-  encoded-joins r s e = rw (ruled, true-of (inRange p) r, true-of (spawnRules p) s, e)
-
-  module _ (ok : Accepted p) where
-    encoded-plan : written (planBytes p) (length (planBytes p)) buffer ≡ encoded (ruled p) buffer
+    pub encoded-spawns : spawnRules p ≡ false → record { answer = refused 4; buffer = buffer } ≡ encoded form (ruled form p) buffer
     unfolding ruled encoded
-    encoded-plan = rw (ruled, true-of (inRange p) (ok .range), true-of (spawnRules p) (ok .spawns), true-of (joinRules p) (ok .joins))
+    encoded-spawns e = rw (ruled, in-range, e)
 
-    pub encoded-short : length buffer < length (planBytes p) → record { answer = refused 9; buffer = buffer } ≡ encoded (ruled p) buffer
-    encoded-short h = sym (written-short (planBytes p) (length (planBytes p)) buffer h) ∙ encoded-plan
+    pub encoded-joins : T (spawnRules p) → joinRules p ≡ false → record { answer = refused 5; buffer = buffer } ≡ encoded form (ruled form p) buffer
+    unfolding ruled encoded
+    encoded-joins s e = rw (ruled, in-range, true-of (spawnRules p) s, e)
 
-    pub encoded-whole : length (planBytes p) ≤ length buffer → (n : ℕ) (l : List ℕ)
-        → n ≡ length (planBytes p) → l ≡ planBytes p ++ drop (length (planBytes p)) buffer
-        → record { answer = accepted n; buffer = l } ≡ encoded (ruled p) buffer
-    encoded-whole h n l e w = rw (e, w) (sym (written-whole (planBytes p) (length (planBytes p)) buffer h) ∙ encoded-plan)
+  module _ (ok : Accepted p) (costs : T (costsFit form p)) where
+    encoded-plan : written (planBytes form p) (length (planBytes form p)) buffer ≡ encoded form (ruled form p) buffer
+    unfolding ruled encoded
+    encoded-plan = rw (ruled, in-range (ok .range) costs, true-of (spawnRules p) (ok .spawns), true-of (joinRules p) (ok .joins))
 
--- what a table answers: 10, 3, or what its plan answers
+    pub encoded-short : length buffer < length (planBytes form p) → record { answer = refused 9; buffer = buffer } ≡ encoded form (ruled form p) buffer
+    encoded-short h = sym (written-short (planBytes form p) (length (planBytes form p)) buffer h) ∙ encoded-plan
 
-module _ (t buffer : List ℕ) where
-  pub plan-refused : both (eqb (length t % 4) 0) (rowRules (rowsOf t)) ≡ false → record { answer = refused 10; buffer = buffer } ≡ toPlan t buffer
+    pub encoded-whole : length (planBytes form p) ≤ length buffer → (n : ℕ) (l : List ℕ)
+        → n ≡ length (planBytes form p) → l ≡ planBytes form p ++ drop (length (planBytes form p)) buffer
+        → record { answer = accepted n; buffer = l } ≡ encoded form (ruled form p) buffer
+    encoded-whole h n l e w = rw (e, w) (sym (written-whole (planBytes form p) (length (planBytes form p)) buffer h) ∙ encoded-plan)
+
+-- what a table answers in a form: 2, 10, 3, or what its plan answers
+
+module _ (form : ℕ) (t buffer : List ℕ) where
+  pub form-refused : isForm form ≡ false → record { answer = refused 2; buffer = buffer } ≡ toPlan form t buffer
   unfolding toPlan readTable encoded
-  plan-refused e = rw (readTable, e)
+  form-refused e = rw (readTable, e)
 
-  pub plan-ruled : both (eqb (length t % 4) 0) (rowRules (rowsOf t)) ≡ true → encoded (ruled (planOf (rowsOf t))) buffer ≡ toPlan t buffer
-  unfolding toPlan readTable
-  plan-ruled e = rw (readTable, e)
+  module _ (f : isForm form ≡ true) where
+    pub plan-refused : both (eqb (length t % 5) 0) (rowRules (rowsOf t)) ≡ false → record { answer = refused 10; buffer = buffer } ≡ toPlan form t buffer
+    unfolding toPlan readTable encoded
+    plan-refused e = rw (readTable, f, e)
 
-  pub plan-range : both (eqb (length t % 4) 0) (rowRules (rowsOf t)) ≡ true → inRange (planOf (rowsOf t)) ≡ false
-      → record { answer = refused 3; buffer = buffer } ≡ toPlan t buffer
-  plan-range e r = out-of-range (planOf (rowsOf t)) buffer r ∙ plan-ruled e
+    module _ (e : both (eqb (length t % 5) 0) (rowRules (rowsOf t)) ≡ true) where
+      pub plan-ruled : encoded form (ruled form (planOf (rowsOf t))) buffer ≡ toPlan form t buffer
+      unfolding toPlan readTable
+      plan-ruled = rw (readTable, f, e)
+
+      pub plan-range : ranged form (planOf (rowsOf t)) ≡ false → record { answer = refused 3; buffer = buffer } ≡ toPlan form t buffer
+      plan-range r = out-of-range form (planOf (rowsOf t)) buffer r ∙ plan-ruled
 
 -- what the writer of rows is given
 

@@ -10,7 +10,8 @@ use borrow.Author.Tests.{eq-eqb, ne-eqb}
 use Rattle.plan.specs.Refusal.{Outcome, refused, accepted}
 use Rattle.plan.specs.Test.{both, all}
 use Rattle.plan.specs.Plan.{Action, Job, Plan}
-use Rattle.plan.specs.Rules.{inRange, spawnRules, joinRules}
+use Rattle.plan.specs.Rules.{inRange, costsFit, spawnRules, joinRules}
+use Rattle.plan.specs.Reader.{isForm}
 use Rattle.plan_table.specs.Table.{
   tableIn,
   tableFrom,
@@ -36,59 +37,67 @@ use Rattle.plan_table.proofs.Laws.Rows.{rowOf, rowsIn, rowsFrom, table-
 
 -- what an accepted table passed
 
-table-passed : (x : Bool) (o : Outcome Plan) (p : Plan) → _≡_ {A = Outcome Plan} (elim x [ false ↦ refused 10 | true ↦ o ]) (accepted p)
+test-passed : (k : ℕ) (x : Bool) (o : Outcome Plan) (p : Plan) → _≡_ {A = Outcome Plan} (elim x [ false ↦ refused k | true ↦ o ]) (accepted p)
     → T x × (o ≡ accepted p)
-table-passed true o p e = (tt, e)
-table-passed false o p e = refused-accepted e
+test-passed k true o p e = (tt, e)
+test-passed k false o p e = refused-accepted e
 
-record Passed (t : List ℕ) (p : Plan) : Type 0 where
-  whole : length t % 4 ≡ 0
+record Passed (form : ℕ) (t : List ℕ) (p : Plan) : Type 0 where
+  known : T (isForm form)
+  whole : length t % 5 ≡ 0
   rows : T (rowRules (rowsOf t))
   range : T (inRange p)
+  costs : T (costsFit form p)
   spawns : T (spawnRules p)
   joins : T (joinRules p)
   plan : planOf (rowsOf t) ≡ p
 
-readTable-passed : (t : List ℕ) (p : Plan) → readTable t ≡ accepted p → Passed t p
+readTable-passed : (form : ℕ) (t : List ℕ) (p : Plan) → readTable form t ≡ accepted p → Passed form t p
 unfolding readTable ruled
-readTable-passed t p e =
-    let whole = eqb (length t % 4) 0 in
-    let r = table-passed (both whole (rowRules (rowsOf t))) (ruled (planOf (rowsOf t))) p e in
+readTable-passed form t p e =
+    let whole = eqb (length t % 5) 0 in
     let q = planOf (rowsOf t) in
-    let o = passed 3 (inRange q) (spawnRules q) (joinRules q) q p (r .1) in
+    let kept = both whole (rowRules (rowsOf t)) in
+    let f = test-passed 2 (isForm form) (elim kept [ false ↦ refused 10 | true ↦ ruled form q ]) p e in
+    let r = test-passed 10 kept (ruled form q) p (f .1) in
+    let o = passed 3 (both (inRange q) (costsFit form q)) (spawnRules q) (joinRules q) q p (r .1) in
     record {
-      whole = eqb→eq (length t % 4) 0 (both-left whole (rowRules (rowsOf t)) (r .0));
+      known = f .0;
+      whole = eqb→eq (length t % 5) 0 (both-left whole (rowRules (rowsOf t)) (r .0));
       rows = both-right whole (rowRules (rowsOf t)) (r .0);
-      range = rw (o .3) at (o .0);
+      range = rw (o .3) at (both-left (inRange q) (costsFit form q) (o .0));
+      costs = rw (o .3) at (both-right (inRange q) (costsFit form q) (o .0));
       spawns = rw (o .3) at (o .1);
       joins = rw (o .3) at (o .2);
       plan = o .3;
     }
 
-pub readTable-rules : (t : List ℕ) (p : Plan) → readTable t ≡ accepted p → T (inRange p) × T (spawnRules p) × T (joinRules p)
-readTable-rules t p e = let r = readTable-passed t p e in (r .range, r .spawns, r .joins)
+pub readTable-rules : (form : ℕ) (t : List ℕ) (p : Plan) → readTable form t ≡ accepted p
+    → T (inRange p) × T (spawnRules p) × T (joinRules p) × T (costsFit form p) × T (isForm form)
+readTable-rules form t p e = let r = readTable-passed form t p e in (r .range, r .spawns, r .joins, r .costs, r .known)
 
 -- the numbers of rows
 
 abbrev numbersOf : List Row → List ℕ
 numbersOf [] = []
-numbersOf (a ∷ rows) = a .job ∷ a .frame ∷ a .spawn ∷ a .join ∷ numbersOf rows
+numbersOf (a ∷ rows) = a .job ∷ a .frame ∷ a .spawn ∷ a .join ∷ a .cost ∷ numbersOf rows
 
-numbersOf-rowsOf : (t : List ℕ) → length t % 4 ≡ 0 → numbersOf (rowsOf t) ≡ t
+numbersOf-rowsOf : (t : List ℕ) → length t % 5 ≡ 0 → numbersOf (rowsOf t) ≡ t
 numbersOf-rowsOf [] e = refl
 numbersOf-rowsOf (j ∷ []) e = absurd (omega arith)
 numbersOf-rowsOf (j ∷ (f ∷ [])) e = absurd (omega arith)
 numbersOf-rowsOf (j ∷ (f ∷ (s ∷ []))) e = absurd (omega arith)
-numbersOf-rowsOf (j ∷ (f ∷ (s ∷ (t ∷ rest)))) e =
-    ap {B = List ℕ} (λ l. j ∷ f ∷ s ∷ t ∷ l) (numbersOf-rowsOf rest (omega arith))
+numbersOf-rowsOf (j ∷ (f ∷ (s ∷ (t ∷ [])))) e = absurd (omega arith)
+numbersOf-rowsOf (j ∷ (f ∷ (s ∷ (t ∷ (c ∷ rest))))) e =
+    ap {B = List ℕ} (λ l. j ∷ f ∷ s ∷ t ∷ c ∷ l) (numbersOf-rowsOf rest (omega arith))
 
 numbersOf-append : (l m : List Row) → numbersOf (l ++ m) ≡ numbersOf l ++ numbersOf m
 numbersOf-append [] m = refl
-numbersOf-append (a ∷ l) m = ap {B = List ℕ} (λ r. a .job ∷ a .frame ∷ a .spawn ∷ a .join ∷ r) (numbersOf-append l m)
+numbersOf-append (a ∷ l) m = ap {B = List ℕ} (λ r. a .job ∷ a .frame ∷ a .spawn ∷ a .join ∷ a .cost ∷ r) (numbersOf-append l m)
 
 numbersOf-rowsIn : (j f : ℕ) (l : List Action) → numbersOf (rowsIn j f l) ≡ tableIn j f l
 numbersOf-rowsIn j f [] = refl
-numbersOf-rowsIn j f (a ∷ l) = ap {B = List ℕ} (λ r. j ∷ f ∷ a .spawn ∷ a .join ∷ r) (numbersOf-rowsIn j f l)
+numbersOf-rowsIn j f (a ∷ l) = ap {B = List ℕ} (λ r. j ∷ f ∷ a .spawn ∷ a .join ∷ a .cost ∷ r) (numbersOf-rowsIn j f l)
 
 numbersOf-rowsFrom : (j : ℕ) (p : List Job) → numbersOf (rowsFrom j p) ≡ tableFrom j p
 numbersOf-rowsFrom j [] = refl
@@ -99,10 +108,10 @@ numbersOf-rowsFrom j (b ∷ bs) =
 planOf-numbers : (l : List Row) → T (rowRules l) → tableFrom 0 (planOf l) ≡ numbersOf l
 planOf-numbers l t = sym (numbersOf-rowsFrom 0 (planOf l)) ∙ ap numbersOf (plan-rows l t .0)
 
-pub table-read-write : (t : List ℕ) (p : Plan) → readTable t ≡ accepted p → tableOf p ≡ t
+pub table-read-write : (form : ℕ) (t : List ℕ) (p : Plan) → readTable form t ≡ accepted p → tableOf p ≡ t
 unfolding tableOf
-table-read-write t p e =
-    let r = readTable-passed t p e in
+table-read-write form t p e =
+    let r = readTable-passed form t p e in
     ap (tableFrom 0) (sym (r .plan)) ∙ planOf-numbers (rowsOf t) (r .rows) ∙ numbersOf-rowsOf t (r .whole)
 
 -- the rows of a plan's table are grouped into the jobs that they came from
@@ -179,7 +188,7 @@ small-in j f [] rows h t = t
 small-in j f (a ∷ l) rows h t =
     both-intro (both (leb (a .spawn) 256) (leb (a .join) 256)) (all small (rowsIn j f l ++ rows))
     (both-intro (leb (a .spawn) 256) (leb (a .join) 256) (le→leb (a .spawn) 256 (h .0)) (le→leb (a .join) 256 (h .1)))
-    (small-in j f l rows (h .2) t)
+    (small-in j f l rows (h .4) t)
 
 small-from : (j : ℕ) (p : List Job) → Fits p → T (all small (rowsFrom j p))
 small-from j [] h = tt
@@ -197,16 +206,18 @@ rowsFrom-rules (b ∷ bs) some h = go (b .actions) (h .0 .some-action) (h .0 .sm
         (rising-in 0 (b .frame) a l (rowsFrom 1 bs) (rising-from 0 (b .frame) bs (h .1)))
         (small-in 0 (b .frame) (a ∷ l) (rowsFrom 1 bs) s (small-from 1 bs (h .1)))
 
-pub table-write-read : (p : Plan) → T (inRange p) → T (spawnRules p) → T (joinRules p) → readTable (tableOf p) ≡ accepted p
+pub table-write-read : (form : ℕ) (p : Plan) → T (isForm form) → T (costsFit form p) → T (inRange p) → T (spawnRules p) → T (joinRules p)
+    → readTable form (tableOf p) ≡ accepted p
 unfolding readTable ruled tableOf
-table-write-read p i s j =
+table-write-read form p f c i s j =
     let fits = plan-fits p i s j in
     let rows : rowsOf (tableOf p) ≡ rowsFrom 0 p = table-rows p in
-    let whole : length (tableOf p) % 4 ≡ 0 = omega (arith, table-length p) in
-    let rules : T (both (eqb (length (tableOf p) % 4) 0) (rowRules (rowsOf (tableOf p))))
-    = both-intro (eqb (length (tableOf p) % 4) 0) (rowRules (rowsOf (tableOf p))) (rw whole (eqb-refl 0))
+    let whole : length (tableOf p) % 5 ≡ 0 = omega (arith, table-length p) in
+    let kept = both (eqb (length (tableOf p) % 5) 0) (rowRules (rowsOf (tableOf p))) in
+    let rules : T kept
+    = both-intro (eqb (length (tableOf p) % 5) 0) (rowRules (rowsOf (tableOf p))) (rw whole (eqb-refl 0))
     (rw rows (rowsFrom-rules p (jobs-in-range p i .0) fits)) in
-    chosen-true (both (eqb (length (tableOf p) % 4) 0) (rowRules (rowsOf (tableOf p)))) (ruled (planOf (rowsOf (tableOf p)))) (refused 10)
-    (true-of (both (eqb (length (tableOf p) % 4) 0) (rowRules (rowsOf (tableOf p)))) rules)
-    ∙ ap ruled (ap planOf rows ∙ planOf-rowsFrom 0 p fits)
-    ∙ passes 3 (inRange p) (spawnRules p) (joinRules p) p i s j
+    chosen-true (isForm form) (elim kept [ false ↦ refused 10 | true ↦ ruled form (planOf (rowsOf (tableOf p))) ]) (refused 2) (true-of (isForm form) f)
+    ∙ chosen-true kept (ruled form (planOf (rowsOf (tableOf p)))) (refused 10) (true-of kept rules)
+    ∙ ap (ruled form) (ap planOf rows ∙ planOf-rowsFrom 0 p fits)
+    ∙ passes 3 (both (inRange p) (costsFit form p)) (spawnRules p) (joinRules p) p (both-intro (inRange p) (costsFit form p) i c) s j

@@ -1,23 +1,27 @@
 -- The two entries of the open table undo one another: from plan bytes to a table and back, and from a table to plan bytes and back.
-use Prim.Native.Nat.{ℕ, _*_, _/_}
+use Prim.Native.Nat.{ℕ, _*_, _/_, _≤_}
 use native.Mathlib.Omega.{arith}
 use mathlib.Core.Path.{_≡_, refl, sym, ap, ap₂, _∙_}
 use mathlib.Core.Bool.{Bool, true, false}
 use mathlib.Core.List.{List, _++_}
-use lib.ListN.{length, take, drop}
+use lib.ListN.{length, getD, take, drop}
 use lib.Seq.{take-at}
 use lib.Dec.{leb}
 use Rattle.plan.specs.Refusal.{Outcome, refused, accepted}
 use Rattle.plan.specs.Plan.{Plan, total}
 use Rattle.fields.specs.Field.{Bytes}
-use Rattle.plan.specs.Reader.{readPlan}
+use Rattle.plan.specs.Reader.{Read, readPlan}
 use Rattle.plan_writer.specs.Writer.{planBytes}
 use Rattle.plan_table.specs.Table.{tableOf, readTable, Written, written, tabled, toTable, encoded, toPlan}
-use Rattle.plan.proofs.Laws.Accepted.{accepted-kept}
+use Rattle.plan.proofs.Laws.Accepted.{accepted-as}
 use Rattle.plan.proofs.Laws.Outcomes.{refused-accepted}
-use Rattle.plan_writer.proofs.Laws.PlanBytes.{read-write, write-read}
+use Rattle.plan_writer.proofs.Laws.PlanBytes.{read-form, read-write, write-read}
+use Rattle.plan.proofs.Laws.Costs.{accepted-costs}
 use Rattle.plan_table.proofs.Laws.Rows.{table-length}
 use Rattle.plan_table.proofs.Laws.OpenTable.{table-read-write, table-write-read, readTable-rules}
+
+accepted-same : (x y : Read) → _≡_ {A = Outcome Read} (accepted x) (accepted y) → x ≡ y
+accepted-same x y e = cc
 
 -- what was written, where the answer is no refusal
 written-told : {P : Type 0} (output : List ℕ) (k : ℕ) (buffer : List ℕ) (n : ℕ) → written output k buffer .answer ≡ accepted n
@@ -36,49 +40,61 @@ written-told {P} output k buffer n e use-it = go (leb (length output) (length bu
     go false e use-it = refused-accepted e
 
 pub toTable-told : {P : Type 0} (s rows : List ℕ) (n : ℕ) → toTable s rows .answer ≡ accepted n
-    → ((p : Plan) → readPlan s ≡ accepted p → n ≡ total p → toTable s rows .buffer ≡ tableOf p ++ drop (length (tableOf p)) rows → P) → P
+    → ((x : Read) → readPlan s ≡ accepted x → n ≡ total (x .plan)
+    → toTable s rows .buffer ≡ tableOf (x .plan) ++ drop (length (tableOf (x .plan))) rows → P) → P
 unfolding toTable tabled
 toTable-told {P} s rows n e use-it = go (readPlan s) e use-it
   where
-    go : (o : Outcome Plan) → tabled o rows .answer ≡ accepted n
-        → ((p : Plan) → o ≡ accepted p → n ≡ total p → tabled o rows .buffer ≡ tableOf p ++ drop (length (tableOf p)) rows → P) → P
+    go : (o : Outcome Read) → tabled o rows .answer ≡ accepted n
+        → ((x : Read) → o ≡ accepted x → n ≡ total (x .plan)
+        → tabled o rows .buffer ≡ tableOf (x .plan) ++ drop (length (tableOf (x .plan))) rows → P) → P
     go (refused k) e use-it = refused-accepted e
-    go (accepted p) e use-it = written-told (tableOf p) (total p) rows n e (use-it p refl)
+    go (accepted x) e use-it = written-told (tableOf (x .plan)) (total (x .plan)) rows n e (use-it x refl)
 
-pub toPlan-told : {P : Type 0} (t bytes : List ℕ) (n : ℕ) → toPlan t bytes .answer ≡ accepted n
-    → ((p : Plan) → readTable t ≡ accepted p → n ≡ length (planBytes p)
-    → toPlan t bytes .buffer ≡ planBytes p ++ drop (length (planBytes p)) bytes → P) → P
+pub toPlan-told : {P : Type 0} (form : ℕ) (t bytes : List ℕ) (n : ℕ) → toPlan form t bytes .answer ≡ accepted n
+    → ((p : Plan) → readTable form t ≡ accepted p → n ≡ length (planBytes form p)
+    → toPlan form t bytes .buffer ≡ planBytes form p ++ drop (length (planBytes form p)) bytes → P) → P
 unfolding toPlan encoded
-toPlan-told {P} t bytes n e use-it = go (readTable t) e use-it
+toPlan-told {P} form t bytes n e use-it = go (readTable form t) e use-it
   where
-    go : (o : Outcome Plan) → encoded o bytes .answer ≡ accepted n
-        → ((p : Plan) → o ≡ accepted p → n ≡ length (planBytes p)
-        → encoded o bytes .buffer ≡ planBytes p ++ drop (length (planBytes p)) bytes → P) → P
+    go : (o : Outcome Plan) → encoded form o bytes .answer ≡ accepted n
+        → ((p : Plan) → o ≡ accepted p → n ≡ length (planBytes form p)
+        → encoded form o bytes .buffer ≡ planBytes form p ++ drop (length (planBytes form p)) bytes → P) → P
     go (refused k) e use-it = refused-accepted e
-    go (accepted p) e use-it = written-told (planBytes p) (length (planBytes p)) bytes n e (use-it p refl)
+    go (accepted p) e use-it = written-told (planBytes form p) (length (planBytes form p)) bytes n e (use-it p refl)
 
-pub plan-table-plan : (s rows bytes : List ℕ) (n : ℕ) → Bytes s → toTable s rows .answer ≡ accepted n
-    → toPlan (take (4 * n) (toTable s rows .buffer)) bytes ≡ written s (length s) bytes
+-- the first of a plan's bytes is its form
+pub plan-form : (s : List ℕ) (x : Read) → Bytes s → readPlan s ≡ accepted x → (1 ≤ length s) × (getD s 0 0 ≡ x .form)
+unfolding readPlan
+plan-form s x h r = read-form s x h r
+
+-- what was read of a plan's bytes is closed in its own form
+pub plan-table-plan : (s rows bytes : List ℕ) (n : ℕ) (x : Read) → Bytes s → readPlan s ≡ accepted x → toTable s rows .answer ≡ accepted n
+    → toPlan (x .form) (take (5 * n) (toTable s rows .buffer)) bytes ≡ written s (length s) bytes
 unfolding toPlan encoded
-plan-table-plan s rows bytes n h e =
-    toTable-told s rows n e λ p r k b.
-    let kept = accepted-kept s p r in
-    let t : take (4 * n) (toTable s rows .buffer) ≡ tableOf p
-    = ap (take (4 * n)) b ∙ take-at (tableOf p) (drop (length (tableOf p)) rows) (4 * n) (omega (arith, table-length p)) in
-    ap (λ t. toPlan t bytes) t
-    ∙ ap (λ o. encoded o bytes) (table-write-read p (kept .range) (kept .spawns) (kept .joins))
-    ∙ ap (λ o. written o (length o) bytes) (read-write s p h r)
+plan-table-plan s rows bytes n x h r e =
+    toTable-told s rows n e λ y q k b.
+    let z : y ≡ x = accepted-same y x (sym q ∙ r) in
+    let p = x .plan in
+    let kept = accepted-as s x r in
+    let c : total (y .plan) ≡ total p = ap (λ y. total (y .plan)) z in
+    let t : take (5 * n) (toTable s rows .buffer) ≡ tableOf p
+    = ap (take (5 * n)) b ∙ take-at (tableOf (y .plan)) (drop (length (tableOf (y .plan))) rows) (5 * n) (omega (arith, table-length (y .plan)))
+    ∙ ap (λ y. tableOf (y .plan)) z in
+    ap (λ t. toPlan (x .form) t bytes) t
+    ∙ ap (λ o. encoded (x .form) o bytes) (table-write-read (x .form) p (kept .1) (accepted-costs s x r) (kept .0 .range) (kept .0 .spawns) (kept .0 .joins))
+    ∙ ap (λ o. written o (length o) bytes) (read-write s x h r)
 
-pub table-plan-table : (t bytes rows : List ℕ) (n : ℕ) → toPlan t bytes .answer ≡ accepted n
-    → toTable (take n (toPlan t bytes .buffer)) rows ≡ written t (length t / 4) rows
+pub table-plan-table : (form : ℕ) (t bytes rows : List ℕ) (n : ℕ) → toPlan form t bytes .answer ≡ accepted n
+    → toTable (take n (toPlan form t bytes .buffer)) rows ≡ written t (length t / 5) rows
 unfolding toTable tabled
-table-plan-table t bytes rows n e =
-    toPlan-told t bytes n e λ p r k b.
-    let s : take n (toPlan t bytes .buffer) ≡ planBytes p
-    = ap (take n) b ∙ take-at (planBytes p) (drop (length (planBytes p)) bytes) n (sym k) in
-    let rules = readTable-rules t p r in
-    let w : tableOf p ≡ t = table-read-write t p r in
-    let l : total p ≡ length t / 4 = omega (arith, table-length p, ap length w) in
+table-plan-table form t bytes rows n e =
+    toPlan-told form t bytes n e λ p r k b.
+    let s : take n (toPlan form t bytes .buffer) ≡ planBytes form p
+    = ap (take n) b ∙ take-at (planBytes form p) (drop (length (planBytes form p)) bytes) n (sym k) in
+    let (range, spawns, joins, costs, passes) = readTable-rules form t p r in
+    let w : tableOf p ≡ t = table-read-write form t p r in
+    let l : total p ≡ length t / 5 = omega (arith, table-length p, ap length w) in
     ap (λ s. toTable s rows) s
-    ∙ ap (λ o. tabled o rows) (write-read p (rules .0) (rules .1) (rules .2))
+    ∙ ap (λ o. tabled o rows) (write-read form p passes costs range spawns joins)
     ∙ ap₂ (λ o k. written o k rows) w l

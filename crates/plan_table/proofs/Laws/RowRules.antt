@@ -15,7 +15,7 @@ use Rattle.plan_table.proofs.Laws.Rows.{rowsOf-drop}
 
 -- what is left to test below the row before `at`
 abbrev left : List ℕ → ℕ → Bool
-left t at = both (rising (rowAt t (at - 4)) (rowsOf (drop at t))) (all small (rowsOf (drop at t)))
+left t at = both (rising (rowAt t (at - 5)) (rowsOf (drop at t))) (all small (rowsOf (drop at t)))
 
 abbrev chosen : Bool → Bool → Bool → Bool
 chosen true x y = x
@@ -41,25 +41,25 @@ next-regroup true false false l = refl
 next-regroup false r true l = refl
 next-regroup false r false l = refl
 
-rules-first : (t : List ℕ) → 4 ≤ length t → rulesFrom t 0 ≡ both (fitsAt t 0) (rulesFrom t 4)
+rules-first : (t : List ℕ) → 5 ≤ length t → rulesFrom t 0 ≡ both (fitsAt t 0) (rulesFrom t 5)
 unfolding rowRules fitsAt
 rules-first t h =
     rw (rowsOf-drop t 0 h)
-    (first-regroup (eqb (rowAt t 0 .job) 0) (rising (rowAt t 0) (rowsOf (drop 4 t))) (small (rowAt t 0)) (all small (rowsOf (drop 4 t))))
+    (first-regroup (eqb (rowAt t 0 .job) 0) (rising (rowAt t 0) (rowsOf (drop 5 t))) (small (rowAt t 0)) (all small (rowsOf (drop 5 t))))
 
-rules-next : (t : List ℕ) (at : ℕ) → (at ≡ 0 → ⊥) → at + 4 ≤ length t → rulesFrom t at ≡ both (fitsAt t at) (rulesFrom t (at + 4))
+rules-next : (t : List ℕ) (at : ℕ) → (at ≡ 0 → ⊥) → at + 5 ≤ length t → rulesFrom t at ≡ both (fitsAt t at) (rulesFrom t (at + 5))
 unfolding fitsAt
 rules-next t at n h =
-    let m : at + 4 ≡ 0 → ⊥ = λ e. omega arith in
-    let b : at + 4 - 4 ≡ at = omega arith in
-    rw (ne-eqb at 0 n, ne-eqb (at + 4) 0 m, b, rowsOf-drop t at h)
-    (next-regroup (goesOn (rowAt t (at - 4)) (rowAt t at)) (rising (rowAt t at) (rowsOf (drop (at + 4) t))) (small (rowAt t at)) (all small (rowsOf (drop (at + 4) t))))
+    let m : at + 5 ≡ 0 → ⊥ = λ e. omega arith in
+    let b : at + 5 - 5 ≡ at = omega arith in
+    rw (ne-eqb at 0 n, ne-eqb (at + 5) 0 m, b, rowsOf-drop t at h)
+    (next-regroup (goesOn (rowAt t (at - 5)) (rowAt t at)) (rising (rowAt t at) (rowsOf (drop (at + 5) t))) (small (rowAt t at)) (all small (rowsOf (drop (at + 5) t))))
 
 -- a row's test comes off the front
-pub rules-step : (t : List ℕ) (at : ℕ) → at + 4 ≤ length t → rulesFrom t at ≡ both (fitsAt t at) (rulesFrom t (at + 4))
+pub rules-step : (t : List ℕ) (at : ℕ) → at + 5 ≤ length t → rulesFrom t at ≡ both (fitsAt t at) (rulesFrom t (at + 5))
 rules-step t at h = go (ℕ-discrete at 0)
   where
-    go : Dec (at ≡ 0) → rulesFrom t at ≡ both (fitsAt t at) (rulesFrom t (at + 4))
+    go : Dec (at ≡ 0) → rulesFrom t at ≡ both (fitsAt t at) (rulesFrom t (at + 5))
     go (yes e) = rw e (rules-first t (omega arith))
     go (no n) = rules-next t at n h
 

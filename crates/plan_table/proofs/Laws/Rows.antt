@@ -4,7 +4,7 @@ use mathlib.Core.Path.{_≡_, refl, ap, ap₂, sym, _∙_}
 use mathlib.Core.Bool.{Bool, true, false}
 use mathlib.Core.List.{List, [], _∷_, _++_, append-assoc}
 use native.Mathlib.Omega.{arith}
-use native.Mathlib.Numerals.{add-one, add-two, add-three, add-four, towards-suc}
+use native.Mathlib.Numerals.{add-one, add-two, add-three, add-four, add-five, towards-suc}
 use native.Mathlib.Nat.{le-of-suc-le-suc, not-suc-le-zero, add-assoc, zero-add}
 use lib.ListN.{length, getD, take, drop, set, length-append, List·getD-append}
 use lib.Seq.{drop-cons, getD-append-add, set-at, take-suc, length-take-le}
@@ -35,39 +35,53 @@ use Rattle.plan.proofs.Laws.Spawning.{jobs-in-range}
 -- rows by their places
 
 abbrev pub noRow : Row
-noRow = record { job = 0; frame = 0; spawn = 0; join = 0 }
+noRow = record { job = 0; frame = 0; spawn = 0; join = 0; cost = 0 }
 
-pub rowsOf-drop : (t : List ℕ) (at : ℕ) → at + 4 ≤ length t → rowsOf (drop at t) ≡ rowAt t at ∷ rowsOf (drop (at + 4) t)
+pub rowsOf-drop : (t : List ℕ) (at : ℕ) → at + 5 ≤ length t → rowsOf (drop at t) ≡ rowAt t at ∷ rowsOf (drop (at + 5) t)
 rowsOf-drop t at h =
     let a : at < length t = omega arith in
     let b : suc at < length t = omega arith in
     let c : suc (suc at) < length t = omega arith in
     let d : suc (suc (suc at)) < length t = omega arith in
-    rw (add-one, add-two, add-three, add-four, drop-cons t at 0 a, drop-cons t (suc at) 0 b, drop-cons t (suc (suc at)) 0 c, drop-cons t (suc (suc (suc at))) 0 d)
+    let e : suc (suc (suc (suc at))) < length t = omega arith in
+    rw (
+      add-one,
+      add-two,
+      add-three,
+      add-four,
+      add-five,
+      drop-cons t at 0 a,
+      drop-cons t (suc at) 0 b,
+      drop-cons t (suc (suc at)) 0 c,
+      drop-cons t (suc (suc (suc at))) 0 d,
+      drop-cons t (suc (suc (suc (suc at)))) 0 e,
+    )
 
-pub rowsOf-at : (t : List ℕ) (k : ℕ) → 4 * k + 4 ≤ length t → getD (rowsOf t) k noRow ≡ rowAt t (4 * k)
+pub rowsOf-at : (t : List ℕ) (k : ℕ) → 5 * k + 5 ≤ length t → getD (rowsOf t) k noRow ≡ rowAt t (5 * k)
 rowsOf-at [] k h = absurd (omega arith)
 rowsOf-at (j ∷ []) k h = absurd (omega arith)
 rowsOf-at (j ∷ (f ∷ [])) k h = absurd (omega arith)
 rowsOf-at (j ∷ (f ∷ (s ∷ []))) k h = absurd (omega arith)
-rowsOf-at (j ∷ (f ∷ (s ∷ (u ∷ rest)))) zero h = refl
-rowsOf-at (j ∷ (f ∷ (s ∷ (u ∷ rest)))) (suc k) h =
-    let e : 4 * suc k ≡ suc (suc (suc (suc (4 * k)))) = omega arith in
+rowsOf-at (j ∷ (f ∷ (s ∷ (u ∷ [])))) k h = absurd (omega arith)
+rowsOf-at (j ∷ (f ∷ (s ∷ (u ∷ (c ∷ rest))))) zero h = refl
+rowsOf-at (j ∷ (f ∷ (s ∷ (u ∷ (c ∷ rest))))) (suc k) h =
+    let e : 5 * suc k ≡ suc (suc (suc (suc (suc (5 * k))))) = omega arith in
     let r = rowsOf-at rest k (omega arith) in
     rw e (simp towards-suc (simp towards-suc at r))
 
-pub rowsOf-length : (t : List ℕ) (n : ℕ) → length t ≡ 4 * n → length (rowsOf t) ≡ n
+pub rowsOf-length : (t : List ℕ) (n : ℕ) → length t ≡ 5 * n → length (rowsOf t) ≡ n
 rowsOf-length [] n h = omega arith
 rowsOf-length (j ∷ []) n h = absurd (omega arith)
 rowsOf-length (j ∷ (f ∷ [])) n h = absurd (omega arith)
 rowsOf-length (j ∷ (f ∷ (s ∷ []))) n h = absurd (omega arith)
-rowsOf-length (j ∷ (f ∷ (s ∷ (u ∷ rest)))) zero h = absurd (omega arith)
-rowsOf-length (j ∷ (f ∷ (s ∷ (u ∷ rest)))) (suc n) h = ap suc (rowsOf-length rest n (omega arith))
+rowsOf-length (j ∷ (f ∷ (s ∷ (u ∷ [])))) n h = absurd (omega arith)
+rowsOf-length (j ∷ (f ∷ (s ∷ (u ∷ (c ∷ rest))))) zero h = absurd (omega arith)
+rowsOf-length (j ∷ (f ∷ (s ∷ (u ∷ (c ∷ rest))))) (suc n) h = ap suc (rowsOf-length rest n (omega arith))
 
 -- the rows of a plan's table
 
 abbrev pub rowOf : ℕ → ℕ → Action → Row
-rowOf j f a = record { job = j; frame = f; spawn = a .spawn; join = a .join }
+rowOf j f a = record { job = j; frame = f; spawn = a .spawn; join = a .join; cost = a .cost }
 
 abbrev pub rowsIn : ℕ → ℕ → List Action → List Row
 rowsIn j f [] = []
@@ -89,16 +103,16 @@ pub table-rows : (p : Plan) → rowsOf (tableOf p) ≡ rowsFrom 0 p
 unfolding tableOf
 table-rows p = rowsOf-tableFrom 0 p
 
-tableIn-length : (j f : ℕ) (l : List Action) → length (tableIn j f l) ≡ 4 * length l
+tableIn-length : (j f : ℕ) (l : List Action) → length (tableIn j f l) ≡ 5 * length l
 tableIn-length j f [] = refl
 tableIn-length j f (a ∷ l) = omega (arith, tableIn-length j f l)
 
-tableFrom-length : (j : ℕ) (p : List Job) → length (tableFrom j p) ≡ 4 * total p
+tableFrom-length : (j : ℕ) (p : List Job) → length (tableFrom j p) ≡ 5 * total p
 tableFrom-length j [] = refl
 tableFrom-length j (b ∷ bs) =
     rw length-append (omega (arith, tableIn-length j (b .frame) (b .actions), tableFrom-length (suc j) bs))
 
-pub table-length : (p : Plan) → length (tableOf p) ≡ 4 * total p
+pub table-length : (p : Plan) → length (tableOf p) ≡ 5 * total p
 unfolding tableOf
 table-length p = tableFrom-length 0 p
 
@@ -135,28 +149,28 @@ row-at p j i h b = rowsFrom-at 0 p j i j h b (zero-add j)
 
 -- the row of the action at place k
 abbrev pub rowPlaced : Plan → Placed → Row
-rowPlaced p a = record { job = a .job; frame = job p (a .job) .frame; spawn = a .spawn; join = a .join }
+rowPlaced p a = record { job = a .job; frame = job p (a .job) .frame; spawn = a .spawn; join = a .join; cost = a .cost }
 
 pub row-placed : (p : Plan) (k : ℕ) → k < total p → getD (rowsFrom 0 p) k noRow ≡ rowPlaced p (getD (placed p) k noPlaced)
 row-placed p k h = found (getD (placed p) k noPlaced) (placed-of p k h)
   where
     found : (a : Placed) → Stands p k a → getD (rowsFrom 0 p) k noRow ≡ rowPlaced p a
-    found a s = rw (s .place, row-at p (a .job) (a .position) (s .known) (s .within), s .spawn, s .join)
+    found a s = rw (s .place, row-at p (a .job) (a .position) (s .known) (s .within), s .spawn, s .join, s .cost)
 
--- what stands at 4 * k to 4 * k + 3 of a plan's table
-table-at : (p : Plan) (k : ℕ) → k < total p → rowAt (tableOf p) (4 * k) ≡ rowPlaced p (getD (placed p) k noPlaced)
+-- what stands at 5 * k to 5 * k + 4 of a plan's table
+table-at : (p : Plan) (k : ℕ) → k < total p → rowAt (tableOf p) (5 * k) ≡ rowPlaced p (getD (placed p) k noPlaced)
 table-at p k h =
     sym (rowsOf-at (tableOf p) k (omega (arith, table-length p))) ∙ ap (λ l. getD l k noRow) (table-rows p) ∙ row-placed p k h
 
 -- the k-th row of a plan's table, from the array that holds the plan
 pub row-given : (p : Plan) (n : ℕ) (plan : List ℕ) → RowsGiven n plan p → (k : ℕ) → k < n
-    → (jobAt plan k < 256) × (rowAt (tableOf p) (4 * k) ≡ rowOn plan k)
+    → (jobAt plan k < 256) × (rowAt (tableOf p) (5 * k) ≡ rowOn plan k)
 row-given p n plan g k h =
     let l : k < total p = omega (arith, g .all) in
     let j = g .laid .owners k l in
     let s = placed-of p k l in (
       omega (arith, j, s .known, jobs-in-range p (g .laid .range)),
-      table-at p k l ∙ rw (j, g .laid .children k l, g .laid .targets k l, g .laid .frames (getD (placed p) k noPlaced .job) (s .known)),
+      table-at p k l ∙ rw (j, g .laid .children k l, g .laid .targets k l, g .laid .costs k l, g .laid .frames (getD (placed p) k noPlaced .job) (s .known)),
     )
 
 -- the plan that rows make
@@ -252,13 +266,14 @@ written-more : (t r : List ℕ) (n m v : ℕ) → m ≡ n + 1 → n < length t �
 written-more t r n m v i h b e =
     rw (i, add-one, drop-cons r n 0 b, set-at (take n t) (getD r n 0) (drop (suc n) r) v n (length-take-le n t (omega arith)), take-suc t n 0 h, append-assoc, e)
 
-pub written-row : (t r l : List ℕ) (at : ℕ) (a : Row) → at + 4 ≤ length t → at + 4 ≤ length r → rowAt t at ≡ a
-    → l ≡ take at t ++ drop at r → withRow l at a ≡ take (at + 4) t ++ drop (at + 4) r
+pub written-row : (t r l : List ℕ) (at : ℕ) (a : Row) → at + 5 ≤ length t → at + 5 ≤ length r → rowAt t at ≡ a
+    → l ≡ take at t ++ drop at r → withRow l at a ≡ take (at + 5) t ++ drop (at + 5) r
 written-row t r l at a h b e w =
     rw (
       w,
       written-more t r at (at + 1) (a .job) refl (omega arith) (omega arith) (ap (λ x. x .job) e),
       written-more t r (at + 1) (at + 2) (a .frame) (omega arith) (omega arith) (omega arith) (ap (λ x. x .frame) e),
       written-more t r (at + 2) (at + 3) (a .spawn) (omega arith) (omega arith) (omega arith) (ap (λ x. x .spawn) e),
+      written-more t r (at + 3) (at + 4) (a .join) (omega arith) (omega arith) (omega arith) (ap (λ x. x .join) e),
     )
-    (written-more t r (at + 3) (at + 4) (a .join) (omega arith) (omega arith) (omega arith) (ap (λ x. x .join) e))
+    (written-more t r (at + 4) (at + 5) (a .cost) (omega arith) (omega arith) (omega arith) (ap (λ x. x .cost) e))

@@ -6,8 +6,9 @@ use native.Mathlib.Omega.{arith}
 use lib.ListN.{length}
 use borrow.Author.Tests.{not-true, not-false}
 use Rattle.plan.specs.Plan.{Plan}
-use Rattle.plan.specs.Sheet.{LaidIn, SpawnedIn, PlanIn}
+use Rattle.plan.specs.Sheet.{SpawnedIn, PlanIn}
 use Rattle.plan_writer.specs.Writer.{planBytes}
+use Rattle.plan_table.specs.GivenRows.{LaidAs}
 use Rattle.plan.proofs.Laws.Lists.{of-true}
 use Rattle.plan.proofs.Laws.Sheets.{planned-by}
 use Rattle.plan_writer.proofs.Laws.PlanBytes.{planBytes-length}
@@ -17,7 +18,7 @@ use Rattle.plan_table.proofs.encode.Statement.{statement}
 use Rattle.plan_table.proofs.encode.Tie as tie
 
 abbrev Given : tie.Start → Plan → Type 0
-Given s p = LaidIn (s .args .jobs) (s .args .rows) (s .args .plan .now) p
+Given s p = LaidAs (s .args .form) (s .args .jobs) (s .args .rows) (s .args .plan .now) p
 
 -- the spawn rules are kept
 abbrev start : tie.Else1 → tie.Start
@@ -27,7 +28,7 @@ abbrev plan : tie.Else1 → List ℕ
 plan c = c .before .spawn-rules .last .1 .1 .0
 
 spawned : (c : tie.Else1) (p : Plan) → Given (start c) p → SpawnedIn (start c .args .jobs) (start c .args .rows) (plan c) p
-spawned c p g = let r = c .before .spawn-rules in r .ensures p g .1 (of-true (r .result) (not-false _ (c .if1 .left)))
+spawned c p g = let r = c .before .spawn-rules in r .ensures p (g .held) .1 (of-true (r .result) (not-false _ (c .if1 .left)))
 
 -- the join rules are kept
 abbrev else1 : tie.Else2 → tie.Else1
@@ -41,12 +42,12 @@ planned c p g =
     planned-by _ _ _ p h (of-true _ (sym (r .ensures p h .0) ∙ not-false _ (c .if2 .left)))
 
 spawn-rules-requires : tie.Need-spawn-rules-requires
-spawn-rules-requires c κs = c .before .before .pre
+spawn-rules-requires c κs = let q = c .before .before .pre in (q .0, q .1 .held)
 
 returns : tie.Need-returns
 returns c p g =
     let r = c .before .spawn-rules in
-    encoded-spawns p _ (g .laid .range) (sym (r .ensures p g .0) ∙ not-true _ (c .if1 .taken))
+    encoded-spawns _ p _ (g .held .laid .range) (g .costs) (sym (r .ensures p (g .held) .0) ∙ not-true _ (c .if1 .taken))
 
 join-rules-requires : tie.Need-join-rules-requires
 join-rules-requires c κs =
@@ -58,7 +59,7 @@ returns-2 : tie.Need-returns-2
 returns-2 c p g =
     let h = spawned (c .before .before .before .before) p g in
     let r = c .before .join-rules in
-    encoded-joins p _ (g .laid .range) (h .parented .rules) (sym (r .ensures p h .0) ∙ not-true _ (c .if2 .taken))
+    encoded-joins _ p _ (g .held .laid .range) (g .costs) (h .parented .rules) (sym (r .ensures p h .0) ∙ not-true _ (c .if2 .taken))
 
 plan-bits-requires : tie.Need-plan-bits-requires
 plan-bits-requires c κs =
@@ -70,12 +71,13 @@ add-if3 : tie.Need-add-if3
 add-if3 c = omega arith
 
 -- what the bytes take
-bits : (c : tie.After-plan-bits) (p : Plan) → Given (start (else1 (c .before .before))) p → (c .plan-bits .result + 7) / 8 ≡ length (planBytes p)
-bits c p g = ap (λ n. (n + 7) / 8) (c .plan-bits .ensures .1 p (planned (c .before .before) p g)) ∙ sym (planBytes-length p)
+bits : (c : tie.After-plan-bits) (p : Plan) → let s = start (else1 (c .before .before)) in
+    Given s p → (c .plan-bits .result + 7) / 8 ≡ length (planBytes (s .args .form) p)
+bits c p g = ap (λ n. (n + 7) / 8) (c .plan-bits .ensures .1 p (planned (c .before .before) p g)) ∙ sym (planBytes-length _ p)
 
 returns-3 : tie.Need-returns-3
 returns-3 c p g =
-    encoded-short p _ (planned (c .before .before .before) p g .planned .rules) (omega (arith, bits (c .before) p g))
+    encoded-short _ p _ (planned (c .before .before .before) p g .planned .rules) (g .costs) (omega (arith, bits (c .before) p g))
 
 write-plan-requires : tie.Need-write-plan-requires
 write-plan-requires c κs =
@@ -84,7 +86,8 @@ write-plan-requires c κs =
       q .0,
       record {
         given = planned (b .before .before) (q .0) (q .1);
-        room = omega (arith, bits b (q .0) (q .1), planBytes-length (q .0));
+        byte = q .1 .byte;
+        room = omega (arith, bits b (q .0) (q .1), planBytes-length (start (else1 (b .before .before)) .args .form) (q .0));
       },
     )
 
@@ -96,7 +99,7 @@ returns-4 c p g =
     let b = c .before .before .before .before .before .before in
     let h = planned (b .before .before) p g in
     let w = c .before .before .write-plan .ensures p h in
-    encoded-whole p _ (h .planned .rules) (omega (arith, bits b p g)) _ _ (w .0) (w .1)
+    encoded-whole _ p _ (h .planned .rules) (g .costs) (omega (arith, bits b p g)) _ _ (w .0) (w .1)
 
 pub encode-spec : {M : Type 1} → statement M
 encode-spec =

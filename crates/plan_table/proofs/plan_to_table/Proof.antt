@@ -21,8 +21,9 @@ enum-known-actions c = search needs
 -- what was read
 plan-read : (c : tie.After-actions)
     → let r = c .before .before in
-    ReadPlan (now (r .before .before .before .before .before .args .bytes)) (c .actions .given .0 .0) (c .actions .given .0 .1 .0) (r .read-into .last .1 .0) (r .read-into .last .1 .1 .0)
-plan-read c = found-plan _ _ _ _ (c .before .before .read-into .ensures) _ _ (c .actions .given .1)
+    let given = c .actions .given .0 in
+    ReadPlan (now (r .before .before .before .before .before .args .bytes)) (given .0) (given .1 .0) (given .1 .1 .0) (r .read-into .last .1 .0) (r .read-into .last .1 .1 .0)
+plan-read c = found-plan _ _ _ _ (c .before .before .read-into .ensures) _ _ _ (c .actions .given .1)
 
 mul-if1 : tie.Need-mul-if1
 mul-if1 c =
@@ -34,7 +35,7 @@ returns : tie.Need-returns
 returns c =
     let a = c .before .before in
     let r = plan-read a in
-    table-short _ _ (r .is) (r .read) (omega (arith, r .held .all))
+    table-short _ _ _ (r .is) (r .read) (omega (arith, r .held .all))
 
 write-rows-requires : tie.Need-write-rows-requires
 write-rows-requires c κs =
@@ -54,7 +55,7 @@ returns-3 : tie.Need-returns-3
 returns-3 c =
     let a = c .before .before .before .before .before .before .before in
     let r = plan-read a in
-    table-whole _ _ (r .is) _ _ (r .read) (r .held .all) (c .before .before .before .before .before .if1 .left)
+    table-whole _ _ _ (r .is) (r .read) _ _ (r .held .all) (c .before .before .before .before .before .if1 .left)
     (c .before .before .write-rows .ensures (r .is) (rows-given {p = r .is} (r .held)))
 
 pub plan-to-table-spec : {M : Type 1} → statement M

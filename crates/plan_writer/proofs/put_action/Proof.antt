@@ -4,22 +4,22 @@ use mathlib.Core.Path.{_≡_}
 use mathlib.Core.List.{_++_}
 use native.Mathlib.Omega.{arith}
 use Rattle.fields.specs.Field.{bitsOf}
-use Rattle.plan_writer.specs.ActionBits.{actionBits}
+use Rattle.plan_writer.specs.ActionBits.{fieldsAt, actionBits}
 use Rattle.fields.proofs.Laws.Puts.{put-length, put-both}
-use Rattle.plan_writer.proofs.Laws.PlanBits.{numbersAt, action-first, action-later, header-size}
+use Rattle.plan_writer.proofs.Laws.PlanBits.{action-first, action-later, header-size}
 use borrow.Author.Needs.{needs}
 use Rattle.plan_writer.proofs.put_action.Statement.{statement}
 use Rattle.plan_writer.proofs.put_action.Tie as tie
 
 -- what is written at the first action of a job
 opened : (c : tie.After-first-of2) → let a = c .before .before .before .before .before .before .before .args in
-    actionBits (a .plan .now) (a .k)
+    actionBits (a .form) (a .plan .now) (a .k)
     ≡ (bitsOf 16 (c .before .frame-of .result) ++ bitsOf 8 (c .first-of2 .result - c .before .before .before .before .first-of .result))
-    ++ numbersAt (a .plan .now) (a .k)
+    ++ fieldsAt (a .form) (a .plan .now) (a .k)
 opened c =
     let s = c .before .before .before .before in
     let a = s .before .before .before .args in
-    action-first (a .plan .now) (a .k) _ _ (s .before .job-at .ensures .0) (s .first-of .ensures .0) _ _
+    action-first (a .form) (a .plan .now) (a .k) _ _ (s .before .job-at .ensures .0) (s .first-of .ensures .0) _ _
     (c .first-of2 .ensures .0) (c .before .frame-of .ensures .0) (c .before .before .before .if1 .taken)
 
 sizes : (c : tie.After-first-of2) → let s = c .before .before .before .before .first-of .result in
@@ -27,15 +27,15 @@ sizes : (c : tie.After-first-of2) → let s = c .before .before .before .before 
 sizes c =
     let s = c .before .before .before .before in
     let a = s .before .before .before in
-    header-size (a .args .plan .now) (a .args .k) _ _ (s .before .job-at .ensures .0) (s .first-of .ensures .0) _ _
+    header-size (a .args .form) (a .args .plan .now) (a .args .k) _ _ (s .before .job-at .ensures .0) (s .first-of .ensures .0) _ _
     (c .first-of2 .ensures .0) (c .before .frame-of .ensures .0) (a .pre .1)
 
 -- at a later action
 continued : (c : tie.Else1) → let a = c .before .before .before .before .args in
-    actionBits (a .plan .now) (a .k) ≡ numbersAt (a .plan .now) (a .k)
+    actionBits (a .form) (a .plan .now) (a .k) ≡ fieldsAt (a .form) (a .plan .now) (a .k)
 continued c =
     let a = c .before .before .before .before .args in
-    action-later (a .plan .now) (a .k) _ _ (c .before .before .job-at .ensures .0) (c .before .first-of .ensures .0) (c .if1 .left)
+    action-later (a .form) (a .plan .now) (a .k) _ _ (c .before .before .job-at .ensures .0) (c .before .first-of .ensures .0) (c .if1 .left)
 
 job-at-requires : tie.Need-job-at-requires
 job-at-requires c κs = search needs
@@ -67,26 +67,33 @@ child-at-requires c κs = search needs
 target-at-requires : tie.Need-target-at-requires
 target-at-requires c κs = search needs
 
-put-numbers-requires : tie.Need-put-numbers-requires
-put-numbers-requires c κs =
-    let o = c .before .before .before .before .before .before in
-    let s = o .before .before .before .before .before .before .before in
-    let r = rw (opened o) at (s .pre .2) in
-    let w = c .before .before .before .before .before .put-header .ensures in
-    let x = c .before .child-at .ensures .0 in
-    let y = c .target-at .ensures .0 in
-    rw (x, y) (w .sound, s .pre .1 .child, s .pre .1 .target, omega (arith, put-length (s .pre .0) w, w .same))
+cost-at-requires : tie.Need-cost-at-requires
+cost-at-requires c κs = search needs
+
+put-fields-requires : tie.Need-put-fields-requires
+put-fields-requires c κs =
+    let t = c .before in
+    let h = t .before .before .before .before .before in
+    let s = h .before .before .before .before .before .before .before .before in
+    let r = rw (opened (h .before)) at (s .pre .2) in
+    let w = h .put-header .ensures in
+    let x = t .before .child-at .ensures .0 in
+    let y = t .target-at .ensures .0 in
+    let z = c .cost-at .ensures .0 in
+    rw (x, y, z) (w .sound, s .pre .1 .child, s .pre .1 .target, s .pre .1 .cost, omega (arith, put-length (s .pre .0) w, w .same))
 
 same-length : tie.Need-same-length
 same-length c = search needs
 
 returns : tie.Need-returns
 returns c =
-    let t = c .before .before .before in
+    let q = c .before .before .before in
+    let t = q .before in
+    let h = t .before .before .before .before .before in
     let x = t .before .child-at .ensures .0 in
     let y = t .target-at .ensures .0 in
-    rw (opened (t .before .before .before .before .before .before), ← x, ← y)
-    (put-both (t .before .before .before .before .before .put-header .ensures) (c .before .before .put-numbers .ensures))
+    let z = q .cost-at .ensures .0 in
+    rw (opened (h .before), ← x, ← y, ← z) (put-both (h .put-header .ensures) (c .before .before .put-fields .ensures))
 
 child-at-requires-2 : tie.Need-child-at-requires-2
 child-at-requires-2 c κs = search needs
@@ -94,22 +101,30 @@ child-at-requires-2 c κs = search needs
 target-at-requires-2 : tie.Need-target-at-requires-2
 target-at-requires-2 c κs = search needs
 
-put-numbers-requires-2 : tie.Need-put-numbers-requires-2
-put-numbers-requires-2 c κs =
-    let s = c .before .before .before .before .before .before .before in
-    let x = c .before .child-at2 .ensures .0 in
-    let y = c .target-at2 .ensures .0 in
-    rw (x, y) (s .pre .0, s .pre .1 .child, s .pre .1 .target, rw (continued (c .before .before .before)) at (s .pre .2))
+cost-at-requires-2 : tie.Need-cost-at-requires-2
+cost-at-requires-2 c κs = search needs
+
+put-fields-requires-2 : tie.Need-put-fields-requires-2
+put-fields-requires-2 c κs =
+    let t = c .before in
+    let o = t .before .before .before in
+    let s = o .before .before .before .before in
+    let x = t .before .child-at2 .ensures .0 in
+    let y = t .target-at2 .ensures .0 in
+    let z = c .cost-at2 .ensures .0 in
+    rw (x, y, z) (s .pre .0, s .pre .1 .child, s .pre .1 .target, s .pre .1 .cost, rw (continued o) at (s .pre .2))
 
 same-length-2 : tie.Need-same-length-2
 same-length-2 c = search needs
 
 returns-2 : tie.Need-returns-2
 returns-2 c =
-    let t = c .before .before .before in
+    let q = c .before .before .before in
+    let t = q .before in
     let x = t .before .child-at2 .ensures .0 in
     let y = t .target-at2 .ensures .0 in
-    rw (continued (t .before .before .before), ← x, ← y) (c .before .before .put-numbers2 .ensures)
+    let z = q .cost-at2 .ensures .0 in
+    rw (continued (t .before .before .before), ← x, ← y, ← z) (c .before .before .put-fields2 .ensures)
 
 pub put-action-spec : {M : Type 1} → statement M
 put-action-spec =
@@ -124,11 +139,13 @@ put-action-spec =
     put-header-requires
     child-at-requires
     target-at-requires
-    put-numbers-requires
+    cost-at-requires
+    put-fields-requires
     same-length
     returns
     child-at-requires-2
     target-at-requires-2
-    put-numbers-requires-2
+    cost-at-requires-2
+    put-fields-requires-2
     same-length-2
     returns-2)

@@ -16,22 +16,22 @@ use Rattle.plan_writer.proofs.write_plan.Statement.{statement}
 use Rattle.plan_writer.proofs.write_plan.Tie as tie
 
 abbrev Inv-loop : tie.InvT-loop
-Inv-loop out₀ jobs actions plan sink₀ k₀ out sink k = (k ≤ actions) × Put out₀ sink₀ (upTo (actionBits plan) k) out sink
+Inv-loop out₀ form jobs actions plan sink₀ k₀ out sink k = (k ≤ actions) × Put out₀ sink₀ (upTo (actionBits form plan) k) out sink
 
 abbrev μ-loop : tie.MeasureT-loop
-μ-loop out₀ jobs actions plan sink₀ k₀ out sink k = actions - k
+μ-loop out₀ form jobs actions plan sink₀ k₀ out sink k = actions - k
 
 -- the bits of the actions before place k
 abbrev before : tie.Start Inv-loop μ-loop → ℕ → List ℕ
-before s k = upTo (actionBits (s .args .plan .now)) k
+before s k = upTo (actionBits (s .args .form) (s .args .plan .now)) k
 
 -- the room for all bits
 room : (s : tie.Start Inv-loop μ-loop) → 17 + length (before s (s .args .actions)) ≤ 8 * length (s .args .out .now)
-room s = plan-room (s .pre .1 .given) (length (s .args .out .now)) (s .pre .1 .room)
+room s = plan-room (s .pre .1 .given) (s .args .form) (length (s .args .out .now)) (s .pre .1 .room)
 
 -- all that is written at the loop's head
 written : (l : tie.At-loop Inv-loop μ-loop) → let s = l .before .before .before .before .before .before .before .before .before .before in
-    Put (s .args .out .now) empty ((bitsOf 8 1 ++ bitsOf 9 (s .args .jobs)) ++ before s (l .loop .k)) (l .loop .out) (l .loop .sink)
+    Put (s .args .out .now) empty ((bitsOf 8 (s .args .form) ++ bitsOf 9 (s .args .jobs)) ++ before s (l .loop .k)) (l .loop .out) (l .loop .sink)
 written l = put-both (put-both (l .before .before .before .before .before .before .before .put .ensures) (l .before .before .before .put2 .ensures)) (l .loop .inv .1)
 
 reach : (l : tie.At-loop Inv-loop μ-loop) → let s = l .before .before .before .before .before .before .before .before .before .before in
@@ -39,7 +39,7 @@ reach : (l : tie.At-loop Inv-loop μ-loop) → let s = l .before .before .before
 reach l = let w = written l in (omega (arith, put-length (empty-sound _) w), w .same)
 
 put-requires : tie.Need-put-requires Inv-loop μ-loop
-put-requires c κs = (empty-sound _, (omega arith, omega arith, omega (arith, room (c .before .before))))
+put-requires c κs = let s = c .before .before in (empty-sound _, (omega arith, s .pre .1 .byte, omega (arith, room s)))
 
 put-requires-2 : tie.Need-put-requires-2 Inv-loop μ-loop
 put-requires-2 c κs =
@@ -55,7 +55,7 @@ put-action-requires : tie.Need-put-action-requires Inv-loop μ-loop
 put-action-requires c κs =
     let l = c .before .before in
     let s = l .before .before .before .before .before .before .before .before .before .before in
-    let f = actionBits (s .args .plan .now) in (
+    let f = actionBits (s .args .form) (s .args .plan .now) in (
       l .loop .inv .1 .sound,
       place-writable (s .pre .1 .given) (l .loop .k) (c .before .loop-test .taken),
       omega (arith, room s, reach l, upTo-rises f (suc (l .loop .k)) (s .args .actions) (c .before .loop-test .taken), length-append (upTo f (l .loop .k)) (f (l .loop .k))),
@@ -84,8 +84,8 @@ returns c p g =
     let l = c .before .before .before .before .before in
     let a = l .before .before .before .before .before .before .before .before .before .before .args in
     let e : l .loop .k ≡ a .actions = omega arith in
-    plan-written (a .out .now) (l .loop .out) _ (l .loop .sink) _ p
-    (rw (plan-upTo g) (rw e at (written l))) (c .before .before .finish .ensures)
+    plan-written (a .out .now) (l .loop .out) _ (l .loop .sink) _ (a .form) p
+    (rw (plan-upTo g (a .form)) (rw e at (written l))) (c .before .before .finish .ensures)
 
 pub write-plan-spec : {M : Type 1} → statement M
 write-plan-spec =

@@ -26,7 +26,7 @@ use Rattle.runs.specs.Steal.{waits}
 use Rattle.runs.specs.Run.{run}
 use Rattle.runs.specs.Trace.{begins}
 use Rattle.runs.proofs.Laws.Fit.{Fit}
-use Rattle.runs.proofs.Laws.Start.{none-done, start-idle, start-calm}
+use Rattle.runs.proofs.Laws.Start.{none-done, start-idle, start-calm, none-spent}
 use Rattle.runs.proofs.Laws.Rounds.{not-ended}
 use Rattle.runs.proofs.Laws.Coursed.{start-weight}
 use Rattle.crew.proofs.Laws.Crews.{crewed-none, crewed-first, crewed-others}
@@ -43,6 +43,7 @@ module _ {entering progress : List ℕ} where
   started-none e = record {
     long = ap length e ∙ length-replicate {A = ℕ} 2560 0;
     counts = λ j h. ap (λ (l : List ℕ). getD l j 0) e ∙ getD-replicate 2560 j 0 0 (omega arith);
+    spends = λ j h. ap (λ (l : List ℕ). getD l (256 + j) 0) e ∙ getD-replicate 2560 (256 + j) 0 0 (omega arith);
     misses = λ k h. absurd (omega arith);
   }
 
@@ -51,6 +52,7 @@ module _ {entering progress : List ℕ} where
   started-next {k} s b = record {
     long = length-set progress (512 + k) joins ∙ s .long;
     counts = λ j h. getD-set-other progress (512 + k) j joins 0 (omega arith) ∙ s .counts j h;
+    spends = λ j h. getD-set-other progress (512 + k) (256 + j) joins 0 (omega arith) ∙ s .spends j h;
     misses = λ i h. by-cases (ℕ-discrete i k)
         (λ e. rw e (getD-set-same progress (512 + k) joins 0 (omega (arith, s .long))))
         (λ f. getD-set-other progress (512 + k) (512 + i) joins 0 (omega (arith, f)) ∙ s .misses i (omega (arith, f)));
@@ -107,6 +109,7 @@ module _ {n actions : ℕ} {choices plan entering : List ℕ} {p : Plan} (g : Ru
       progressed = record {
         long = s .long;
         counts = λ j h. s .counts j (omega (arith, jobs-range p (g .given .planned .rules))) ∙ sym (none-done p j);
+        spends = λ j h. s .spends j (omega (arith, jobs-range p (g .given .planned .rules))) ∙ sym (none-spent p j);
         misses = first-missing;
       };
       rowed = record { long = long; each = λ j i h k. absurd (omega (arith, none-done p j)) };

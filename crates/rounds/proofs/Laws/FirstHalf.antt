@@ -1,7 +1,7 @@
 -- The first half of a round over the runner's objects: the turns of those who hold a job, with the idle turns as gaps between them.
 --   begun-run     == the run as a round begins
 --   turns-begin   == .. and the objects
---   between-early, turns-early == a round is one of at most 2,048
+--   between-early, turns-early == a round is one of at most 30,720
 --   turns-known   == the lowest worker that is left is one of those that have not had their turns
 --   turns-moment, turns-turning, turns-notable == the moment of its turn, what the turn is given, and what noting it is given
 --   turns-next    == its turn leaves the objects so
@@ -96,12 +96,12 @@ module _ {S : Setting} {plan : List ℕ} (g : Fitted S plan) where
       })
 
   pub between-early : {r : ℕ} {a : Account} {workers : List Worker} {cursor : ℕ} {lines progress deques rows : List ℕ}
-      → Between S r a workers cursor lines progress deques rows → r < 2048
+      → Between S r a workers cursor lines progress deques rows → r < 30720
   between-early z = run-counts (begun-run (z .begun)) .0
 
   module _ {r idle left past : ℕ} {a : Account} {workers : List Worker} {cursor : ℕ} {lines progress deques rows : List ℕ}
       (z : InTurns S r idle left past a workers cursor lines progress deques rows) where
-    pub turns-early : r ≤ 2048
+    pub turns-early : r ≤ 30720
     turns-early = run-counts (begun-run (z .begun)) .0
 
     abbrev s : State
@@ -142,7 +142,7 @@ module _ {S : Setting} {plan : List ℕ} (g : Fitted S plan) where
 
       pub turns-turning : Turning (getD workers w Idle) r w (a .weight) plan progress deques rows turns-moment
       turns-turning =
-          let d : Done p progress rows (at w) = done-kept (z .done) (gap .next, gap .rows) in
+          let d : Done p progress rows (at w) = done-kept (z .done) (gap .next, gap .spent, gap .rows) in
           let (l, k, h) = turns-known in
           record {
             run = run-to w (omega arith);
@@ -212,7 +212,7 @@ module _ {S : Setting} {plan : List ℕ} (g : Fitted S plan) where
       all-manned = manned-rested rest (z .manned) counted
 
       all-done : Done p progress rows (at n)
-      all-done = done-kept (z .done) (rest .next, rest .rows)
+      all-done = done-kept (z .done) (rest .next, rest .spent, rest .rows)
 
       -- job 0 has ended where its next place is the first of job 1
       last-place : (doneOf progress 0 ≡ nextOf (at n) 0) × (firstOf plan 1 ≡ size p 0) × (nextOf (at n) 0 ≤ size p 0)

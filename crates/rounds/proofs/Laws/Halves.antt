@@ -24,13 +24,13 @@ use Rattle.rounds.specs.Account.{isIdle}
 use Rattle.rounds.proofs.Laws.Standing.{Done}
 
 abbrev pub Kept : State → State → Type 0
-Kept s t = (t .next ≡ s .next) × (t .rows ≡ s .rows)
+Kept s t = (t .next ≡ s .next) × (t .spent ≡ s .spent) × (t .rows ≡ s .rows)
 
 pub done-kept : {p : Plan} {progress rows : List ℕ} {s t : State} → Done p progress rows s → Kept s t → Done p progress rows t
-done-kept d (e, f) = record { progressed = rw e (d .progressed); rowed = rowed-still e f (d .rowed) }
+done-kept d (e, g, f) = record { progressed = rw (e, g) (d .progressed); rowed = rowed-still e f (d .rowed) }
 
 kept-on : (s : State) {t u : State} → Kept s t → Rests t u → Kept s u
-kept-on s (e, f) q = (q .next ∙ e, q .rows ∙ f)
+kept-on s (e, g, f) q = (q .next ∙ e, q .spent ∙ g, q .rows ∙ f)
 
 pub turns-requests : (p : Plan) (r k : ℕ) (b : List Worker) (s : State) → turns p r k b s .tally .requests ≡ s .tally .requests
 unfolding turns
@@ -58,16 +58,16 @@ module _ (S : Setting) (r : ℕ) where
 
     lays-kept : (k : ℕ) → Kept s (lays S r k b s)
     unfolding lays
-    lays-kept zero = (refl, refl)
+    lays-kept zero = (refl, refl, refl)
     lays-kept (suc k) = kept-on s (lays-kept k) (lay-rests S r k (getD b k Idle) (lays S r k b s))
 
   serves-kept : (s : State) (k : ℕ) → Kept s (serves S r k s)
   unfolding serves
-  serves-kept s zero = (refl, refl)
+  serves-kept s zero = (refl, refl, refl)
   serves-kept s (suc k) = let t = serves S r k s in kept-on s (serves-kept s k) (serve-rests k (pickOf S r k (t .workers)) t)
 
   pub second-kept : (b : List Worker) (s : State) (k : ℕ) → Kept s (serves S r k (lays S r k b s))
   second-kept b s k =
-      let (e, f) = lays-kept b s k in
-      let (g, h) = serves-kept (lays S r k b s) k in
-      (g ∙ e, h ∙ f)
+      let (e, x, f) = lays-kept b s k in
+      let (g, y, h) = serves-kept (lays S r k b s) k in
+      (g ∙ e, y ∙ x, h ∙ f)

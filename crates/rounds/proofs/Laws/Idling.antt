@@ -24,6 +24,7 @@ use Rattle.rounds.proofs.Laws.Standing.{holdingIn}
 -- whose count of rounds, where k is 0, is that of s
 pub record Idled (k : ℕ) (s t : State) : Type 0 where
   pub next : t .next ≡ s .next
+  pub spent : t .spent ≡ s .spent
   pub workers : t .workers ≡ s .workers
   pub deques : t .deques ≡ s .deques
   pub rows : t .rows ≡ s .rows
@@ -32,11 +33,12 @@ pub record Idled (k : ℕ) (s t : State) : Type 0 where
 idles : (r k : ℕ) (s : State) → Idled k s (times (idled r) k s)
 unfolding times idled
 idles r zero s =
-    record { next = refl; workers = refl; deques = refl; rows = refl; counts = ap (recounted (s .tally) (s .tally .rounds)) (omega arith) }
+    record { next = refl; spent = refl; workers = refl; deques = refl; rows = refl; counts = ap (recounted (s .tally) (s .tally .rounds)) (omega arith) }
 idles r (suc k) s =
     let q = idles r k s in
     record {
       next = q .next;
+      spent = q .spent;
       workers = q .workers;
       deques = q .deques;
       rows = q .rows;

@@ -7,7 +7,7 @@ use mathlib.Core.Path.{_≡_, refl, sym, ap, ap₂, _∙_}
 use mathlib.Core.Bool.{true, false, true≢false}
 use mathlib.Core.List.{List}
 use lib.ListN.{length, set}
-use lib.Seq.{getD-set-same}
+use lib.Seq.{getD-set-same, set-getD}
 use Rattle.plan.specs.Plan.{Plan}
 use Rattle.courses.specs.Ready.{weight}
 use Rattle.runs.specs.declared.tally.Tally.{Tally}
@@ -15,7 +15,7 @@ use Rattle.runs.specs.declared.worker.Worker.{Worker}
 use Rattle.runs.specs.declared.worker.Worker.the-variants.{Idle, Holding, Waiting}
 use Rattle.runs.specs.Tally.{withAction}
 use Rattle.runs.specs.State.{State, workerOf, holds}
-use Rattle.runs.specs.Turn.{turn, turnOf}
+use Rattle.runs.specs.Turn.{turn, turnOf, worked, finished}
 use Rattle.crew.proofs.Laws.Crews.{crewed-mark}
 use Rattle.turns.specs.declared.turn.Turned.{Turned}
 use Rattle.turns.specs.Count.{withIdles}
@@ -24,6 +24,7 @@ use Rattle.rounds.specs.declared.account.Account.{Account}
 use Rattle.rounds.specs.Account.{isIdle, rested, TurnNoted}
 use Rattle.rounds.proofs.Laws.Standing.{Manned}
 use Rattle.rounds.proofs.Laws.Idling.{Idled}
+use Rattle.runs.proofs.Laws.Turns.{turn-cases}
 
 pub held-busy : (x : Worker) → holds x ≡ true → isIdle x ≡ false
 held-busy Idle e = absurd (true≢false (sym e))
@@ -33,15 +34,17 @@ held-busy (Waiting v l) e = refl
 module _ (p : Plan) (r w : ℕ) (s : State) where
   turn-seats : (x : Worker) → holds x ≡ true → w < length (s .workers)
       → turnOf p r w x s .workers ≡ set (s .workers) w (workerOf (turnOf p r w x s) w)
-  unfolding turnOf turn
+  unfolding turnOf worked finished
   turn-seats Idle e h = absurd (true≢false (sym e))
-  turn-seats (Holding j) e h = ap (set (s .workers) w) (sym (getD-set-same (s .workers) w _ Idle h))
+  turn-seats (Holding j) e h =
+      turn-cases p r w j s (λ t. t .workers ≡ set (s .workers) w (workerOf t w)) (λ l. sym (set-getD (s .workers) w Idle))
+      (λ l. ap (set (s .workers) w) (sym (getD-set-same (s .workers) w _ Idle h)))
   turn-seats (Waiting v l) e h = absurd (true≢false (sym e))
 
   turn-counts : (x : Worker) → holds x ≡ true → turnOf p r w x s .tally ≡ withAction (s .tally) r (weight p (turnOf p r w x s .next))
-  unfolding turnOf turn
+  unfolding turnOf worked finished
   turn-counts Idle e = absurd (true≢false (sym e))
-  turn-counts (Holding j) e = refl
+  turn-counts (Holding j) e = turn-cases p r w j s (λ t. t .tally ≡ withAction (s .tally) r (weight p (t .next))) (λ l. refl) (λ l. refl)
   turn-counts (Waiting v l) e = absurd (true≢false (sym e))
 
 module _ {p : Plan} {n gap : ℕ} {s t : State} (q : Idled gap s t) {a : Account} {workers : List Worker} (m : Manned n a workers p s) where

@@ -133,7 +133,7 @@ module _ {S : Setting} {plan : List ℕ} (g : Fitted S plan) where
       chosen-there = rw (z .asking .pointed) (mod-lt (now-laid .tally .requests) (run-choices lays-run w lays-here was-idle))
 
       pub lays-known : (w < 16) × (cursor < length (S .choices)) × (length (S .choices) ≤ 4096) × (getD (S .choices) cursor 0 < 16)
-          × (r ≤ 2048)
+          × (r ≤ 30720)
       lays-known = (
         omega (arith, lays-here, g .most),
         chosen-there,

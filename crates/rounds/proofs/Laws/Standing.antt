@@ -84,7 +84,7 @@ pub record Asking (n hi : ℕ) (victims : ℕ) (choices : List ℕ) (cursor : �
   pub crewed : Crewed (askedIn lines) n victims
 
 pub record Done (p : Plan) (progress rows : List ℕ) (s : State) : Type 0 where
-  pub progressed : Progressed p (s .next) progress
+  pub progressed : Progressed p (s .next) (s .spent) progress
   pub rowed : Rowed p s rows
 
 pub record Begun (S : Setting) (r : ℕ) (s : State) : Type 0 where

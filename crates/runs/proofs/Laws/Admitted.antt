@@ -1,6 +1,6 @@
 -- An accepted plan is run, or turned down for its worker count or its choices.
---   Stopped p n cs == it is turned down, for a cause
---   Went p n cs    == it is run, and there are 1 to 16 workers
+--   Stopped x n cs == it is turned down, for a cause
+--   Went x n cs    == it is run, and there are 1 to 16 workers
 --   outcome        == one of the two
 use Prim.Native.Nat.{ℕ, _≤_}
 use mathlib.Core.Path.{_≡_, refl}
@@ -13,18 +13,19 @@ use Rattle.plan.specs.Plan.{Plan}
 use Rattle.plan.proofs.Laws.Lists.{both-left, both-right, of-true}
 use Rattle.runs.specs.Setting.{setting}
 use Rattle.runs.specs.Run.{run, workersFit, choicesFit, admitted}
+use Rattle.plan.specs.Reader.{Read}
 
 pub workers-range : (n : ℕ) → T (workersFit n) → (1 ≤ n) × (n ≤ 16)
 unfolding workersFit
 workers-range n t = (leb→le 1 n (both-left (leb 1 n) (leb n 16) t), leb→le n 16 (both-right (leb 1 n) (leb n 16) t))
 
-module _ (p : Plan) (n : ℕ) (choices : List ℕ) where
+module _ (x : Read) (n : ℕ) (choices : List ℕ) where
   pub record Stopped : Type 0 where
     pub cause : ℕ
-    pub not-run : admitted (accepted p) n choices ≡ refused cause
+    pub not-run : admitted (accepted x) n choices ≡ refused cause
 
   pub record Went : Type 0 where
-    pub ran : admitted (accepted p) n choices ≡ accepted (run (setting p n choices))
+    pub ran : admitted (accepted x) n choices ≡ accepted (run (setting (x .plan) n choices))
     pub some : 1 ≤ n
     pub most : n ≤ 16
 

@@ -3,11 +3,11 @@
 --   run-bounded == and of the rows that are read off its schedule, whatever follows this
 --   every-order == so of every plan that is accepted and every list of choices, however long
 --   demand3     == and of all that is accepted
-use Prim.Native.Nat.{ℕ, _+_, _*_, _≤_}
+use Prim.Native.Nat.{ℕ, _+_, _*_, _≤_, _^_, _<_}
 use mathlib.Core.Path.{_≡_, sym, ap, _∙_}
 use mathlib.Core.List.{List, _++_}
 use native.Mathlib.Omega.{arith}
-use lib.Dec.{ltb, leb→le}
+use lib.Dec.{T, ltb, leb→le}
 use lib.ListN.{length}
 use lib.Seq.{take-at}
 use Rattle.plan.specs.Test.{all}
@@ -15,7 +15,7 @@ use Rattle.plan.specs.Plan.{size, total}
 use Rattle.runs.specs.Setting.{Setting, setting}
 use Rattle.runs.specs.State.{nextOf}
 use Rattle.runs.specs.Run.{run, choicesFit}
-use Rattle.courses.specs.Schedule.{scheduleBytes, readSchedule}
+use Rattle.courses.specs.Schedule.{scheduleBytes, readSchedule, roundBits, scheduleLength}
 use Rattle.runs.specs.Claim.{Bounded, Claim, Demand3, EveryOrder}
 use Rattle.plan.proofs.Laws.Accepted.{accepted-kept}
 use Rattle.plan.proofs.Laws.Lists.{both-left, of-true}
@@ -28,6 +28,8 @@ use Rattle.runs.proofs.Laws.Coursed.{rows-length, run-row, round-most, 
 use Rattle.runs.proofs.Laws.Coursed.{run-space, run-peak, below-peak, lone-peak}
 use Rattle.courses.proofs.Laws.ScheduleBytes.{schedule-length}
 use Rattle.runs.proofs.Laws.OwnSchedule.{run-schedule}
+use Rattle.plan.specs.Rules.{costsFit}
+use Rattle.courses.proofs.Laws.Price.{work-fits}
 
 pub run-bounds : {S : Setting} → Fit S → Claim S
 run-bounds {S} fit =
@@ -50,23 +52,24 @@ run-bounds {S} fit =
       misses-split = run-misses S;
     }
 
-pub run-bounded : {S : Setting} → Fit S → (rest : List ℕ) → Bounded S (scheduleBytes (S .workers) (run S .rows) ++ rest) (run S .tally)
-run-bounded {S} fit rest =
-    let out = scheduleBytes (S .workers) (run S .rows) in
+pub run-bounded : {S : Setting} → Fit S → (form : ℕ) → form < 256 → T (costsFit form (S .plan)) → (rest : List ℕ)
+    → Bounded S form (scheduleBytes form (S .workers) (run S .rows) ++ rest) (run S .tally)
+run-bounded {S} fit form known costs rest =
+    let out = scheduleBytes form (S .workers) (run S .rows) in
     let m = total (S .plan) in
     let (r, b, t, e, q) = run-trace fit in
-    let few : r ≤ 4095 = omega (arith, round-most fit t, work-range (S .plan) (fit .plan)) in
-    let long : length out ≡ 4 + 2 * m = schedule-length (S .workers) (run S .rows) ∙ ap (λ k. 4 + 2 * k) (rows-length fit t) in
+    let few : r < 2 ^ roundBits form = omega (arith, round-most fit t, work-fits form (S .plan) (fit .plan) costs) in
+    let long : length out ≡ scheduleLength form m = schedule-length form (S .workers) (run S .rows) ∙ ap (scheduleLength form) (rows-length fit t) in
     record {
       rows = run S .rows;
-      read = ap (λ l. readSchedule l m) (take-at out rest (4 + 2 * m) long) ∙ run-schedule fit t e few;
+      read = ap (λ l. readSchedule form l m) (take-at out rest (scheduleLength form m) long) ∙ run-schedule fit t e form known few;
       bounds = run-bounds fit;
     }
 
 pub every-order : EveryOrder
-every-order s p n choices a w c =
-    run-bounds {S = setting p n choices} (record { plan = accepted-kept s p a; some = workers-range n w .0; most = workers-range n w .1 })
+every-order s x n choices a w c =
+    run-bounds {S = setting (x .plan) n choices} (record { plan = accepted-kept s x a; some = workers-range n w .0; most = workers-range n w .1 })
 
 pub demand3 : Demand3
 unfolding choicesFit
-demand3 s p n choices a w c = every-order s p n choices a w (both-left (all (λ c. ltb c n) choices) _ c)
+demand3 s x n choices a w c = every-order s x n choices a w (both-left (all (λ c. ltb c n) choices) _ c)

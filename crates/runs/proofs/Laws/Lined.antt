@@ -29,6 +29,7 @@ lineOf s w = lineIn (workerOf s w) (dequeOf s w)
 
 pub record Sound (p : Plan) (n : ℕ) (s : State) : Type 0 where
   pub nexts : length (s .next) ≡ length p
+  pub spents : length (s .spent) ≡ length p
   pub workers : length (s .workers) ≡ 16
   pub deques : length (s .deques) ≡ 16
   pub rows : length (s .rows) ≡ total p

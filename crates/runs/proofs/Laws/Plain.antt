@@ -13,7 +13,7 @@ use Rattle.runs.specs.declared.taken.Taken.the-variants.{Bare, IdleVicti
 use Rattle.runs.specs.declared.worker.Worker.{Worker}
 use Rattle.runs.specs.declared.worker.Worker.the-variants.{Idle, Holding, Waiting}
 use Rattle.plan.specs.Plan.{Plan, total}
-use Rattle.plan_measure.proofs.Laws.Work.{work-total}
+use Rattle.plan_measure.specs.Measure.{work}
 use Rattle.runs.specs.Setting.{setting, countIn}
 use Rattle.runs.specs.Tally.{withRequest, withSteal, withBare, withIdleVictim, withService}
 use Rattle.runs.specs.State.{State, workerOf, holds, dequeOf, start}
@@ -27,6 +27,7 @@ plainLay choices r w Idle s =
     let t = s .tally in
     record {
       next = s .next;
+      spent = s .spent;
       workers = set (s .workers) w (Waiting (getD choices ((t .requests) % length choices) 0) r);
       deques = s .deques;
       rows = s .rows;
@@ -46,6 +47,7 @@ plainGiven v w victim [] s =
     let t = s .tally in
     record {
       next = s .next;
+      spent = s .spent;
       workers = set (s .workers) w Idle;
       deques = s .deques;
       rows = s .rows;
@@ -54,6 +56,7 @@ plainGiven v w victim [] s =
 plainGiven v w victim (x ∷ d) s =
     record {
       next = s .next;
+      spent = s .spent;
       workers = set (s .workers) w (Holding (topOf x d));
       deques = set (s .deques) v (dropTop (x ∷ d));
       rows = s .rows;
@@ -84,7 +87,7 @@ plainRounds (suc k) p n choices s = elim (ended p s) [ true ↦ s | false ↦ pl
 
 unfoldable pub plainRun : Plan → ℕ → List ℕ → State
 unfolding plainRounds
-plainRun p n choices = plainRounds (total p) p n choices (start p)
+plainRun p n choices = plainRounds (work p) p n choices (start p)
 
 chosen : (b : Bool) (s : State) {t u : State} → t ≡ u
     → _≡_ {A = State} (elim b [ true ↦ s | false ↦ t ]) (elim b [ true ↦ s | false ↦ u ])
@@ -93,7 +96,7 @@ chosen false s e = e
 
 abbrev served : ℕ → Taken → State → List (List ℕ) → State
 served w x s ds =
-    record { next = s .next; workers = set (s .workers) w (thief x); deques = ds; rows = s .rows; tally = withService (s .tally) x }
+    record { next = s .next; spent = s .spent; workers = set (s .workers) w (thief x); deques = ds; rows = s .rows; tally = withService (s .tally) x }
 
 serve-plain : (v who : ℕ) (s : State) → serve v who s ≡ plainServe v who s
 unfolding serve given plainServe plainGiven
@@ -143,4 +146,4 @@ module _ (p : Plan) (n : ℕ) (choices : List ℕ) where
 
   pub run-plain : run (setting p n choices) ≡ plainRun p n choices
   unfolding run plainRun
-  run-plain = ap (λ k. rounds k (setting p n choices) (start p)) (work-total p) ∙ rounds-plain (total p) (start p)
+  run-plain = rounds-plain (work p) (start p)

@@ -3,6 +3,7 @@
 --   Rests s t                == t has the actions, the rows and the counts of turns of s
 --   service-keeps            == a service leaves all counts but those of what it met
 --   turned-took              == `Took` of a turn of a run
+--   turn-busy                == no idle turn is counted where a worker holds a job
 --   laid-rests, served-rests == `Rests` of a request and of a service
 use Prim.Native.Nat.{ℕ, zero, suc, _+_}
 use mathlib.Core.Path.{_≡_, refl}
@@ -18,13 +19,15 @@ use Rattle.plan.specs.Plan.{Plan}
 use Rattle.runs.specs.Setting.{Setting}
 use Rattle.runs.specs.State.{State}
 use Rattle.runs.specs.Tally.{withService}
-use Rattle.runs.specs.Turn.{turn, idled, turnOf}
+use Rattle.runs.specs.Turn.{turn, idled, turnOf, worked, finished}
 use Rattle.runs.specs.Steal.{laid, lay, takenFrom, given, serve}
 use Rattle.runs.specs.Parts.{pickOf}
 use Rattle.runs.specs.Trace.{turning, laying, serving, Trace}
+use Rattle.runs.proofs.Laws.Turns.{turn-cases}
 
 pub record Rests (s t : State) : Type 0 where
   pub next : t .next ≡ s .next
+  pub spent : t .spent ≡ s .spent
   pub rows : t .rows ≡ s .rows
   pub rounds : t .tally .rounds ≡ s .tally .rounds
   pub actions : t .tally .actions ≡ s .tally .actions
@@ -40,11 +43,11 @@ pub record Took (r : ℕ) (s t : State) : Type 0 where
   pub idle-victim : t .tally .«idle_victim» ≡ s .tally .«idle_victim»
 
 same-rests : (s : State) → Rests s s
-same-rests s = record { next = refl; rows = refl; rounds = refl; actions = refl; idle = refl; peak = refl }
+same-rests s = record { next = refl; spent = refl; rows = refl; rounds = refl; actions = refl; idle = refl; peak = refl }
 
 pub lay-rests : (S : Setting) (r w : ℕ) (x : Worker) (s : State) → Rests s (lay S r w x s)
 unfolding lay laid
-lay-rests S r w Idle s = record { next = refl; rows = refl; rounds = refl; actions = refl; idle = refl; peak = refl }
+lay-rests S r w Idle s = record { next = refl; spent = refl; rows = refl; rounds = refl; actions = refl; idle = refl; peak = refl }
 lay-rests S r w (Holding j) s = same-rests s
 lay-rests S r w (Waiting v l) s = same-rests s
 
@@ -58,7 +61,7 @@ given-rests : (v w : ℕ) (x : Taken) (s : State) → Rests s (given v w x s)
 unfolding given
 given-rests v w x s =
     let (rounds, actions, idle, requests, peak) = service-keeps x (s .tally) in
-    record { next = refl; rows = refl; rounds = rounds; actions = actions; idle = idle; peak = peak }
+    record { next = refl; spent = refl; rows = refl; rounds = rounds; actions = actions; idle = idle; peak = peak }
 
 pub serve-rests : (v who : ℕ) (s : State) → Rests s (serve v who s)
 unfolding serve
@@ -66,13 +69,20 @@ serve-rests v zero s = same-rests s
 serve-rests v (suc w) s = given-rests v w (takenFrom s v) s
 
 pub turn-took : (p : Plan) (r w : ℕ) (x : Worker) (s : State) → Took r s (turnOf p r w x s)
-unfolding turnOf turn idled
+unfolding turnOf worked finished idled
 turn-took p r w Idle s =
     record { rounds = refl; turns = omega arith; requests = refl; steals = refl; bare = refl; idle-victim = refl }
 turn-took p r w (Holding j) s =
-    record { rounds = refl; turns = omega arith; requests = refl; steals = refl; bare = refl; idle-victim = refl }
+    turn-cases p r w j s (Took r s)
+    (λ h. record { rounds = refl; turns = omega arith; requests = refl; steals = refl; bare = refl; idle-victim = refl })
+    (λ h. record { rounds = refl; turns = omega arith; requests = refl; steals = refl; bare = refl; idle-victim = refl })
 turn-took p r w (Waiting v l) s =
     record { rounds = refl; turns = omega arith; requests = refl; steals = refl; bare = refl; idle-victim = refl }
+
+-- a turn of a worker that holds a job is no idle turn
+pub turn-busy : (p : Plan) (r w j : ℕ) (s : State) → turn p r w j s .tally .idle ≡ s .tally .idle
+unfolding worked finished
+turn-busy p r w j s = turn-cases p r w j s (λ t. t .tally .idle ≡ s .tally .idle) (λ h. refl) (λ h. refl)
 
 -- the steps of a run
 module _ {S : Setting} {r k : ℕ} {b : List Worker} {s : State} where

@@ -28,7 +28,7 @@ use Rattle.runs.proofs.Laws.Stores.{victimOf, empty-kept}
 
 -- the state with other workers
 abbrev withWorkers : State → List Worker → Tally → State
-withWorkers s ws t = record { next = s .next; workers = ws; deques = s .deques; rows = s .rows; tally = t }
+withWorkers s ws t = record { next = s .next; spent = s .spent; workers = ws; deques = s .deques; rows = s .rows; tally = t }
 
 -- a worker that holds nothing may change to another that holds nothing
 free-sound : {p : Plan} {n : ℕ} → n ≤ 16 → {s : State} → Sound p n s → {w : ℕ} → w < n → lineOf s w ≡ [] → (k : Worker)
@@ -36,6 +36,7 @@ free-sound : {p : Plan} {n : ℕ} → n ≤ 16 → {s : State} → Sound p n s �
 free-sound {p} {n} most {s} sound {w} b free k is t =
     record {
       nexts = sound .nexts;
+      spents = sound .spents;
       workers = length-set (s .workers) w k ∙ sound .workers;
       deques = sound .deques;
       rows = sound .rows;
@@ -86,6 +87,7 @@ module _ {p : Plan} (ok : Accepted p) {n : ℕ} (most : n ≤ 16) {s : State} (s
       steal-sound =
           record {
             nexts = sound .nexts;
+            spents = sound .spents;
             workers = length-set (s .workers) w (Holding (topOf x d)) ∙ sound .workers;
             deques = length-set (s .deques) v (dropTop (dequeOf s v)) ∙ sound .deques;
             rows = sound .rows;

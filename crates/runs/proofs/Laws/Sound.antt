@@ -45,6 +45,7 @@ module _ {p : Plan} (ok : Accepted p) {n : ℕ} where
   unfolding start
   start-sound some = record {
     nexts = length-replicate (length p) 0;
+    spents = length-replicate (length p) 0;
     workers = refl;
     deques = refl;
     rows = length-replicate (total p) noRow;

@@ -25,11 +25,12 @@ use Rattle.runs.specs.declared.worker.Worker.{Worker}
 use Rattle.runs.specs.declared.worker.Worker.the-variants.{Idle, Holding, Waiting}
 use Rattle.runs.specs.Setting.{Setting}
 use Rattle.runs.specs.State.{State, nextOf}
-use Rattle.runs.specs.Turn.{seatAfter, turn, idled, turnOf}
+use Rattle.runs.specs.Turn.{seatAfter, turn, idled, turnOf, worked, finished}
 use Rattle.runs.specs.Parts.{afterOf, aboveOf, pickOf}
 use Rattle.runs.specs.Trace.{turning, laying, serving, Trace}
 use Rattle.runs.proofs.Laws.TurnSound.{stay, seat-spawn, seat-none}
 use Rattle.runs.specs.Steal.{laid, lay, takenFrom, thief, given, serve, waits}
+use Rattle.runs.proofs.Laws.Turns.{turn-cases}
 
 abbrev pub victimOf : Setting → State → ℕ
 victimOf S s = getD (S .choices) (s .tally .requests % length (S .choices)) 0
@@ -57,9 +58,11 @@ served-calm IdleVictim = refl
 module _ (P : List Worker → Type 0) where
   turn-workers : (p : Plan) (r k : ℕ) (x : Worker) (s : State) → P (s .workers)
       → ((j : ℕ) (y : Worker) → x ≡ Holding j → waits y ≡ 0 → P (set (s .workers) k y)) → P (turnOf p r k x s .workers)
-  unfolding turnOf turn idled
+  unfolding turnOf worked finished idled
   turn-workers p r k Idle s i f = i
-  turn-workers p r k (Holding j) s i f = f j _ refl (seat-waits p (afterOf s j) j (nextOf s j) (aboveOf p s k j))
+  turn-workers p r k (Holding j) s i f =
+      turn-cases p r k j s (λ t. P (t .workers)) (λ h. i)
+      (λ h. f j _ refl (seat-waits p (afterOf s j) j (nextOf s j) (aboveOf p s k j)))
   turn-workers p r k (Waiting v l) s i f = i
 
   lay-workers : (S : Setting) (r k : ℕ) (x : Worker) (s : State) → P (s .workers)

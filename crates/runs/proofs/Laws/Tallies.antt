@@ -19,7 +19,7 @@ use Rattle.runs.specs.Steal.{laid as laidBy, lay, takenFrom, given, serv
 use Rattle.runs.specs.Parts.{pickOf}
 use Rattle.runs.specs.Trace.{Stage, turning, laying, serving, Trace, begins, turned, goes-on, laid, all-laid, served, next-round}
 use Rattle.runs.proofs.Laws.Fit.{Fit, count-most, count-within, count-is}
-use Rattle.runs.proofs.Laws.Rests.{service-keeps, turned-took, laid-rests, served-rests}
+use Rattle.runs.proofs.Laws.Rests.{service-keeps, turned-took, laid-rests, served-rests, turn-busy}
 use Rattle.runs.proofs.Laws.Rounds.{began-busy}
 
 unfoldable pub counts : Setting → ℕ → ℕ
@@ -112,9 +112,9 @@ module _ {S : Setting} (fit : Fit S) where
         (j, ap (λ v. getD b v Idle) e ∙ f)
 
     pub lone-idle : {r : ℕ} {b : List Worker} {g : Stage} {s : State} → Trace S r b g s → s .tally .idle ≡ 0
-    unfolding turnOf turn start
+    unfolding turnOf start
     lone-idle begins = refl
-    lone-idle (turned {r} {k} {b} {s} t h) = rw (lone-holds t k h .1) (lone-idle t)
+    lone-idle (turned {r} {k} {b} {s} t h) = let (j, e) = lone-holds t k h in rw e (turn-busy (S .plan) r k j s ∙ lone-idle t)
     lone-idle (goes-on t e) = lone-idle t
     lone-idle (laid t h) = laid-rests t .idle ∙ lone-idle t
     lone-idle (all-laid t) = lone-idle t

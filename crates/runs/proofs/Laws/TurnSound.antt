@@ -17,9 +17,9 @@ use Rattle.runs.specs.declared.worker.Worker.{Worker}
 use Rattle.runs.specs.declared.worker.Worker.the-variants.{Idle, Holding, Waiting}
 use Rattle.plan.specs.Test.{both}
 use Rattle.plan.specs.Plan.{Plan, size, action, parent}
-use Rattle.runs.specs.State.{State, nextOf, workerOf, dequeOf}
+use Rattle.runs.specs.State.{State, nextOf, workerOf, dequeOf, spentOf}
 use Rattle.courses.specs.Ready.{ready}
-use Rattle.runs.specs.Turn.{wakes, woken, Seat, takeBottom, seatAfter, turn, idled, turnOf}
+use Rattle.runs.specs.Turn.{wakes, woken, Seat, takeBottom, seatAfter, turn, idled, turnOf, worked, finished}
 use Rattle.runs.specs.Parts.{afterOf, aboveOf}
 use Rattle.lines.proofs.Laws.Shape.{Living, Ready, Chain}
 use Rattle.lines.proofs.Laws.Member.{put}
@@ -30,6 +30,7 @@ use Rattle.plan.specs.Rules.{Accepted}
 use Rattle.plan.proofs.Laws.Valid.{older, join-target}
 use Rattle.courses.proofs.Laws.PlanShape.{shape, shape-valid, ready-is, ready-by}
 use Rattle.runs.proofs.Laws.Lined.{lineIn, lineOf, Sound, line-of, held-in, held-below, line-stored, line-other}
+use Rattle.runs.proofs.Laws.Turns.{turn-cases}
 
 -- a test and a decision of one thing
 module _ {A : Type 0} (b : Bool) (d : Dec A) (f : T b → A) (g : A → T b) where
@@ -180,9 +181,23 @@ module _ {p : Plan} (ok : Accepted p) {n : ℕ} {s : State} (sound : Sound p n s
           (λ b. lineAt (stay b j (aboveOf p s w j))) refl (bottom-line (aboveOf p s w j))
           ∙ ap (put (goes? (shape p) next′ j) j) above ∙ sym (turn-none (shape p) (nextOf s) next′ j (dequeOf s w) e)
 
-  turn-sound : n ≤ 16 → (r : ℕ) → Sound p n (turn p r w j s)
-  unfolding turn
-  turn-sound most r =
+  -- the action goes on: what is done, the workers and the deques stay
+  worked-sound : (r : ℕ) → Sound p n (worked p r j s)
+  unfolding worked
+  worked-sound r = record {
+    nexts = sound .nexts;
+    spents = length-set (s .spent) j (suc (spentOf s j)) ∙ sound .spents;
+    workers = sound .workers;
+    deques = sound .deques;
+    rows = sound .rows;
+    good = sound .good;
+    empty = sound .empty;
+    absent = sound .absent;
+  }
+
+  finished-sound : n ≤ 16 → (r : ℕ) → Sound p n (finished p r w j s)
+  unfolding finished
+  finished-sound most r =
       let b = held-below sound w holds in
       let hw : w < length (s .workers) = omega (arith, sound .workers) in
       let hd : w < length (s .deques) = omega (arith, sound .deques) in
@@ -191,6 +206,7 @@ module _ {p : Plan} (ok : Accepted p) {n : ℕ} {s : State} (sound : Sound p n s
       let rest = line-other (s .workers) (s .deques) w (seat .worker) (seat .deque) in
       record {
         nexts = length-set (s .next) j (suc (nextOf s j)) ∙ sound .nexts;
+        spents = length-set (s .spent) j 0 ∙ sound .spents;
         workers = length-set (s .workers) w (seat .worker) ∙ sound .workers;
         deques = length-set (s .deques) w (seat .deque) ∙ sound .deques;
         rows = length-set (s .rows) _ _ ∙ sound .rows;
@@ -211,6 +227,7 @@ turnOf-sound {p} ok {n} most {s} sound r w k e = go k e
     idle : Sound p n (idled r s)
     idle = record {
       nexts = sound .nexts;
+      spents = sound .spents;
       workers = sound .workers;
       deques = sound .deques;
       rows = sound .rows;
@@ -221,5 +238,5 @@ turnOf-sound {p} ok {n} most {s} sound r w k e = go k e
 
     go : (k : Worker) → workerOf s w ≡ k → Sound p n (turnOf p r w k s)
     go Idle e = idle
-    go (Holding j) e = turn-sound ok sound w e most r
+    go (Holding j) e = turn-cases p r w j s (Sound p n) (λ h. worked-sound ok sound w e r) (λ h. finished-sound ok sound w e most r)
     go (Waiting v l) e = idle

@@ -84,12 +84,12 @@ module _ {S : Setting} (fit : Fit S) where
 
   -- so every count but the peak stays small
   pub counts-small : {r : ℕ} {b : List Worker} {g : Stage} {s : State} → Trace S r b g s
-      → (r ≤ 2048) × (s .tally .rounds ≤ r) × (s .tally .actions ≤ 2048) × (s .tally .idle ≤ 32768) × (s .tally .requests ≤ 32768)
-      × (s .tally .steals ≤ 32768) × (s .tally .bare ≤ 32768) × (s .tally .«idle_victim» ≤ 32768)
+      → (r ≤ 30720) × (s .tally .rounds ≤ r) × (s .tally .actions ≤ 30720) × (s .tally .idle ≤ 491520) × (s .tally .requests ≤ 491520)
+      × (s .tally .steals ≤ 491520) × (s .tally .bare ≤ 491520) × (s .tally .«idle_victim» ≤ 491520)
   counts-small {r} {g = g} {s} t =
-      let few : r ≤ 2048 = omega (arith, round-most fit t, work-range plan (fit .plan)) in
+      let few : r ≤ 30720 = omega (arith, round-most fit t, work-range plan (fit .plan)) in
       let all = counts-most fit r in
-      let requests : s .tally .requests ≤ 32768 = omega (arith, requests-most fit t) in
+      let requests : s .tally .requests ≤ 491520 = omega (arith, requests-most fit t) in
       let settled = requests-sum fit t in (
         few,
         numbered-most g (rounds-known fit t),
@@ -139,7 +139,7 @@ module _ {S : Setting} (fit : Fit S) where
   pub run-done : (j : ℕ) → j < length plan → nextOf (run S) j ≡ size plan j
   run-done = let (r, b, t, e, q) = run-trace in all-done (fit .plan) (trace-sound fit t) e
 
-  -- and the turns that did one are T1
+  -- and the turns in which one was worked on are T1
   pub run-actions : run S .tally .actions ≡ work plan
   run-actions =
       let (r, b, t, e, q) = run-trace in

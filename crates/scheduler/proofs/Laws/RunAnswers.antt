@@ -16,29 +16,34 @@ use Rattle.plan.specs.declared.refusal.Refusal.{Refusal}
 use Rattle.plan.specs.Contract.{_⇒_}
 use Rattle.plan.specs.Refusal.{refused, accepted, numberOf}
 use Rattle.plan.specs.Plan.{Plan}
-use Rattle.plan.specs.Reader.{readPlan}
+use Rattle.plan.specs.Reader.{Read, readPlan}
 use Rattle.plan.specs.Found.{ReadPlan}
+use Rattle.plan.proofs.Laws.Accepted.{accepted-form}
+use Rattle.plan.proofs.Laws.Costs.{accepted-costs}
 use Rattle.plan.proofs.Laws.Lists.{both-intro, both-left, both-right, true-of, false-of, of-true}
 use Rattle.runs.specs.Setting.{setting}
 use Rattle.runs.specs.declared.tally.Tally.{Tally}
 use Rattle.scheduler.specs.declared.run.Ran.{Ran}
 use Rattle.scheduler.specs.declared.run.Ran.the-variants.{Refused as RefusedRun, Done}
 use Rattle.runs.specs.State.{State}
-use Rattle.runs.specs.Run.{run, workersFit, choicesFit, admitted, runOf}
-use Rattle.courses.specs.Schedule.{scheduleBytes}
-use Rattle.scheduler.specs.Entry.{Result, resulted, runInto, ranOf, Claimed}
-use Rattle.rounds.specs.Rounds.{RunGiven, RunLeft}
+use Rattle.runs.specs.Run.{run, workersFit, choicesFit, admitted}
+use Rattle.courses.specs.Schedule.{roundBits, scheduleLength, scheduleBytes}
+use Rattle.scheduler.specs.Entry.{Result, resulted, readInto, runInto, ranOf, Claimed}
+use Rattle.rounds.specs.Rounds.{RunIn, RunGiven, RunLeft}
 use Rattle.rounds.proofs.Laws.Beginning.{in-few}
-use Rattle.scheduler.specs.RunRead.{RunIn, Answered}
-use Rattle.scheduler.specs.Written.{headerBytes, Words, RowsWritten}
+use Rattle.scheduler.specs.RunRead.{RunsIn, Answered}
+use Rattle.scheduler.specs.Written.{headerBytes, rowsLength, Words, RowsWritten}
 use Rattle.runs.proofs.Laws.Fit.{Fit}
 use Rattle.runs.proofs.Laws.Demand3.{run-bounded}
 use Rattle.scheduler.proofs.Laws.RunBytes.{run-fits, run-words, run-written}
 
-pub read-runs : (bytes : List ℕ) (jobs actions : ℕ) (plan entering : List ℕ) (g : ReadPlan bytes jobs actions plan entering)
-    → RunIn actions plan entering (g .is)
-read-runs bytes jobs actions plan entering g =
-    record { planned = g .held .planned; all = g .held .all; entered = g .entered; whole = g .whole }
+pub read-runs : (bytes : List ℕ) (form jobs actions : ℕ) (plan entering : List ℕ) (g : ReadPlan bytes form jobs actions plan entering)
+    → RunsIn form actions plan entering (g .is)
+read-runs bytes form jobs actions plan entering g = record {
+  runs = record { planned = g .held .planned; all = g .held .all; entered = g .entered; whole = g .whole };
+  byte = accepted-form bytes (record { form = form; plan = g .is }) (g .read);
+  costs = accepted-costs bytes (record { form = form; plan = g .is }) (g .read);
+}
 
 -- what is answered to the bytes; where there was no run the claim says nothing
 abbrev Answers : List ℕ → ℕ → List ℕ → List ℕ → Ran → List ℕ → Type 0
@@ -48,23 +53,29 @@ Answers bytes n choices before r after =
 module _ (bytes : List ℕ) (n : ℕ) (choices schedule : List ℕ) where
   pub refuses-plan : (cause : Refusal) → readPlan bytes ≡ refused (numberOf cause)
       → Answers bytes n choices schedule (RefusedRun cause) schedule
-  unfolding runInto resulted runOf admitted
+  unfolding runInto readInto
   refuses-plan cause e = (rw e, λ t q. absurd (let z : _≡_ {A = ℕ} 0 1 = cc in omega arith))
 
-  pub answers-read : (p : Plan) (r : Ran) (after : List ℕ) → readPlan bytes ≡ accepted p → Answered n choices schedule r after p
-      → Answers bytes n choices schedule r after
-  unfolding runInto runOf
-  answers-read p r after e (a, claimed) =
-      (a ∙ ap (λ o. resulted (admitted o n choices) n schedule) (sym e), λ t q. (p, e, claimed t q))
+  pub answers-read : (form : ℕ) (p : Plan) (r : Ran) (after : List ℕ) → readPlan bytes ≡ accepted (record { form = form; plan = p })
+      → Answered form n choices schedule r after p → Answers bytes n choices schedule r after
+  unfolding runInto readInto
+  answers-read form p r after e (a, claimed) =
+      (a ∙ ap (λ o. readInto o n choices schedule) (sym e), λ t q. (record { form = form; plan = p }, e, claimed t q))
 
-module _ {actions : ℕ} {plan entering : List ℕ} {p : Plan} (g : RunIn actions plan entering p) where
+module _ {form actions : ℕ} {plan entering : List ℕ} {p : Plan} (given : RunsIn form actions plan entering p) where
+  g : RunIn actions plan entering p
+  g = given .runs
+
+  abbrev x : Read
+  x = record { form = form; plan = p }
+
   module _ (n : ℕ) (choices schedule : List ℕ) where
-    refuses : (cause : Refusal) → admitted (accepted p) n choices ≡ refused (numberOf cause)
-        → Answered n choices schedule (RefusedRun cause) schedule p
+    refuses : (cause : Refusal) → admitted (accepted x) n choices ≡ refused (numberOf cause)
+        → Answered form n choices schedule (RefusedRun cause) schedule p
     unfolding resulted
     refuses cause e = (rw e, λ t q. absurd (let z : _≡_ {A = ℕ} 0 1 = cc in omega arith))
 
-    pub refuses-workers : (1 ≤ n → n ≤ 16 → ⊥) → Answered n choices schedule (RefusedRun Refusal.Workers) schedule p
+    pub refuses-workers : (1 ≤ n → n ≤ 16 → ⊥) → Answered form n choices schedule (RefusedRun Refusal.Workers) schedule p
     unfolding admitted workersFit
     refuses-workers never =
         let e : workersFit n ≡ false = false-of (workersFit n) (λ t.
@@ -79,7 +90,7 @@ module _ {actions : ℕ} {plan entering : List ℕ} {p : Plan} (g : RunIn action
       unfolding workersFit
       fits = true-of (workersFit n) (both-intro (leb 1 n) (leb n 16) (le→leb 1 n some) (le→leb n 16 most))
 
-      pub refuses-choices : choicesFit n choices ≡ false → Answered n choices schedule (RefusedRun Refusal.Choices) schedule p
+      pub refuses-choices : choicesFit n choices ≡ false → Answered form n choices schedule (RefusedRun Refusal.Choices) schedule p
       unfolding admitted
       refuses-choices e = refuses Refusal.Choices (rw (admitted, fits, e))
 
@@ -87,17 +98,17 @@ module _ {actions : ℕ} {plan entering : List ℕ} {p : Plan} (g : RunIn action
         abbrev s : State
         s = run (setting p n choices)
 
-        ran : admitted (accepted p) n choices ≡ accepted s
+        ran : admitted (accepted x) n choices ≡ accepted s
         unfolding admitted
         ran = rw (admitted, fits, fit)
 
-        whole : length (scheduleBytes n (s .rows)) ≡ 4 + 2 * actions
-        whole = omega (arith, run-fits p n choices going, g .all)
+        whole : length (scheduleBytes form n (s .rows)) ≡ scheduleLength form actions
+        whole = run-fits p n choices going form (given .byte) (given .costs) ∙ ap (scheduleLength form) (sym (g .all))
 
-        pub refuses-short : length schedule < 4 + 2 * actions → Answered n choices schedule (RefusedRun Refusal.Short) schedule p
+        pub refuses-short : length schedule < scheduleLength form actions → Answered form n choices schedule (RefusedRun Refusal.Short) schedule p
         unfolding resulted
         refuses-short h =
-            let l : length schedule < length (scheduleBytes n (s .rows)) = omega (arith, whole) in
+            let l : length schedule < length (scheduleBytes form n (s .rows)) = omega (arith, whole) in
             (rw (ran, resulted, lt-leb _ _ l), λ t q. absurd (let z : _≡_ {A = ℕ} 0 1 = cc in omega arith))
 
         -- what all rounds are given
@@ -111,7 +122,7 @@ module _ {actions : ℕ} {plan entering : List ℕ} {p : Plan} (g : RunIn action
             }
 
         -- all rounds leave the rows in words; then the header is written, and the words into what follows it
-        module _ (long : 4 + 2 * actions ≤ length schedule) (headed : List ℕ) (e : headed ≡ headerBytes n actions ++ drop 4 schedule)
+        module _ (long : scheduleLength form actions ≤ length schedule) (headed : List ℕ) (e : headed ≡ headerBytes form n actions ++ drop 4 schedule)
             (t : Tally) (words : List ℕ) (told : RunGiven n actions choices plan entering ⇒ RunLeft n choices t words) where
           left : RunLeft n choices t words p
           left = told p run-asked
@@ -126,21 +137,24 @@ module _ {actions : ℕ} {plan entering : List ℕ} {p : Plan} (g : RunIn action
           behind = ap (λ k. drop k (drop 4 headed)) (sym (length-drop 4 headed)) ∙ drop-length (drop 4 headed)
 
           -- what writing the rows is given
-          pub rows-asked : (actions ≤ 2048) × (2 * actions ≤ length (take rest (drop 4 headed))) × Words actions words
+          pub rows-asked : (actions ≤ 2048) × (rowsLength (roundBits form + 4) actions ≤ length (take rest (drop 4 headed)))
+              × Words (roundBits form + 4) actions words
+          unfolding scheduleLength
           rows-asked =
-              let words-fit : Words actions words = λ k h. run-words p n choices going words (left .rowed) k (omega (arith, g .all)) in
+              let words-fit : Words (roundBits form + 4) actions words =
+              λ k h. run-words p n choices going form (given .byte) (given .costs) words (left .rowed) k (omega (arith, g .all)) in
               (in-few g, rw (part, length-drop) (omega arith), words-fit)
 
-          pub run-answers : (out : List ℕ) → RowsWritten actions words (take rest (drop 4 headed)) out
-              → Answered n choices schedule (Done t) (take 4 headed ++ (out ++ drop rest (drop 4 headed))) p
+          pub run-answers : (out : List ℕ) → RowsWritten (roundBits form + 4) actions words (take rest (drop 4 headed)) out
+              → Answered form n choices schedule (Done t) (take 4 headed ++ (out ++ drop rest (drop 4 headed))) p
           unfolding resulted
           run-answers out w =
-              let bytes = scheduleBytes n (s .rows) in
+              let bytes = scheduleBytes form n (s .rows) in
               let fit : length bytes ≤ length schedule = omega (arith, whole) in
-              let x : take 4 headed ++ (out ++ drop rest (drop 4 headed)) ≡ bytes ++ drop (length bytes) schedule =
+              let is : take 4 headed ++ (out ++ drop rest (drop 4 headed)) ≡ bytes ++ drop (length bytes) schedule =
               ap₂ _++_ (ap (take 4) e) (ap (λ l. out ++ l) behind ∙ append-nil out)
-              ∙ (ap (λ a. headerBytes n a ++ out) (g .all)
-              ∙ run-written p n choices going words (left .rowed) schedule out (omega (arith, g .all)) (rw (part, g .all) at w)) in (
-                rw (left .counts, x, ran, resulted, le-leb _ _ fit),
-                λ u v. let same : u ≡ s .tally = cc (left .counts) in rw (same, x) (run-bounded going (drop (length bytes) schedule)),
+              ∙ (ap (λ a. headerBytes form n a ++ out) (g .all)
+              ∙ run-written p n choices going form (given .byte) (given .costs) words (left .rowed) schedule out (rw (part, g .all) at w)) in (
+                rw (left .counts, is, ran, resulted, le-leb _ _ fit),
+                λ u v. let same : u ≡ s .tally = cc (left .counts) in rw (same, is) (run-bounded going form (given .byte) (given .costs) (drop (length bytes) schedule)),
               )

@@ -1,49 +1,85 @@
--- The bytes of a schedule, one by one: four of the header and two of each row.
---   rowBytes rows  == the bytes of the rows
---   Narrow rows    == each row has a round below 4096 and a worker below 16
---   schedule-bytes == the bytes of a schedule of such rows are those of the header and of the rows
+-- The bytes of a schedule: the four of the header, and the bits of the rows behind them.
+--   rows-words     == the bits of the rows, by their words
+--   words-more     == those of one word more
+--   wide-written   == words put one behind the other are so written
+--   schedule-bytes == the bytes of a schedule are those of the header and then those of the rows' bits
 use Prim.Native.Nat.{ℕ, zero, suc, _+_, _*_, _/_, _%_, _^_, _≤_, _<_}
 use mathlib.Core.Path.{_≡_, refl, sym, ap, ap₂, _∙_}
-use mathlib.Core.List.{List, [], _∷_, _++_, append-assoc}
+use mathlib.Core.List.{List, [], _∷_, _++_, append-assoc, append-nil}
 use native.Mathlib.Omega.{arith}
-use lib.ListN.{length, getD}
-use Rattle.fields.specs.Field.{bitsOf, bits, number, pack, Bytes}
+use native.Mathlib.Nat.{add-zero, mul-zero, mul-suc, mul-comm}
+use lib.Pow.{pow-add}
+use lib.ListN.{length, getD, take, drop, length-append, length-drop, take-append-drop}
+use Rattle.fields.specs.declared.field.Sink.{Sink}
+use Rattle.fields.specs.Field.{Bytes, bitsOf, bits, number, pack}
+use Rattle.fields.specs.Sink.{sinkBits, Put, Done}
 use Rattle.courses.specs.Row.{Row, noRow}
-use Rattle.scheduler.specs.Written.{headerBytes}
-use Rattle.courses.specs.Schedule.{rowsBits, scheduleBits, scheduleBytes}
-use Rattle.fields.proofs.Laws.Bits.{append-binary, bitsOf-binary, number-append, number-injective, number-bitsOf, pack-bits}
+use Rattle.courses.specs.Schedule.{roundBits, rowsBits, scheduleBits, scheduleLength, scheduleBytes}
+use Rattle.turns.specs.Rows.{rowAt}
+use Rattle.scheduler.specs.Written.{headerBytes, wordsBits, rowsLength, RowsWritten}
+use Rattle.fields.proofs.Laws.Bits.{append-binary, bitsOf-binary, bitsOf-length, number-append, number-injective, number-bitsOf, pack-length, pack-front}
+use Rattle.fields.proofs.Laws.Puts.{sink-length, empty, drop-later}
 
-abbrev pub rowBytes : List Row → List ℕ
-rowBytes [] = []
-rowBytes (a ∷ rows) = (a .round / 16) ∷ ((a .round % 16 * 16 + a .worker) ∷ rowBytes rows)
-
-abbrev pub Narrow : List Row → Type 0
-Narrow rows = (k : ℕ) → k < length rows → (getD rows k noRow .round ≤ 4095) × (getD rows k noRow .worker < 16)
-
-rowBytes-length : (rows : List Row) → length (rowBytes rows) ≡ 2 * length rows
-rowBytes-length [] = refl
-rowBytes-length (a ∷ rows) = omega (arith, rowBytes-length rows)
-
--- two numbers of 8 bits hold a number of 12 and one of 4
-row-bits : (r w : ℕ) → r ≤ 4095 → w < 16 → bitsOf 8 (r / 16) ++ bitsOf 8 (r % 16 * 16 + w) ≡ bitsOf 12 r ++ bitsOf 4 w
-row-bits r w h k =
-    number-injective (bitsOf 8 (r / 16) ++ bitsOf 8 (r % 16 * 16 + w)) (bitsOf 12 r ++ bitsOf 4 w)
-    (append-binary (bitsOf 8 (r / 16)) (bitsOf 8 (r % 16 * 16 + w)) (bitsOf-binary 8 (r / 16)) (bitsOf-binary 8 (r % 16 * 16 + w)))
-    (append-binary (bitsOf 12 r) (bitsOf 4 w) (bitsOf-binary 12 r) (bitsOf-binary 4 w))
-    refl
-    (number-append (bitsOf 8 (r / 16)) (bitsOf 8 (r % 16 * 16 + w)) ∙ (same ∙ sym (number-append (bitsOf 12 r) (bitsOf 4 w))))
+-- a number of b bits and one of 4 are one of b + 4
+row-bits : (b r w : ℕ) → r < 2 ^ b → w < 16 → bitsOf b r ++ bitsOf 4 w ≡ bitsOf (b + 4) (16 * r + w)
+row-bits b r w h k =
+    number-injective (bitsOf b r ++ bitsOf 4 w) (bitsOf (b + 4) (16 * r + w))
+    (append-binary (bitsOf b r) (bitsOf 4 w) (bitsOf-binary b r) (bitsOf-binary 4 w)) (bitsOf-binary (b + 4) (16 * r + w))
+    (length-append (bitsOf b r) (bitsOf 4 w) ∙ (ap₂ _+_ (bitsOf-length b r) (bitsOf-length 4 w) ∙ sym (bitsOf-length (b + 4) (16 * r + w))))
+    (number-append (bitsOf b r) (bitsOf 4 w)
+    ∙ rw (number-bitsOf b r h, number-bitsOf 4 w (omega arith), number-bitsOf (b + 4) (16 * r + w) small) (omega arith))
   where
-    same : number (bitsOf 8 (r / 16)) * 2 ^ 8 + number (bitsOf 8 (r % 16 * 16 + w)) ≡ number (bitsOf 12 r) * 2 ^ 4 + number (bitsOf 4 w)
-    same =
-        rw (
-          number-bitsOf 8 (r / 16) (omega arith),
-          number-bitsOf 8 (r % 16 * 16 + w) (omega arith),
-          number-bitsOf 12 r (omega arith),
-          number-bitsOf 4 w (omega arith),
-        )
-        (omega arith)
+    small : 16 * r + w < 2 ^ (b + 4)
+    small = rw (pow-add 2 b 4) (omega arith)
 
--- and three one of 5, one of 12 and seven zeros
+pub rows-words : (b : ℕ) (rows : List Row) (words : List ℕ) (i : ℕ)
+    → ((k : ℕ) → k < length rows → let a = getD rows k noRow in
+    (a .round < 2 ^ b) × (a .worker < 16) × (rowAt words (i + k) ≡ 16 * a .round + a .worker))
+    → rowsBits b rows ≡ wordsBits (b + 4) words i (length rows)
+unfolding rowsBits wordsBits
+rows-words b [] words i h = refl
+rows-words b (a ∷ rows) words i h =
+    let (r, w, e) = rw (add-zero i) at (h 0 (omega arith)) in
+    sym (append-assoc (bitsOf b (a .round)) (bitsOf 4 (a .worker)) (rowsBits b rows))
+    ∙ ap₂ (λ (x y : List ℕ). x ++ y) (row-bits b (a .round) (a .worker) r w ∙ ap (bitsOf (b + 4)) (sym e))
+    (rows-words b rows words (suc i) (λ k l. let q : i + suc k ≡ suc i + k = omega arith in rw q at (h (suc k) (omega arith))))
+
+pub words-more : (w : ℕ) (words : List ℕ) (i k : ℕ) → wordsBits w words i (suc k) ≡ wordsBits w words i k ++ bitsOf w (rowAt words (i + k))
+unfolding wordsBits
+words-more w words i zero = rw (add-zero i) (append-nil (bitsOf w (rowAt words i)))
+words-more w words i (suc k) =
+    let q : i + suc k ≡ suc i + k = omega arith in
+    rw q (ap (λ (l : List ℕ). bitsOf w (rowAt words i) ++ l) (words-more w words (suc i) k)
+    ∙ sym (append-assoc (bitsOf w (rowAt words i)) (wordsBits w words (suc i) k) (bitsOf w (rowAt words (suc i + k)))))
+
+pub words-length : (w : ℕ) (words : List ℕ) (i k : ℕ) → length (wordsBits w words i k) ≡ w * k
+unfolding wordsBits
+words-length w words i zero = sym (mul-zero w)
+words-length w words i (suc k) =
+    length-append (bitsOf w (rowAt words i)) (wordsBits w words (suc i) k)
+    ∙ omega (arith, bitsOf-length w (rowAt words i), words-length w words (suc i) k, mul-suc w k)
+
+-- what was so written is as long as what was there
+pub written-length : (w k : ℕ) (words before after : List ℕ) → rowsLength w k ≤ length before → RowsWritten w k words before after
+    → length after ≡ length before
+written-length w k words before after room is =
+    let m = rowsLength w k in
+    ap length is ∙ (length-append (pack m (wordsBits w words 0 k)) (drop m before)
+    ∙ omega (arith, pack-length m (wordsBits w words 0 k), length-drop m before))
+
+-- words put one behind the other, and the last byte filled
+pub wide-written : (w k : ℕ) (words out₀ out out′ : List ℕ) (s : Sink) (n : ℕ) → Put out₀ empty (wordsBits w words 0 k) out s
+    → Done out s out′ n → RowsWritten w k words out₀ out′
+unfolding sinkBits bits
+wide-written w k words out₀ out out′ s n p d =
+    let all = wordsBits w words 0 k in
+    let e : sinkBits out s ≡ all = p .written in
+    let long : n ≡ rowsLength w k = d .count ∙ rw e (ap (λ (m : ℕ). (m + 7) / 8) (words-length w words 0 k)) in
+    let front : take n out′ ≡ pack n all = d .written ∙ ap (pack n) e in
+    let back : drop n out′ ≡ drop n out₀ = d .beyond ∙ drop-later (s .bytes) n out out₀ (omega (arith, sink-length out s (p .sound), d .count)) (p .beyond) in
+    rw (← long) (sym (take-append-drop n out′) ∙ ap₂ (λ (x y : List ℕ). x ++ y) front back)
+
+-- three numbers of 8 bits hold one of 5, one of 12 and seven zeros
 header-bits : (n a : ℕ) → n ≤ 16 → a ≤ 2048
     → bitsOf 8 (n * 8 + a / 512) ++ (bitsOf 8 (a / 2 % 256) ++ bitsOf 8 (a % 2 * 128)) ≡ bitsOf 5 n ++ (bitsOf 12 a ++ bitsOf 7 0)
 header-bits n a h k =
@@ -73,44 +109,30 @@ header-bits n a h k =
         )
         (omega arith)
 
-rows-bits : (rows : List Row) → Narrow rows → bits (rowBytes rows) ≡ rowsBits rows
-unfolding bits rowsBits
-rows-bits [] h = refl
-rows-bits (a ∷ rows) h =
-    let (r, w) = h 0 (omega arith) in
-    sym (append-assoc (bitsOf 8 (a .round / 16)) (bitsOf 8 (a .round % 16 * 16 + a .worker)) (bits (rowBytes rows)))
-    ∙ (ap (λ l. l ++ bits (rowBytes rows)) (row-bits (a .round) (a .worker) r w)
-    ∙ (append-assoc (bitsOf 12 (a .round)) (bitsOf 4 (a .worker)) (bits (rowBytes rows))
-    ∙ ap (λ l. bitsOf 12 (a .round) ++ (bitsOf 4 (a .worker) ++ l)) (rows-bits rows (λ k l. h (suc k) (omega arith)))))
+all-bytes : (form n a : ℕ) → form < 256 → n ≤ 16 → a ≤ 2048 → Bytes (headerBytes form n a)
+all-bytes form n a f h k zero = f
+all-bytes form n a f h k (suc zero) = omega arith
+all-bytes form n a f h k (suc (suc zero)) = omega arith
+all-bytes form n a f h k (suc (suc (suc zero))) = omega arith
+all-bytes form n a f h k (suc (suc (suc (suc i)))) = omega arith
 
-rowBytes-bytes : (rows : List Row) → Narrow rows → Bytes (rowBytes rows)
-rowBytes-bytes [] h i = omega arith
-rowBytes-bytes (a ∷ rows) h zero = omega (arith, h 0 (omega arith))
-rowBytes-bytes (a ∷ rows) h (suc zero) = omega (arith, h 0 (omega arith))
-rowBytes-bytes (a ∷ rows) h (suc (suc i)) = rowBytes-bytes rows (λ k l. h (suc k) (omega arith)) i
-
-all-bytes : (n a : ℕ) (l : List ℕ) → n ≤ 16 → a ≤ 2048 → Bytes l → Bytes (headerBytes n a ++ l)
-all-bytes n a l h k f zero = omega arith
-all-bytes n a l h k f (suc zero) = omega arith
-all-bytes n a l h k f (suc (suc zero)) = omega arith
-all-bytes n a l h k f (suc (suc (suc zero))) = omega arith
-all-bytes n a l h k f (suc (suc (suc (suc i)))) = f i
-
-module _ (n : ℕ) (rows : List Row) (most : n ≤ 16) (few : length rows ≤ 2048) (narrow : Narrow rows) where
-  bits-same : bits (headerBytes n (length rows) ++ rowBytes rows) ≡ scheduleBits n rows
+module _ (form n : ℕ) (rows : List Row) (byte : form < 256) (most : n ≤ 16) (few : length rows ≤ 2048) where
+  bits-same : bits (headerBytes form n (length rows)) ++ rowsBits (roundBits form) rows ≡ scheduleBits form n rows
   unfolding bits scheduleBits
   bits-same =
       let a = length rows in
+      let all = rowsBits (roundBits form) rows in
       let x = bitsOf 8 (n * 8 + a / 512) in
       let y = bitsOf 8 (a / 2 % 256) in
       let z = bitsOf 8 (a % 2 * 128) in
-      let e : x ++ (y ++ (z ++ bits (rowBytes rows))) ≡ bitsOf 5 n ++ (bitsOf 12 a ++ (bitsOf 7 0 ++ bits (rowBytes rows))) =
-      simp append-assoc at (ap (λ l. l ++ bits (rowBytes rows)) (header-bits n a most few)) in
-      ap (λ l. bitsOf 8 1 ++ l) (e ∙ ap (λ l. bitsOf 5 n ++ (bitsOf 12 a ++ (bitsOf 7 0 ++ l))) (rows-bits rows narrow))
+      let e : x ++ (y ++ (z ++ all)) ≡ bitsOf 5 n ++ (bitsOf 12 a ++ (bitsOf 7 0 ++ all)) =
+      simp append-assoc at (ap (λ (l : List ℕ). l ++ all) (header-bits n a most few)) in
+      ap (λ (l : List ℕ). bitsOf 8 form ++ l) (simp append-assoc e)
 
-  pub schedule-bytes : scheduleBytes n rows ≡ headerBytes n (length rows) ++ rowBytes rows
-  unfolding scheduleBytes
+  pub schedule-bytes : scheduleBytes form n rows
+      ≡ headerBytes form n (length rows) ++ pack (rowsLength (roundBits form + 4) (length rows)) (rowsBits (roundBits form) rows)
+  unfolding scheduleBytes scheduleLength
   schedule-bytes =
-      let s = headerBytes n (length rows) ++ rowBytes rows in
-      let e : length s ≡ 4 + 2 * length rows = omega (arith, rowBytes-length rows) in
-      ap₂ pack (sym e) (sym bits-same) ∙ pack-bits s (all-bytes n (length rows) (rowBytes rows) most few (rowBytes-bytes rows narrow))
+      ap (pack (4 + rowsLength (roundBits form + 4) (length rows))) (sym bits-same)
+      ∙ pack-front (headerBytes form n (length rows)) (rowsLength (roundBits form + 4) (length rows)) (rowsBits (roundBits form) rows)
+      (all-bytes form n (length rows) byte most few)

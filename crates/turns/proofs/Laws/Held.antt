@@ -1,6 +1,7 @@
 -- What is known where a worker is about to act: the plan, the state, the job and its action.
 --   held-sound, held-job, held-room == the state is sound; the job has an action left, and its number and place are small
---   held-target, held-spawn         == what the action sends and spawns, from the plan's array
+--   held-target, held-spawn, held-cost == what the action sends and spawns, and its cost, from the plan's array
+--   held-unpaid                     == it has rounds left, and takes few
 --   held-next, held-others          == how many actions of each job are done after it
 use Prim.Native.Nat.{ℕ, suc, _≤_, _<_}
 use mathlib.Core.Path.{_≡_}
@@ -9,16 +10,18 @@ use mathlib.Core.List.{List}
 use native.Mathlib.Omega.{arith}
 use lib.ListN.{length, getD}
 use Rattle.plan.specs.Plan.{Plan, size, action, total, spawnAt, parent}
-use Rattle.plan.specs.Sheet.{targetAt, childAt}
-use Rattle.plan.proofs.Laws.Laid.{laid-target, laid-child}
+use Rattle.plan.specs.Sheet.{targetAt, childAt, costAt}
+use Rattle.plan.proofs.Laws.Laid.{laid-target, laid-child, laid-cost}
 use Rattle.plan.proofs.Laws.Placed.{place-below}
 use Rattle.plan.proofs.Laws.Valid.{jobs-range, size-range, total-range}
-use Rattle.runs.specs.State.{State, nextOf}
+use Rattle.runs.specs.State.{State, nextOf, spentOf}
 use Rattle.turns.specs.Moments.{Moment, Held, afterOf}
+use Rattle.runs.proofs.Laws.Coursed as Coursed
 use Rattle.runs.proofs.Laws.Lined as Lined
 use Rattle.runs.proofs.Laws.Lined.{Sound}
 use Rattle.runs.proofs.Laws.TurnSound.{acted, others}
-use Rattle.turns.proofs.Laws.Running.{run-sound}
+use Rattle.turns.proofs.Laws.Running.{run-sound, run-fit}
+use Rattle.plan.proofs.Laws.Spawning.{cost-in-range}
 
 module _ {k j w : ℕ} {plan : List ℕ} {m : Moment} (a : Held k j w plan m) where
   abbrev p : Plan
@@ -46,6 +49,19 @@ module _ {k j w : ℕ} {plan : List ℕ} {m : Moment} (a : Held k j w plan m) wh
 
   pub held-spawn : childAt plan k ≡ action p j (nextOf s j) .spawn
   held-spawn = rw (a .here) (laid-child plan p (a .planned .laid) j (held-job .0) (nextOf s j) (held-job .1))
+
+  pub held-cost : costAt plan k ≡ action p j (nextOf s j) .cost
+  held-cost = rw (a .here) (laid-cost plan p (a .planned .laid) j (held-job .0) (nextOf s j) (held-job .1))
+
+  -- it has rounds left, and takes few
+  pub held-unpaid : (spentOf s j < costAt plan k) × (costAt plan k ≤ 15)
+  held-unpaid =
+      omega (
+        arith,
+        held-cost,
+        Coursed.held-unpaid (run-fit (a .run)) (a .run .trace) w (a .holding),
+        cost-in-range p (a .planned .rules .range) j (held-job .0) (nextOf s j) (held-job .1),
+      )
 
   pub held-next : getD (afterOf s j) j 0 ≡ suc (nextOf s j)
   held-next = acted (a .planned .rules) held-sound w (a .holding)

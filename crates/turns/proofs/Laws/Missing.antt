@@ -76,7 +76,7 @@ module _ (p : Plan) where
     pub missing-none : missingTo p done j i ≡ 0 → (k : ℕ) → k < length p → (a : ℕ) → a < size p k → parent p k ≡ j
         → action p k a .join ≡ suc i → a < getD done k 0
     missing-none e k b a h q s =
-        let here : Placed = record { job = k; position = a; spawn = action p k a .spawn; join = action p k a .join } in
+        let here : Placed = record { job = k; position = a; spawn = action p k a .spawn; join = action p k a .join; cost = action p k a .cost } in
         let n : T (unsent p done j i here) → ⊥ = rw (placed-at p k a b h) at
         (count-none (unsent p done j i) (placed p) e noPlaced (start p k + a) (omega (arith, placed-length p, place-below p k a b h))) in
         let goes : T (enters p j i here) = enters-by p j i here (join-target p ok k a i b h s .0) q s in
@@ -129,7 +129,7 @@ module _ (p : Plan) where
             (λ f. omega (arith, rest (a .job) f))
 
     here : Placed
-    here = record { job = j; position = i; spawn = action p j i .spawn; join = action p j i .join }
+    here = record { job = j; position = i; spawn = action p j i .spawn; join = action p j i .join; cost = action p j i .cost }
 
     -- the action that its join goes to misses one less
     pub missing-sent : (t : ℕ) → action p j i .join ≡ suc t → missingTo p before (parent p j) t ≡ suc (missingTo p after (parent p j) t)

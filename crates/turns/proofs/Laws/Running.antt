@@ -39,8 +39,8 @@ module _ {S : Setting} {r : ℕ} {b : List Worker} {g : Stage} {s : State} (run 
   unfolding countIn
   run-sound = trace-sound run-fit (run .trace)
 
-  pub run-counts : (r ≤ 2048) × (s .tally .rounds ≤ r) × (s .tally .actions ≤ 2048) × (s .tally .idle ≤ 32768)
-      × (s .tally .requests ≤ 32768) × (s .tally .steals ≤ 32768) × (s .tally .bare ≤ 32768) × (s .tally .«idle_victim» ≤ 32768)
+  pub run-counts : (r ≤ 30720) × (s .tally .rounds ≤ r) × (s .tally .actions ≤ 30720) × (s .tally .idle ≤ 491520)
+      × (s .tally .requests ≤ 491520) × (s .tally .steals ≤ 491520) × (s .tally .bare ≤ 491520) × (s .tally .«idle_victim» ≤ 491520)
   run-counts = counts-small run-fit (run .trace)
 
   pub run-countable : {t : Tally} → t ≡ s .tally → Countable t

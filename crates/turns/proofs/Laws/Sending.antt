@@ -23,8 +23,8 @@ use Rattle.runs.specs.State.{State, nextOf, dequeOf}
 use Rattle.courses.specs.Row.{place}
 use Rattle.runs.specs.Turn.{wakes}
 use Rattle.deques.specs.Dequed.{Dequed, Pushing, Pushed}
-use Rattle.turns.specs.Progress.{doneOf, withDone, missingAt, withMissing, missingTo, Progressed}
-use Rattle.turns.specs.Moments.{Moment, Held, Sending, Sent, afterOf, aboveOf}
+use Rattle.turns.specs.Progress.{doneOf, withDone, missingAt, withMissing, missingTo, Progressed, spentAt}
+use Rattle.turns.specs.Moments.{Moment, Held, Sending, Sent, afterOf, aboveOf, freshOf}
 use Rattle.lines.proofs.Laws.Act.{Wakes}
 use Rattle.courses.proofs.Laws.PlanShape.{shape}
 use Rattle.courses.proofs.Laws.Course.{place-apart}
@@ -75,6 +75,9 @@ module _ {k j w : ℕ} {plan progress deques : List ℕ} {m : Moment} (g : Sendi
         (omega (arith, held-next a, g .progressed .counts j (held-job a .0))))
         (λ f. getD-set-other progress j h _ 0 f ∙ (g .progressed .counts h l ∙ sym (held-others a h f))))
 
+    spends : (h : ℕ) → h < length p → spentAt counted h ≡ getD (freshOf s j) h 0
+    spends h l = rw is (getD-set-other progress j (256 + h) _ 0 (λ e. omega (arith, held-room a)) ∙ g .progressed .spends h l)
+
     misses : (h x : ℕ) → h < length p → x < size p h → missingAt counted (place p h x) ≡ missingTo p (s .next) h x
     misses h x l b =
         rw is (getD-set-other progress j (512 + place p h x) _ 0 (λ e. omega (arith, held-room a)) ∙ g .progressed .misses h x l b)
@@ -88,6 +91,7 @@ module _ {k j w : ℕ} {plan progress deques : List ℕ} {m : Moment} (g : Sendi
           progressed = record {
             long = long;
             counts = done;
+            spends = spends;
             misses = λ h x l b. misses h x l b ∙ sym (kept h x (λ t. omega (arith, t .1)));
           };
           dequed = still (λ t. omega (arith, t .sends));
@@ -131,10 +135,11 @@ module _ {k j w : ℕ} {plan progress deques : List ℕ} {m : Moment} (g : Sendi
         )
 
         module _ {left : ℕ} {after : List ℕ} (v : (left ≡ missingAt counted at - 1) × (after ≡ withMissing counted at left)) where
-          sent-progress : Progressed p (afterOf s j) after
+          sent-progress : Progressed p (afterOf s j) (freshOf s j) after
           sent-progress = record {
             long = rw (v .1) (length-set counted _ _ ∙ long);
             counts = λ h l. rw (v .1) (getD-set-other counted (512 + at) h left 0 (λ x. omega (arith, below h l)) ∙ done h l);
+            spends = λ h l. rw (v .1) (getD-set-other counted (512 + at) (256 + h) left 0 (λ x. omega (arith, below h l)) ∙ spends h l);
             misses = λ h x l b. rw (v .1) (by-cases (ℕ-discrete (place p h x) at) (there h x l b) (λ y.
                 getD-set-other counted (512 + at) (512 + place p h x) left 0 (λ z. y (omega arith))
                 ∙ (misses h x l b ∙ sym (kept h x (λ c. y (same h x c ∙ sym is-place))))));

@@ -25,11 +25,11 @@ use Rattle.runs.specs.declared.worker.Worker.the-variants.{Idle, Holding}
 use Rattle.runs.specs.State.{State, nextOf, dequeOf}
 use Rattle.courses.specs.Row.{place}
 use Rattle.courses.specs.Ready.{ready, weight}
-use Rattle.runs.specs.Turn.{wakes, woken, Seat, takeBottom, turn}
+use Rattle.runs.specs.Turn.{wakes, woken, Seat, takeBottom, finished}
 use Rattle.turns.specs.declared.turn.Turned.{Turned}
 use Rattle.deques.specs.Dequed.{Dequed, Pushing, Pushed, TookBottom}
 use Rattle.turns.specs.Progress.{missingAt, missingTo, Progressed}
-use Rattle.turns.specs.Moments.{Moment, Held, Acting, Sent, Settling, Acted, afterOf, aboveOf}
+use Rattle.turns.specs.Moments.{Moment, Held, Acting, Sent, Settling, Acted, afterOf, aboveOf, freshOf}
 use Rattle.lines.proofs.Laws.Shape.{Chain}
 use Rattle.courses.proofs.Laws.PlanShape.{shape}
 use Rattle.runs.proofs.Laws.Deques.{sound-chain}
@@ -57,9 +57,9 @@ module _ {k j w : ℕ} {plan : List ℕ} {m : Moment} (a : Held k j w plan m) wh
 
   -- what was acted, from the seat that the rules leave
   seated : (seat : Seat) → seatOf p s w j ≡ seat → (x : Turned) {progress deques : List ℕ} → x .worker ≡ seat .worker
-      → x .weight ≡ weight p (afterOf s j) → Progressed p (afterOf s j) progress → Dequed deques (set (s .deques) w (seat .deque))
+      → x .weight ≡ weight p (afterOf s j) → Progressed p (afterOf s j) (freshOf s j) progress → Dequed deques (set (s .deques) w (seat .deque))
       → Acted j w x progress deques m
-  unfolding turn
+  unfolding finished
   seated seat e x i z g d =
       record {
         worker = i ∙ (sym (ap (λ t. t .worker) e)

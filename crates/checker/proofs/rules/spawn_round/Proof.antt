@@ -6,32 +6,32 @@ use Rattle.checker.proofs.rules.spawn_round.Tie as tie
 
 parent-of-requires : tie.Need-parent-of-requires
 parent-of-requires c κs =
-    let (t, g) = c .before .pre in
+    let (t, g) = c .pre in
     job-small _ _ t _ g
 
 first-of-requires : tie.Need-first-of-requires
 first-of-requires c κs =
-    let (t, g) = c .before .before .pre in
+    let (t, g) = c .before .pre in
     parent-small _ _ t _ g _ (c .parent-of .ensures .0)
 
 spawn-of-requires : tie.Need-spawn-of-requires
 spawn-of-requires c κs =
-    let (t, g) = c .before .before .before .pre in
+    let (t, g) = c .before .before .pre in
     job-small _ _ t _ g
 
 sub-spawn : tie.Need-sub-spawn
 sub-spawn c =
     let f = c .before in
-    let (t, g) = f .before .before .before .pre in
+    let (t, g) = f .before .before .pre in
     spawn-some _ _ t _ g _ (f .before .parent-of .ensures .0) _ (f .first-of .ensures .0) _ (c .spawn-of .ensures .0)
 
 add-spawn : tie.Need-add-spawn
 add-spawn c = search needs
 
-row-at-requires : tie.Need-row-at-requires
-row-at-requires c κs =
+row-of-requires : tie.Need-row-of-requires
+row-of-requires c κs =
     let f = c .before in
-    let (t, g) = f .before .before .before .pre in
+    let (t, g) = f .before .before .pre in
     row-within _ _ t (g .tasked) _
     (spawn-within _ _ t _ g _ (f .before .parent-of .ensures .0) _ (f .first-of .ensures .0) _ (c .spawn-of .ensures .0))
 
@@ -40,7 +40,7 @@ returns c = λ t g.
     let s = c .before in
     let f = s .before in
     spawn-round-is _ _ t _ g _ (f .before .parent-of .ensures .0) _ (f .first-of .ensures .0) _ (s .spawn-of .ensures .0)
-    _ (c .row-at .ensures .0)
+    _ (c .row-of .ensures .0)
 
 pub spawn-round-spec : {M : Type 1} → statement M
 spawn-round-spec =
@@ -51,5 +51,5 @@ spawn-round-spec =
     spawn-of-requires
     sub-spawn
     add-spawn
-    row-at-requires
+    row-of-requires
     returns)

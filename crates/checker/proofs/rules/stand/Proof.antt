@@ -12,23 +12,23 @@ returns c = λ t g. (c .if1 .taken, g .stood)
 
 add-job : tie.Need-add-job
 add-job c =
-    let (t, g) = c .before .before .before .before .pre in
+    let (t, g) = c .before .before .before .pre in
     omega (arith, g .stood .known, jobs-range (t .plan) (g .tasked .planned .rules))
 
 add-first-of : tie.Need-add-first-of
 add-first-of c =
-    let (t, g) = c .before .before .before .before .pre in
+    let (t, g) = c .before .before .before .pre in
     omega (arith, g .stood .known, jobs-range (t .plan) (g .tasked .planned .rules))
 
 first-of-requires : tie.Need-first-of-requires
 first-of-requires c κs =
-    let (t, g) = c .before .before .before .before .pre in
+    let (t, g) = c .before .before .before .pre in
     omega (arith, next-known (t .plan) (g .tasked .planned .rules) _ _ _ (g .stood) (g .within) (c .before .if1 .left), jobs-range (t .plan) (g .tasked .planned .rules))
 
 spawn-round-requires : tie.Need-spawn-round-requires
 spawn-round-requires c κs =
     let e = c .before .before in
-    let (t, g) = e .before .before .before .pre in (
+    let (t, g) = e .before .before .pre in (
       t,
       record {
         later = omega arith;

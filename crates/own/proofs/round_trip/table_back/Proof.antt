@@ -23,7 +23,7 @@ part-plan-to-table-start c = search needs
 part-plan-to-table-end : tie.Need-part-plan-to-table-end
 part-plan-to-table-end c =
     let d = c .before .before in
-    omega (arith, bytes-room _ _ _ _ _ (d .before .before .before .before .table-to-plan .ensures) (d .n .given .1))
+    omega (arith, bytes-room _ _ _ _ _ _ (d .before .before .before .before .table-to-plan .ensures) (d .n .given .1))
 
 plan-to-table-requires : tie.Need-plan-to-table-requires
 plan-to-table-requires c κs = search needs
@@ -47,7 +47,7 @@ returns-2 c =
     let k = c .before .before in
     let d = k .before .before .before .before .before in
     let t = d .before .before .before .before in
-    table-back _ _ _ _ _ (t .table-to-plan .ensures) (d .n .given .1) _ _ (k .plan-to-table .ensures)
+    table-back _ _ _ _ _ _ (t .table-to-plan .ensures) (d .n .given .1) _ _ (k .plan-to-table .ensures)
 
 pub table-back-spec : {M : Type 1} → statement M
 table-back-spec =

@@ -1,13 +1,14 @@
--- `action::read_action` meets its contract: it reads two numbers, as `actionAt` does, and lays them at place k.
+-- `action::read_action` meets its contract: it reads two numbers and a cost, as `actionAt` does, and lays them at place k.
 use native.Mathlib.Omega.{arith}
 use mathlib.Core.Path.{_≡_, ap, sym, _∙_}
-use Prim.Native.Nat.{ℕ, _%_}
+use Prim.Native.Nat.{ℕ, _+_, _%_, _≤_}
 use mathlib.Core.List.{List}
 use denote.Ref.{now}
 use Rattle.fields.specs.Field.{step, stepOf}
 use Rattle.plan.specs.Reader.{numberAt}
-use Rattle.plan.proofs.Laws.Steps.{number-next}
-use Rattle.plan.proofs.Laws.Action.{left, no-child, no-target, both-read}
+use Rattle.plan.specs.Action.{costField}
+use Rattle.plan.proofs.Laws.Steps.{number-next, cost-field}
+use Rattle.plan.proofs.Laws.Action.{left, no-child, no-target, no-cost, cost-none, all-read}
 use borrow.Author.Needs.{needs}
 use Rattle.plan.proofs.action.read_action.Statement.{statement}
 use Rattle.plan.proofs.action.read_action.Tie as tie
@@ -29,7 +30,7 @@ returns c =
     let k = c .before .before in
     let w = k .before in
     let a = w .before .before .args in
-    no-child (now (a .s)) (a .at) (sym (k .number-in .ensures (left (now (a .s)) (a .at)) (w .window-at .ensures)) ∙ ap stepOf (c .enum-told .given .1))
+    no-child (now (a .s)) (a .at) (a .form) (sym (k .number-in .ensures (left (now (a .s)) (a .at)) (w .window-at .ensures)) ∙ ap stepOf (c .enum-told .given .1))
 
 -- the bytes from that of the place on, and the two numbers that were read there
 abbrev start : tie.After-child → tie.Start
@@ -43,6 +44,9 @@ child-read c = let k = c .before .before in sym (k .number-in .ensures (bytes c)
 
 abbrev first : tie.After-target → tie.After-child
 first c = c .before .before .before .before
+
+abbrev second : tie.After-cost → tie.After-target
+second c = c .before .before .before .before
 
 target-read : (c : tie.After-target) → numberAt (bytes (first c)) (first c .child .given .0 .1 .0) ≡ step (c .target .given .0 .0) (c .target .given .0 .1 .0)
 target-read c =
@@ -64,31 +68,84 @@ returns-2 c =
     let f = k .before .before in
     let a = start f .args in
     let w = f .before .before .before in
-    no-target (now (a .s)) (a .at) _ _ (child-read f) (sym (k .number-in2 .ensures (bytes f) (w .window-at .ensures)) ∙ ap stepOf (c .enum-told2 .given .1))
+    no-target (now (a .s)) (a .at) (a .form) _ _ (child-read f) (sym (k .number-in2 .ensures (bytes f) (w .window-at .ensures)) ∙ ap stepOf (c .enum-told2 .given .1))
+
+cost-read : (c : tie.After-cost)
+    → let f = first (second c) in
+    costField (start f .args .form) (bytes f) (second c .target .given .0 .1 .0) ≡ step (c .cost .given .0 .0) (c .cost .given .0 .1 .0)
+cost-read c =
+    let f = first (second c) in
+    let w = f .before .before .before in
+    sym (c .before .before .cost-in .ensures (bytes f) (w .window-at .ensures)) ∙ ap stepOf (c .cost .given .1)
+
+-- where the two numbers end
+child-end : (c : tie.After-child) → (c .child .given .0 .0 ≤ 256) × (c .child .given .0 .1 .0 ≤ start c .args .at % 8 + 9)
+child-end c = let r = number-next (bytes c) (start c .args .at % 8) _ _ (child-read c) in (r .0, r .1)
+
+target-end : (c : tie.After-target) → (c .target .given .0 .0 ≤ 256) × (c .target .given .0 .1 .0 ≤ 25)
+target-end c = let r = number-next (bytes (first c)) _ _ _ (target-read c) in (r .0, omega (arith, r .1, child-end (first c)))
+
+cost-in-requires : tie.Need-cost-in-requires
+cost-in-requires c κs = omega (arith, target-end (c .before))
+
+enum-known-cost : tie.Need-enum-known-cost
+enum-known-cost c = search needs
+
+enum-told-3 : tie.Need-enum-told-3
+enum-told-3 c = search needs
+
+returns-3 : tie.Need-returns-3
+returns-3 c =
+    let k = c .before .before in
+    let t = k .before .before in
+    let f = first t in
+    let a = start f .args in
+    let w = f .before .before .before in
+    no-cost (now (a .s)) (a .at) (a .form) _ _ (child-read f) _ _ (target-read t) (sym (k .cost-in .ensures (bytes f) (w .window-at .ensures)) ∙ ap stepOf (c .enum-told3 .given .1))
+
+returns-4 : tie.Need-returns-4
+returns-4 c =
+    let k = c .before .before in
+    let t = second k in
+    let f = first t in
+    let a = start f .args in
+    cost-none (now (a .s)) (a .at) (a .form) _ _ (child-read f) _ _ (target-read t) _ _ (cost-read k) (c .if1 .taken)
+
+abbrev costed : tie.Else1 → tie.After-cost
+costed c = c .before .before
+
+cost-end : (c : tie.After-cost) → (c .cost .given .0 .0 ≤ 15) × (c .cost .given .0 .1 .0 ≤ 29)
+cost-end c =
+    let t = second c in
+    let r = cost-field (start (first t) .args .form) (bytes (first t)) _ _ _ (cost-read c) in
+    (r .0, omega (arith, r .1, target-end t))
 
 cast-set-action : tie.Need-cast-set-action
-cast-set-action c = let k = first (c .before .before) in omega (arith, number-next (bytes k) (start k .args .at % 8) _ _ (child-read k))
+cast-set-action c = omega (arith, child-end (first (second (costed (c .before)))))
 
 cast-set-action-2 : tie.Need-cast-set-action-2
-cast-set-action-2 c = let k = c .before .before in omega (arith, number-next (bytes (first k)) _ _ _ (target-read k))
+cast-set-action-2 c = omega (arith, target-end (second (costed (c .before))))
+
+cast-set-action-3 : tie.Need-cast-set-action-3
+cast-set-action-3 c = omega (arith, cost-end (costed (c .before)))
 
 set-action-requires : tie.Need-set-action-requires
 set-action-requires c κs = search needs
 
-mul-t13 : tie.Need-mul-t13
-mul-t13 c = search needs
+mul-t16 : tie.Need-mul-t16
+mul-t16 c = search needs
 
-add-t21 : tie.Need-add-t21
-add-t21 c =
-    let k = c .before .before .before in
-    let f = first k in
-    omega (arith, number-next (bytes f) (start f .args .at % 8) _ _ (child-read f), number-next (bytes f) _ _ _ (target-read k))
+add-t29 : tie.Need-add-t29
+add-t29 c = omega (arith, cost-end (costed (c .before .before)))
 
-returns-3 : tie.Need-returns-3
-returns-3 c =
-    let k = c .before .before .before in
-    let f = first k in
-    (_, both-read (now (start f .args .s)) (start f .args .at) _ _ _ _ (child-read f) (target-read k), c .set-action .ensures)
+returns-5 : tie.Need-returns-5
+returns-5 c =
+    let e = c .before .before in
+    let k = costed e in
+    let t = second k in
+    let f = first t in
+    let a = start f .args in
+    (_, all-read (now (a .s)) (a .at) (a .form) _ _ (child-read f) _ _ (target-read t) _ _ (cost-read k) (e .if1 .left), c .set-action .ensures)
 
 pub read-action-spec : {M : Type 1} → statement M
 read-action-spec =
@@ -103,9 +160,15 @@ read-action-spec =
     enum-known-target
     enum-told-2
     returns-2
+    cost-in-requires
+    enum-known-cost
+    enum-told-3
+    returns-3
+    returns-4
     cast-set-action
     cast-set-action-2
+    cast-set-action-3
     set-action-requires
-    mul-t13
-    add-t21
-    returns-3)
+    mul-t16
+    add-t29
+    returns-5)

@@ -14,33 +14,33 @@ use Rattle.plan.specs.Refusal.{refused}
 use Rattle.plan.specs.Plan.{Plan}
 use Rattle.fields.specs.Field.{Step, step}
 use Rattle.plan.specs.Rules.{spawnRules, joinRules}
-use Rattle.plan.specs.Reader.{planAt, fills, readPlan}
+use Rattle.plan.specs.Reader.{Read, planAt, fills, readPlan}
 use Rattle.plan.specs.Sheet.{LaidIn, SpawnedIn}
 use Rattle.plan.specs.Entering.{Entered}
 use Rattle.plan.specs.Progress.{PlanRead}
 use Rattle.plan.specs.Found.{ReadPlan}
 use Rattle.plan.proofs.Laws.Steps.{plan-next}
-use Rattle.plan.proofs.Laws.Accepted.{planAt-range, read-stop, read-fill, read-spawn, read-join, read-all}
+use Rattle.plan.proofs.Laws.Accepted.{read-stop, read-fill, read-spawn, read-join, read-all}
 use Rattle.plan.proofs.Laws.Sheets.{laid-all, planned-by}
 use Rattle.plan.proofs.reader.read_into.Statement.{statement}
 use Rattle.plan.proofs.reader.read_into.Tie as tie
 
-told : (x : Step Plan) (plan plan′ : List ℕ) (r b : Body) → r ≡ b → PlanRead x plan plan′ r → PlanRead x plan plan′ b
+told : (x : Step Read) (plan plan′ : List ℕ) (r b : Body) → r ≡ b → PlanRead x plan plan′ r → PlanRead x plan plan′ b
 told x plan plan′ r b e h = rw e at h
 
 -- the plan that was read
-record Body-read (s : List ℕ) (jobs actions next : ℕ) (plan : List ℕ) : Type 0 where
+record Body-read (s : List ℕ) (form jobs actions next : ℕ) (plan : List ℕ) : Type 0 where
   p : Plan
-  is : planAt s ≡ step p next
+  is : planAt s ≡ step (record { form = form; plan = p }) next
   laid : LaidIn jobs actions plan p
 
-module _ (s : List ℕ) (jobs actions next : ℕ) (plan : List ℕ) (b : Body-read s jobs actions next plan) where
+module _ (s : List ℕ) (form jobs actions next : ℕ) (plan : List ℕ) (b : Body-read s form jobs actions next plan) where
   ends : (next < 2 ^ 16) × (next ≤ 8 * length s)
-  ends = let r = plan-next s (b .p) next (b .is) in (r .1, r .2)
+  ends = let r = plan-next s (record { form = form; plan = b .p }) next (b .is) in (r .1, r .2)
 
   module _ (full : Bool) (e : full ≡ fills s next) where
     no-fill : not full ≡ true → readPlan s ≡ refused 6
-    no-fill f = read-fill s (b .p) next (b .is) (sym e ∙ not-true full f)
+    no-fill f = read-fill s (record { form = form; plan = b .p }) next (b .is) (sym e ∙ not-true full f)
 
     module _
         (f : not full ≡ false)
@@ -51,7 +51,7 @@ module _ (s : List ℕ) (jobs actions next : ℕ) (plan : List ℕ) (b : Body-re
       filled = sym e ∙ not-false full f
 
       no-spawns : not kept ≡ true → readPlan s ≡ refused 4
-      no-spawns g = read-spawn s (b .p) next (b .is) filled (sym (q (b .p) (b .laid) .0) ∙ not-true kept g)
+      no-spawns g = read-spawn s (record { form = form; plan = b .p }) next (b .is) filled (sym (q (b .p) (b .laid) .0) ∙ not-true kept g)
 
       module _ (g : not kept ≡ false) where
         keeps-spawns : spawnRules (b .p) ≡ true
@@ -66,15 +66,16 @@ module _ (s : List ℕ) (jobs actions next : ℕ) (plan : List ℕ) (b : Body-re
             (q′ : (p : Plan) → SpawnedIn jobs actions plan′ p → (kept′ ≡ joinRules p) × (T kept′ → Entered p entering × (length entering ≡ 2048))) where
           no-joins : not kept′ ≡ true → readPlan s ≡ refused 5
           no-joins h =
-              read-join s (b .p) next (b .is) filled keeps-spawns (sym (q′ (b .p) spawned .0) ∙ not-true kept′ h)
+              read-join s (record { form = form; plan = b .p }) next (b .is) filled keeps-spawns (sym (q′ (b .p) spawned .0) ∙ not-true kept′ h)
 
-          all-kept : not kept′ ≡ false → ReadPlan s jobs actions plan′ entering
+          all-kept : not kept′ ≡ false → ReadPlan s form jobs actions plan′ entering
+          unfolding readPlan
           all-kept h =
               let j : joinRules (b .p) ≡ true = sym (q′ (b .p) spawned .0) ∙ not-false kept′ h in
               let r = q′ (b .p) spawned .1 (rw (not-false kept′ h) tt) in
               record {
                 is = b .p;
-                read = read-all s (b .p) next (b .is) filled keeps-spawns j;
+                read = read-all s (record { form = form; plan = b .p }) next (b .is) filled keeps-spawns j;
                 held = planned-by jobs actions plan′ (b .p) spawned (rw j tt);
                 entered = r .0;
                 whole = r .1;
@@ -84,20 +85,20 @@ module _ (s : List ℕ) (jobs actions next : ℕ) (plan : List ℕ) (b : Body-re
 abbrev new : tie.After-read-body → List ℕ
 new c = c .read-body .last .1 .0
 
-abbrev read : tie.After-jobs → tie.After-read-body
+abbrev read : tie.After-form → tie.After-read-body
 read c = c .before .before
 
-abbrev start : tie.After-jobs → tie.Start
+abbrev start : tie.After-form → tie.Start
 start c = c .before .before .before .before .before
 
 body-read :
-    (c : tie.After-jobs) → Body-read (now (start c .args .s)) (c .jobs .given .0 .0) (c .jobs .given .0 .1 .0) (c .jobs .given .0 .1 .1 .0) (new (read c))
-body-read c = go (told _ (now (start c .args .plan)) (new (read c)) _ _ (c .jobs .given .1) (read c .read-body .ensures))
+    (c : tie.After-form) → Body-read (now (start c .args .s)) (c .form .given .0 .0) (c .form .given .0 .1 .0) (c .form .given .0 .1 .1 .0) (c .form .given .0 .1 .1 .1 .0) (new (read c))
+body-read c = go (told _ (now (start c .args .plan)) (new (read c)) _ _ (c .form .given .1) (read c .read-body .ensures))
   where
-    go : PlanRead (planAt (now (start c .args .s))) (now (start c .args .plan)) (new (read c)) (Body.Is (c .jobs .given .0 .0) (c .jobs .given .0 .1 .0) (c .jobs .given .0 .1 .1 .0))
-        → Body-read (now (start c .args .s)) (c .jobs .given .0 .0) (c .jobs .given .0 .1 .0) (c .jobs .given .0 .1 .1 .0) (new (read c))
+    go : PlanRead (planAt (now (start c .args .s))) (now (start c .args .plan)) (new (read c)) (Body.Is (c .form .given .0 .0) (c .form .given .0 .1 .0) (c .form .given .0 .1 .1 .0) (c .form .given .0 .1 .1 .1 .0))
+        → Body-read (now (start c .args .s)) (c .form .given .0 .0) (c .form .given .0 .1 .0) (c .form .given .0 .1 .1 .0) (c .form .given .0 .1 .1 .1 .0) (new (read c))
     go (p, e, n, a, w) =
-        record { p = p; is = e; laid = rw w (laid-all (now (start c .args .plan)) p _ _ (start c .pre .0) (planAt-range _ p _ e) n a) }
+        record { p = p; is = e; laid = rw w (laid-all (now (start c .args .plan)) p _ _ (start c .pre .0) (plan-next _ _ _ e .0) n a) }
 
 read-body-requires : tie.Need-read-body-requires
 read-body-requires c κs = search needs
@@ -105,20 +106,21 @@ read-body-requires c κs = search needs
 enum-known-cause : tie.Need-enum-known-cause
 enum-known-cause c = search needs
 
-enum-known-jobs : tie.Need-enum-known-jobs
-enum-known-jobs c = search needs
+enum-known-form : tie.Need-enum-known-form
+enum-known-form c = search needs
 
 filled-requires : tie.Need-filled-requires
-filled-requires c κs = ends _ _ _ _ _ (body-read (c .before))
+filled-requires c κs = ends _ _ _ _ _ _ (body-read (c .before))
 
 -- the places before
-abbrev jobs-of : tie.After-filled → tie.After-jobs
+abbrev jobs-of : tie.After-filled → tie.After-form
 jobs-of c = c .before .before
 
 returns : tie.Need-returns
+unfolding readPlan
 returns c =
     let f = c .before in
-    no-fill _ _ _ _ _ (body-read (jobs-of f)) _ (f .filled .ensures) (c .if1 .taken)
+    no-fill _ _ _ _ _ _ (body-read (jobs-of f)) _ (f .filled .ensures) (c .if1 .taken)
 
 spawn-rules-requires : tie.Need-spawn-rules-requires
 spawn-rules-requires c κs =
@@ -126,11 +128,12 @@ spawn-rules-requires c κs =
     (b .p, b .laid)
 
 returns-2 : tie.Need-returns-2
+unfolding readPlan
 returns-2 c =
     let w = c .before in
     let i = w .before .before in
     let f = i .before in
-    no-spawns _ _ _ _ _ (body-read (jobs-of f)) _ (f .filled .ensures) (i .if1 .left) _ _ (w .spawn-rules .ensures) (c .if2 .taken)
+    no-spawns _ _ _ _ _ _ (body-read (jobs-of f)) _ (f .filled .ensures) (i .if1 .left) _ _ (w .spawn-rules .ensures) (c .if2 .taken)
 
 join-rules-requires : tie.Need-join-rules-requires
 join-rules-requires c κs =
@@ -139,21 +142,23 @@ join-rules-requires c κs =
     let i = w .before .before in
     let f = i .before in
     let b = body-read (jobs-of f) in
-    ((b .p, spawned _ _ _ _ _ b _ (f .filled .ensures) (i .if1 .left) _ _ (w .spawn-rules .ensures) (k .if2 .left)), start (jobs-of f) .pre .1)
+    ((b .p, spawned _ _ _ _ _ _ b _ (f .filled .ensures) (i .if1 .left) _ _ (w .spawn-rules .ensures) (k .if2 .left)), start (jobs-of f) .pre .1)
 
 returns-3 : tie.Need-returns-3
+unfolding readPlan
 returns-3 c =
     let y = c .before in
     let k = y .before .before .before in
     let w = k .before in
     let i = w .before .before in
     let f = i .before in
-    no-joins _ _ _ _ _ (body-read (jobs-of f)) _ (f .filled .ensures) (i .if1 .left) _ _ (w .spawn-rules .ensures) (k .if2 .left) _ _ (y .join-rules .ensures) (c .if3 .taken)
+    no-joins _ _ _ _ _ _ (body-read (jobs-of f)) _ (f .filled .ensures) (i .if1 .left) _ _ (w .spawn-rules .ensures) (k .if2 .left) _ _ (y .join-rules .ensures) (c .if3 .taken)
 
 returns-4 : tie.Need-returns-4
+unfolding readPlan
 returns-4 c =
     let z = c .before in
-    read-stop _ _ (rw (z .cause .given .1) at (z .before .before .read-body .ensures))
+    read-stop (now (z .before .before .before .before .before .args .s)) _ (rw (z .cause .given .1) at (z .before .before .read-body .ensures))
 
 returns-5 : tie.Need-returns-5
 returns-5 c =
@@ -162,7 +167,7 @@ returns-5 c =
     let w = k .before in
     let i = w .before .before in
     let f = i .before in
-    all-kept _ _ _ _ _ (body-read (jobs-of f)) _ (f .filled .ensures) (i .if1 .left) _ _ (w .spawn-rules .ensures) (k .if2 .left) _ _ (y .join-rules .ensures) (c .if3 .left)
+    all-kept _ _ _ _ _ _ (body-read (jobs-of f)) _ (f .filled .ensures) (i .if1 .left) _ _ (w .spawn-rules .ensures) (k .if2 .left) _ _ (y .join-rules .ensures) (c .if3 .left)
 
 pub read-into-spec : {M : Type 1} → statement M
 read-into-spec =
@@ -170,7 +175,7 @@ read-into-spec =
     (tie.spec
     read-body-requires
     enum-known-cause
-    enum-known-jobs
+    enum-known-form
     filled-requires
     returns
     spawn-rules-requires

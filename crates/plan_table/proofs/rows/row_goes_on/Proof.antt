@@ -10,7 +10,7 @@ use Rattle.plan_table.proofs.rows.row_goes_on.Statement.{statement}
 use Rattle.plan_table.proofs.rows.row_goes_on.Tie as tie
 
 -- the row, and the row before it, are within the table
-room : (c : tie.Start) → (c .args .at % 4 ≡ 0) × (c .args .at + 4 ≤ length (c .args .table .now)) × (length (c .args .table .now) * 2 < 2 ^ 63)
+room : (c : tie.Start) → (c .args .at % 5 ≡ 0) × (c .args .at + 5 ≤ length (c .args .table .now)) × (length (c .args .table .now) * 2 < 2 ^ 63)
 room c = (c .pre .0, c .pre .1, c .good .0 .1)
 
 add-if1 : tie.Need-add-if1
@@ -77,7 +77,7 @@ start c = c .before .before .before .before .before .before
 
 goes : (c : tie.Else3)
     → fitsAt (start c .args .table .now) (start c .args .at)
-    ≡ goesOn (rowAt (start c .args .table .now) (start c .args .at - 4)) (rowAt (start c .args .table .now) (start c .args .at))
+    ≡ goesOn (rowAt (start c .args .table .now) (start c .args .at - 5)) (rowAt (start c .args .table .now) (start c .args .at))
 unfolding fitsAt
 goes c = rw (le-leb _ _ (c .before .before .before .if1 .left), le-leb _ _ (c .before .if2 .left), ne-eqb _ 0 (c .if3 .left))
 
@@ -86,7 +86,7 @@ returns-4 c =
     let w = c .before in
     let b = w .before .before .before .before in
     let a = start b .args in
-    let e : getD (a .table .now) (a .at) 0 ≡ suc (getD (a .table .now) (a .at - 4) 0) = omega arith in
+    let e : getD (a .table .now) (a .at) 0 ≡ suc (getD (a .table .now) (a .at - 5) 0) = omega arith in
     rw (goes b, eq-eqb _ _ e)
 
 returns-5 : tie.Need-returns-5
@@ -94,8 +94,8 @@ returns-5 c =
     let w = c .before .before in
     let b = w .before .before .before .before in
     let a = start b .args in
-    let e : getD (a .table .now) (a .at) 0 ≡ suc (getD (a .table .now) (a .at - 4) 0) → ⊥ = λ h. c .before .if4 .left (omega arith) in
-    let f : getD (a .table .now) (a .at) 0 ≡ getD (a .table .now) (a .at - 4) 0 → ⊥ = λ h. c .if5 .taken (omega arith) in
+    let e : getD (a .table .now) (a .at) 0 ≡ suc (getD (a .table .now) (a .at - 5) 0) → ⊥ = λ h. c .before .if4 .left (omega arith) in
+    let f : getD (a .table .now) (a .at) 0 ≡ getD (a .table .now) (a .at - 5) 0 → ⊥ = λ h. c .if5 .taken (omega arith) in
     rw (goes b, ne-eqb _ _ e, ne-eqb _ _ f)
 
 add-result : tie.Need-add-result
@@ -121,9 +121,9 @@ returns-6 c =
     let w = c .before .before .before .before in
     let b = w .before .before .before .before in
     let a = start b .args in
-    let e : getD (a .table .now) (a .at) 0 ≡ suc (getD (a .table .now) (a .at - 4) 0) → ⊥ = λ h. c .before .before .before .if4 .left (omega arith) in
-    let f : getD (a .table .now) (a .at) 0 ≡ getD (a .table .now) (a .at - 4) 0 = omega arith in
-    let p : a .at - 4 + 1 ≡ a .at - 3 = omega arith in
+    let e : getD (a .table .now) (a .at) 0 ≡ suc (getD (a .table .now) (a .at - 5) 0) → ⊥ = λ h. c .before .before .before .if4 .left (omega arith) in
+    let f : getD (a .table .now) (a .at) 0 ≡ getD (a .table .now) (a .at - 5) 0 = omega arith in
+    let p : a .at - 5 + 1 ≡ a .at - 4 = omega arith in
     rw (goes b, ne-eqb _ _ e, eq-eqb _ _ f, p)
 
 pub row-goes-on-spec : {M : Type 1} → statement M

@@ -14,7 +14,7 @@ use Rattle.plan_table.proofs.rows.table_rules.Tie as tie
 
 abbrev Inv-loop : tie.InvT-loop
 Inv-loop table at₀ at =
-    (at ≤ length table) × (at % 4 ≡ 0) × (length table % 4 ≡ 0) × (0 < length table) × (rowRules (rowsOf table) ≡ rulesFrom table at)
+    (at ≤ length table) × (at % 5 ≡ 0) × (length table % 5 ≡ 0) × (0 < length table) × (rowRules (rowsOf table) ≡ rulesFrom table at)
 
 abbrev μ-loop : tie.MeasureT-loop
 μ-loop table at₀ at = length table - at
@@ -22,13 +22,13 @@ abbrev μ-loop : tie.MeasureT-loop
 returns : tie.Need-returns Inv-loop μ-loop
 returns c =
     let t = c .before .before .args .table .now in
-    sym (rules-empty (eqb (length t % 4) 0) t (omega arith))
+    sym (rules-empty (eqb (length t % 5) 0) t (omega arith))
 
 returns-2 : tie.Need-returns-2 Inv-loop μ-loop
 returns-2 c =
     let t = c .before .before .before .args .table .now in
-    let n : length t % 4 ≡ 0 → ⊥ = λ e. omega arith in
-    rw (ne-eqb (length t % 4) 0 n)
+    let n : length t % 5 ≡ 0 → ⊥ = λ e. omega arith in
+    rw (ne-eqb (length t % 5) 0 n)
 
 loop-holds : tie.Need-loop-holds Inv-loop μ-loop
 loop-holds c = (omega arith, omega arith, omega arith, omega arith, refl)
@@ -40,9 +40,9 @@ returns-3 : tie.Need-returns-3 Inv-loop μ-loop
 returns-3 c =
     let l = c .before .before .before in
     let t = l .before .before .before .before .args .table .now in
-    let n : length t % 4 ≡ 0 = omega arith in
+    let n : length t % 5 ≡ 0 = omega arith in
     let w : fitsAt t (l .loop .at) ≡ false = sym (c .before .row-goes-on .ensures) ∙ not-true _ (c .if3 .taken) in
-    rw (eq-eqb (length t % 4) 0 n, l .loop .inv .4, rules-step t (l .loop .at) (omega arith), w)
+    rw (eq-eqb (length t % 5) 0 n, l .loop .inv .4, rules-step t (l .loop .at) (omega arith), w)
 
 add-at : tie.Need-add-at Inv-loop μ-loop
 add-at c = omega arith
@@ -61,8 +61,8 @@ returns-4 : tie.Need-returns-4 Inv-loop μ-loop
 returns-4 c =
     let l = c .before in
     let t = l .before .before .before .before .args .table .now in
-    let n : length t % 4 ≡ 0 = omega arith in
-    rw (eq-eqb (length t % 4) 0 n, l .loop .inv .4, rules-end t (l .loop .at) (omega arith) (omega arith))
+    let n : length t % 5 ≡ 0 = omega arith in
+    rw (eq-eqb (length t % 5) 0 n, l .loop .inv .4, rules-end t (l .loop .at) (omega arith) (omega arith))
 
 pub table-rules-spec : {M : Type 1} → statement M
 table-rules-spec =

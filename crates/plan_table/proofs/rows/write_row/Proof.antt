@@ -65,13 +65,29 @@ mul-rows-4 c = search needs
 slice-write-rows-4 : tie.Need-slice-write-rows-4
 slice-write-rows-4 c = simp length-set (omega arith)
 
+cost-at-requires : tie.Need-cost-at-requires
+cost-at-requires c κs = search needs
+
+cast-rows-5 : tie.Need-cast-rows-5
+cast-rows-5 c = search needs
+
+add-rows-4 : tie.Need-add-rows-4
+add-rows-4 c = search needs
+
+mul-rows-5 : tie.Need-mul-rows-5
+mul-rows-5 c = search needs
+
+slice-write-rows-5 : tie.Need-slice-write-rows-5
+slice-write-rows-5 c = simp length-set (omega arith)
+
 same-length : tie.Need-same-length
 same-length c = search needs
 
 returns : tie.Need-returns
 returns c =
-    let j = c .before .before .before .job-at .ensures .0 in
-    rw (c .target-at .ensures .0, c .before .child-at .ensures .0, c .before .before .frame-of .ensures .0, j)
+    let t = c .before in
+    let j = t .before .before .before .job-at .ensures .0 in
+    rw (c .cost-at .ensures .0, t .target-at .ensures .0, t .before .child-at .ensures .0, t .before .before .frame-of .ensures .0, j)
 
 pub write-row-spec : {M : Type 1} → statement M
 write-row-spec =
@@ -97,5 +113,10 @@ write-row-spec =
     add-rows-3
     mul-rows-4
     slice-write-rows-4
+    cost-at-requires
+    cast-rows-5
+    add-rows-4
+    mul-rows-5
+    slice-write-rows-5
     same-length
     returns)

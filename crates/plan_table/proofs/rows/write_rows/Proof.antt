@@ -17,7 +17,7 @@ use Rattle.plan_table.proofs.rows.write_rows.Tie as tie
 abbrev Inv-loop : tie.InvT-loop
 Inv-loop actions plan rows₀ k₀ rows k =
     (k ≤ actions) × (length rows ≡ length rows₀)
-    × ((p : Plan) → RowsGiven actions plan p → rows ≡ take (4 * k) (tableOf p) ++ drop (4 * k) rows₀)
+    × ((p : Plan) → RowsGiven actions plan p → rows ≡ take (5 * k) (tableOf p) ++ drop (5 * k) rows₀)
 
 abbrev μ-loop : tie.MeasureT-loop
 μ-loop actions plan rows₀ k₀ rows k = actions - k
@@ -44,12 +44,12 @@ loop-again c =
     let l = c .before .before .before .before .before in
     let a = l .before .before .args in
     let k = l .loop .k in
-    let e : 4 * (k + 1) ≡ 4 * k + 4 = omega arith in (
+    let e : 5 * (k + 1) ≡ 5 * k + 5 = omega arith in (
       omega arith,
       rw (c .before .before .write-row .ensures) (simp length-set (omega (arith, l .loop .inv .1))),
       λ p g.
           rw (e, c .before .before .write-row .ensures)
-          (written-row (tableOf p) (a .rows .now) (l .loop .rows) (4 * k) _ (omega (arith, table-length p, g .all)) (omega (arith, l .before .before .pre .1))
+          (written-row (tableOf p) (a .rows .now) (l .loop .rows) (5 * k) _ (omega (arith, table-length p, g .all)) (omega (arith, l .before .before .pre .1))
           (row-given p (a .actions) (a .plan .now) g k (omega arith) .1) (l .loop .inv .2 p g)),
     )
 
@@ -59,8 +59,8 @@ same-length c = omega arith
 returns : tie.Need-returns Inv-loop μ-loop
 returns c p g =
     let n = c .before .before .before .args .actions in
-    let e : 4 * (c .before .loop .k) ≡ 4 * n = omega arith in
-    rw (c .before .loop .inv .2 p g, e, take-all (4 * n) (tableOf p) (omega (arith, table-length p, g .all)))
+    let e : 5 * (c .before .loop .k) ≡ 5 * n = omega arith in
+    rw (c .before .loop .inv .2 p g, e, take-all (5 * n) (tableOf p) (omega (arith, table-length p, g .all)))
 
 pub write-rows-spec : {M : Type 1} → statement M
 write-rows-spec =

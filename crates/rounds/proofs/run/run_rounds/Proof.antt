@@ -41,7 +41,7 @@ Inv-loop n actions choices plan entering rows₀ workers₀ progress₀ deques�
     Throughout n actions choices plan entering (λ S. Between S r a workers cursor lines progress deques rows)
 
 abbrev μ-loop : tie.MeasureT-loop
-μ-loop n actions choices plan entering rows₀ workers₀ progress₀ deques₀ lines₀ cursor₀ r₀ a₀ rows workers progress deques lines cursor r a = 2048 - r
+μ-loop n actions choices plan entering rows₀ workers₀ progress₀ deques₀ lines₀ cursor₀ r₀ a₀ rows workers progress deques lines cursor r a = 30720 - r
 
 array-set-from-workers : tie.Need-array-set-from-workers Inv-loop2 μ-loop2 Inv-loop3 μ-loop3 Inv-loop4 μ-loop4 Inv-loop μ-loop
 array-set-from-workers c = search needs

@@ -14,20 +14,20 @@ read-into-requires c κs = (refl, refl)
 enum-known-cause : tie.Need-enum-known-cause
 enum-known-cause c = search needs
 
-enum-known-actions : tie.Need-enum-known-actions
-enum-known-actions c = search needs
+enum-known-form : tie.Need-enum-known-form
+enum-known-form c = search needs
 
 -- what was read
-plan-read : (c : tie.After-actions)
+plan-read : (c : tie.After-form)
     → let r = c .before .before in
     let a = r .before .before .before .before .before .before .args in
-    ReadPlan (now (a .plan)) (c .actions .given .0 .0) (c .actions .given .0 .1 .0) (r .read-into .last .1 .0) (r .read-into .last .1 .1 .0)
-plan-read c = found-plan _ _ _ _ (c .before .before .read-into .ensures) _ _ (c .actions .given .1)
+    ReadPlan (now (a .plan)) (c .form .given .0 .0) (c .form .given .0 .1 .0) (c .form .given .0 .1 .1 .0) (r .read-into .last .1 .0) (r .read-into .last .1 .1 .0)
+plan-read c = found-plan _ _ _ _ (c .before .before .read-into .ensures) _ _ _ (c .form .given .1)
 
 run-read-requires : tie.Need-run-read-requires
 run-read-requires c κs =
     let g = plan-read (c .before .before .before .before) in
-    (g .is, read-runs _ _ _ _ _ g)
+    (g .is, read-runs _ _ _ _ _ _ g)
 
 returns : tie.Need-returns
 returns c =
@@ -40,7 +40,7 @@ same-length c = search needs
 returns-2 : tie.Need-returns-2
 returns-2 c =
     let g = plan-read (c .before .before .before .before .before .before .before) in
-    answers-read _ _ _ _ (g .is) _ _ (g .read) (c .before .before .run-read .ensures (g .is) (read-runs _ _ _ _ _ g))
+    answers-read _ _ _ _ _ (g .is) _ _ (g .read) (c .before .before .run-read .ensures (g .is) (read-runs _ _ _ _ _ _ g))
 
 pub run-spec : {M : Type 1} → statement M
 run-spec =
@@ -48,7 +48,7 @@ run-spec =
     (tie.spec
     read-into-requires
     enum-known-cause
-    enum-known-actions
+    enum-known-form
     run-read-requires
     returns
     same-length

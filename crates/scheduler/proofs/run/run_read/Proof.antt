@@ -1,4 +1,5 @@
 -- `run::run_read` meets its contract: each answer by the tests before the run, by the run and by what was written.
+use Prim.Native.Nat.{_≤_}
 use mathlib.Core.Path.{_≡_, refl, sym, _∙_}
 use mathlib.Core.Bool.{true}
 use native.Mathlib.Omega.{arith}
@@ -26,27 +27,35 @@ returns-3 c = λ p g.
 fit : (c : tie.Else3) → let a = c .before .before .before .before .before .before .args in choicesFit (a .workers) (a .choices .now) ≡ true
 fit c = sym (c .before .choices-fit .ensures) ∙ not-false _ (c .if3 .left)
 
-mul-if4 : tie.Need-mul-if4
-mul-if4 c = let (p, g) = c .before .before .before .before .before .before .pre in omega (arith, in-few g)
+-- what was given
+abbrev start : tie.Else3 → tie.Start
+start c = c .before .before .before .before .before .before
 
-add-if4 : tie.Need-add-if4
-add-if4 c = let (p, g) = c .before .before .before .before .before .before .pre in omega (arith, in-few g)
+manned : (c : tie.Else3) → (1 ≤ start c .args .workers) × (start c .args .workers ≤ 16)
+manned c = let e = c .before .before in omega (arith, e .if2 .left, e .before .if1 .left)
+
+schedule-length-requires : tie.Need-schedule-length-requires
+schedule-length-requires c κs = let (p, g) = start c .pre in in-few (g .runs)
 
 returns-4 : tie.Need-returns-4
-returns-4 c = λ p g. refuses-short g _ _ _ (omega arith) (omega arith) (fit (c .before)) (omega arith)
+returns-4 c = λ p g.
+    let l = c .before in
+    refuses-short g _ _ _ (manned (l .before) .0) (manned (l .before) .1) (fit (l .before)) (omega (arith, l .schedule-length .ensures .0, c .if4 .taken))
 
 run-rounds-requires : tie.Need-run-rounds-requires
 run-rounds-requires c κs =
-    let e = c .before in
-    let s = e .before .before .before .before .before .before .before in
+    let l = c .before .before in
+    let s = start (l .before) in
     let (p, g) = s .pre in
-    let asked = run-asked g (s .args .workers) (s .args .choices .now) (s .args .schedule .now) (omega arith) (omega arith) (fit (e .before)) in
+    let asked = run-asked g (s .args .workers) (s .args .choices .now) (s .args .schedule .now) (manned (l .before) .0) (manned (l .before) .1) (fit (l .before)) in
     ((p, asked), refl)
 
 write-header-requires : tie.Need-write-header-requires
 write-header-requires c κs =
-    let (p, g) = c .before .before .before .before .before .before .before .before .before .before .pre in
-    (omega arith, in-few g, omega arith)
+    let e = c .before .before .before in
+    let l = e .before in
+    let (p, g) = start (l .before) .pre in
+    (g .byte, omega arith, in-few (g .runs), omega (arith, l .schedule-length .ensures .1, e .if4 .left))
 
 sub-write-rows : tie.Need-sub-write-rows
 sub-write-rows c = search needs
@@ -62,9 +71,11 @@ write-rows-requires c κs =
     let w = c .before .before .before .before in
     let r = w .before .before in
     let e = r .before .before in
-    let s = e .before .before .before .before .before .before .before in
+    let l = e .before in
+    let s = start (l .before) in
     let (p, g) = s .pre in
-    rows-asked g (s .args .workers) (s .args .choices .now) (s .args .schedule .now) (omega arith) (omega arith) (fit (e .before)) (e .if4 .left)
+    rows-asked g (s .args .workers) (s .args .choices .now) (s .args .schedule .now) (manned (l .before) .0) (manned (l .before) .1) (fit (l .before))
+    (omega (arith, l .schedule-length .ensures .0, e .if4 .left))
     _ (w .write-header .ensures) _ _ (r .run-rounds .ensures)
 
 same-length : tie.Need-same-length
@@ -75,8 +86,10 @@ returns-5 c = λ p g.
     let w = c .before .before .before .before .before .before .before in
     let r = w .before .before in
     let e = r .before .before in
-    let a = e .before .before .before .before .before .before .before .args in
-    run-answers g (a .workers) (a .choices .now) (a .schedule .now) (omega arith) (omega arith) (fit (e .before)) (e .if4 .left)
+    let l = e .before in
+    let a = start (l .before) .args in
+    run-answers g (a .workers) (a .choices .now) (a .schedule .now) (manned (l .before) .0) (manned (l .before) .1) (fit (l .before))
+    (omega (arith, l .schedule-length .ensures .0, e .if4 .left))
     _ (w .write-header .ensures) _ _ (r .run-rounds .ensures) _ (c .before .before .write-rows .ensures)
 
 pub run-read-spec : {M : Type 1} → statement M
@@ -87,8 +100,7 @@ run-read-spec =
     returns-2
     choices-fit-requires
     returns-3
-    mul-if4
-    add-if4
+    schedule-length-requires
     returns-4
     run-rounds-requires
     write-header-requires

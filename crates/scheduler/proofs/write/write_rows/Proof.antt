@@ -1,85 +1,48 @@
--- `write::write_rows` meets its contract. The loop's invariant: the words passed are written. The measure is what is left of them.
-use Prim.Native.Nat.{_*_, _≤_, _<_, _-_}
-use mathlib.Core.Path.{_≡_}
+-- `write::write_rows` meets its contract: by the form.
+use Prim.Native.Nat.{_+_}
+use mathlib.Core.Bool.{true, false}
 use native.Mathlib.Omega.{arith}
-use lib.ListN.{length, length-set}
-use Rattle.scheduler.specs.Written.{Words, RowsWritten}
-use Rattle.scheduler.proofs.Laws.RowBytes.{none-written, rows-step}
+use borrow.Author.Tests.{ne-eqb}
+use Rattle.courses.specs.Schedule.{roundBits}
+use Rattle.scheduler.proofs.Laws.ScheduleBytes.{written-length}
 use Rattle.scheduler.proofs.write.write_rows.Statement.{statement}
 use Rattle.scheduler.proofs.write.write_rows.Tie as tie
 
-abbrev Inv-loop : tie.InvT-loop
-Inv-loop out₀ actions rows k₀ out k =
-    (k ≤ actions) × (actions ≤ 2048) × (2 * actions ≤ length out₀) × Words actions rows × RowsWritten k rows out₀ out
+write-narrow-requires : tie.Need-write-narrow-requires
+write-narrow-requires c κs =
+    let t = c .before in
+    let p = rw (t .if1 .taken) at (t .before .before .pre) in
+    (p .0, omega (arith, p .1), p .2)
 
-abbrev μ-loop : tie.MeasureT-loop
-μ-loop out₀ actions rows k₀ out k = actions - k
+same-length : tie.Need-same-length
+same-length c =
+    let n = c .before .before in
+    let t = n .before .before in
+    let p = rw (t .if1 .taken) at (t .before .before .pre) in
+    written-length 16 _ _ _ _ (p .1) (n .write-narrow .ensures)
 
-loop-holds : tie.Need-loop-holds Inv-loop μ-loop
-loop-holds c = let p = c .before .pre in (omega arith, p .0, p .1, p .2, none-written)
+returns : tie.Need-returns
+returns c =
+    let n = c .before .before in
+    rw (n .before .before .if1 .taken) (n .write-narrow .ensures)
 
-row-at-requires : tie.Need-row-at-requires Inv-loop μ-loop
-row-at-requires c κs = omega arith
+write-wide-requires : tie.Need-write-wide-requires
+write-wide-requires c κs =
+    let e = c .before in
+    rw (ne-eqb _ 1 (e .if1 .left), roundBits) at (e .before .before .pre)
 
--- the word is that of a row
-word : (c : tie.After-row-at Inv-loop μ-loop) → c .row-at .result < 65536
-word c = rw (c .row-at .ensures) (c .before .before .loop .inv .3 (c .before .before .loop .k) (omega arith))
+same-length-2 : tie.Need-same-length-2
+same-length-2 c =
+    let n = c .before .before in
+    let e = n .before .before in
+    let p = rw (ne-eqb _ 1 (e .if1 .left), roundBits) at (e .before .before .pre) in
+    written-length 20 _ _ _ _ (p .1) (n .write-wide .ensures)
 
-cast-out : tie.Need-cast-out Inv-loop μ-loop
-cast-out c = omega (arith, word c)
-
-mul-out : tie.Need-mul-out Inv-loop μ-loop
-mul-out c = omega arith
-
-slice-write-out : tie.Need-slice-write-out Inv-loop μ-loop
-slice-write-out c = omega (arith, c .before .before .loop .inv .4 .long)
-
-cast-out-2 : tie.Need-cast-out-2 Inv-loop μ-loop
-cast-out-2 c = omega (arith, word c)
-
-mul-out-2 : tie.Need-mul-out-2 Inv-loop μ-loop
-mul-out-2 c = omega arith
-
-add-out : tie.Need-add-out Inv-loop μ-loop
-add-out c = omega arith
-
-slice-write-out-2 : tie.Need-slice-write-out-2 Inv-loop μ-loop
-slice-write-out-2 c = simp length-set (omega (arith, c .before .before .loop .inv .4 .long))
-
-add-k : tie.Need-add-k Inv-loop μ-loop
-add-k c = omega arith
-
-loop-less : tie.Need-loop-less Inv-loop μ-loop
-loop-less c = omega arith
-
-loop-again : tie.Need-loop-again Inv-loop μ-loop
-loop-again c =
-    let i = c .before .before .loop .inv in
-    (omega arith, i .1, i .2, i .3, rw (c .row-at .ensures) (rows-step (i .4) (omega arith)))
-
-same-length : tie.Need-same-length Inv-loop μ-loop
-same-length c = c .before .loop .inv .4 .long
-
-returns : tie.Need-returns Inv-loop μ-loop
-returns c = let e : c .before .loop .k ≡ c .before .before .before .args .actions = omega arith in rw e at (c .before .loop .inv .4)
+returns-2 : tie.Need-returns-2
+returns-2 c =
+    let n = c .before .before in
+    rw (ne-eqb _ 1 (n .before .before .if1 .left), roundBits) (n .write-wide .ensures)
 
 pub write-rows-spec : {M : Type 1} → statement M
 write-rows-spec =
-    tie.close
-    (tie.spec
-    Inv-loop
-    μ-loop
-    loop-holds
-    row-at-requires
-    cast-out
-    mul-out
-    slice-write-out
-    cast-out-2
-    mul-out-2
-    add-out
-    slice-write-out-2
-    add-k
-    loop-less
-    loop-again
-    same-length
-    returns)
+    tie.close (tie.spec write-narrow-requires same-length returns write-wide-requires same-length-2 returns-2)
