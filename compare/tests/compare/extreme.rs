@@ -49,24 +49,26 @@ fn run_all(both: &mut Both, random: &mut Random, sketch: &Sketch) {
     both.run_claimed(&plan, &facts, 1, &[]);
     for workers in 1..=16 {
         let last = workers as u8 - 1;
-        let mut lists = vec![
+        for choices in [
             vec![0],
             vec![last],
             vec![last / 2; MAX_CHOICES],
             (0..=last).collect(),
             (0..=last).rev().collect(),
             any_choices(random, workers),
-        ];
-        lists.push(
-            (0..MAX_CHOICES)
-                .map(|_| random.below(workers) as u8)
-                .collect(),
-        );
-        for choices in lists {
+            most_choices(random, workers),
+        ] {
             both.run_claimed(&plan, &facts, workers as u32, &choices);
             both.generated += 1;
         }
     }
+}
+
+/// As many choices as a list may have.
+fn most_choices(random: &mut Random, workers: usize) -> Vec<u8> {
+    (0..MAX_CHOICES)
+        .map(|_| random.below(workers) as u8)
+        .collect()
 }
 
 fn heavy(mut sketch: Sketch) -> Sketch {
@@ -171,15 +173,12 @@ fn run_some(both: &mut Both, random: &mut Random, sketch: &Sketch) {
     let facts = both.facts(&plan, &sketch.rows());
     for workers in [1, 2, 3, 8, 15, 16] {
         let last = workers as u8 - 1;
-        let lists = [
+        for choices in [
             vec![0],
             vec![last; MAX_CHOICES],
             any_choices(random, workers),
-            (0..MAX_CHOICES)
-                .map(|_| random.below(workers) as u8)
-                .collect(),
-        ];
-        for choices in lists {
+            most_choices(random, workers),
+        ] {
             both.run_claimed(&plan, &facts, workers as u32, &choices);
             both.generated += 1;
         }

@@ -3,14 +3,9 @@ ghost use Prim.Native.Nat.{_<_};
 ghost use mathlib.Core.Path.{_≡_};
 ghost use Rattle.plan.specs.Contract.{before};
 ghost use Rattle.checker.specs.Chains.{entry};
+use numbers::wide32;
 
 pub type Rows = [u32; 2048];
-
-fn wide32(x: u32) -> usize
-    ensures { λ r. ⌜ (r ≡ x) × (r < 4294967296) ⌝ }
-{
-    x as usize
-}
 
 // Row k.
 pub fn row_of(rows: &Rows, k: usize) -> usize
