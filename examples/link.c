@@ -1,4 +1,5 @@
-/* A plan of eight actions run on two workers through the library for C, as it stands and then with costs:
+/* A plan of eight actions run on two workers through the library for C, as it stands and then with costs, and turned
+   into form 2 and back:
      rt staticlib cabi && gcc examples/link.c -Iinclude target/staticlib/libcabi.a -o link && ./link */
 #include "dorewhanga.h"
 #include <stdio.h>
@@ -12,6 +13,8 @@ static const uint16_t costs[] = {2, 1, 3, 1, 2, 4, 1, 5};
 static const uint8_t choices[] = {0, 1};
 static uint16_t rows[DW_ROWS_LENGTH];
 static uint8_t with_costs[DW_PLAN_LENGTH];
+static uint8_t in_form_2[DW_PLAN_LENGTH];
+static uint8_t in_form_1[DW_PLAN_LENGTH];
 static uint8_t schedule[DW_SCHEDULE_LENGTH];
 
 /* the number in so many bits from place `at` on, the most significant first */
@@ -55,12 +58,35 @@ static dw_count add_costs(void) {
     return dw_table_to_plan(2, rows, 5 * (size_t)opened.count, with_costs, sizeof with_costs);
 }
 
+static void print(const uint8_t *bytes, uint32_t len) {
+    printf("form %u, %u bytes:", (unsigned)bytes[0], (unsigned)len);
+    for (uint32_t k = 0; k < len; k++)
+        printf(" %02X", (unsigned)bytes[k]);
+    printf("\n");
+}
+
+/* turns a plan of form 1, as an archive has it, into form 2, where all its costs are 1, and back: 0, or the number of
+   the refusal */
+static uint32_t convert(void) {
+    dw_count there = dw_to_form_2(plan, sizeof plan, in_form_2, sizeof in_form_2);
+    if (there.refused)
+        return there.refused;
+    print(in_form_2, there.count);
+    dw_count back = dw_to_form_1(in_form_2, there.count, in_form_1, sizeof in_form_1);
+    if (back.refused)
+        return back.refused;
+    print(in_form_1, back.count);
+    return 0;
+}
+
 int main(void) {
     uint32_t refused = build(plan, sizeof plan);
     if (!refused) {
         dw_count closed = add_costs();
         refused = closed.refused ? closed.refused : build(with_costs, closed.count);
     }
+    if (!refused)
+        refused = convert();
     if (refused) {
         printf("refused %u\n", (unsigned)refused);
         return 1;

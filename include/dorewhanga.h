@@ -30,7 +30,7 @@
  * `refused` is 0 where the input is accepted, else the number of the cause, and all that stands beside it is then 0.
  *
  *      1  bits run out in a plan
- *      2  form is neither 1 nor 2
+ *      2  form is neither 1 nor 2, or not the one expected of a plan that is to be turned into the other form
  *      3  job count, frame, action count, sum or cost outside its range (1 to 256 jobs, frame 1 to 65,535, 1 to 255
  *         actions in a job, 1 to 2,048 in all, cost 1 to 15), or the cost in a table for form 1 is not 1
  *      4  a spawn rule is broken: every job but 0 is spawned exactly once, by a job of smaller number
@@ -44,6 +44,7 @@
  *         job's frame is equal in its rows, the third and the fourth number are at most 256
  *     11  schedule length, form (another than the plan's), worker count, action count, zero bits or a round of 0
  *     12  a schedule rule is broken
+ *     15  a plan of form 2 that is to be turned into form 1 has a cost other than 1
  *
  * From Rust, declare the functions in an `extern "C"` block and the structs with `#[repr(C)]`: `const uint8_t *` is
  * `*const u8`, `size_t` is `usize`, and `as_ptr()`, `as_mut_ptr()` and `len()` of a slice meet what is asked above.
@@ -106,6 +107,19 @@ dw_count dw_plan_to_table(const uint8_t *plan, size_t plan_len, uint16_t *rows, 
    count: the bytes written.
    Refusals, in this order: 2, 10, 3, 4, 5, 9. */
 dw_count dw_table_to_plan(uint32_t form, const uint16_t *rows, size_t rows_len, uint8_t *plan, size_t plan_len);
+
+/* Turns a plan of form 1 into form 2: writes the bytes, in form 2, of the plan that `plan` holds, with all costs 1.
+   `plan` is the whole plan and nothing more. What is written is accepted, has the same measures, runs to the same
+   tallies, rounds and workers, and dw_to_form_1 turns it back into the same bytes.
+   count: the bytes written.
+   Refusals, in this order: 1, 2 and 3 as the fields are read, where any form but 1 is 2; 6, 4, 5, 9. */
+dw_count dw_to_form_2(const uint8_t *plan, size_t plan_len, uint8_t *bytes, size_t bytes_len);
+
+/* Turns a plan of form 2 whose costs are all 1 into form 1: what dw_to_form_2 did is undone, and the other way round.
+   `plan` is the whole plan and nothing more.
+   count: the bytes written.
+   Refusals, in this order: 1, 2 and 3 as the fields are read, where any form but 2 is 2; 6, 4, 5, 15, 9. */
+dw_count dw_to_form_1(const uint8_t *plan, size_t plan_len, uint8_t *bytes, size_t bytes_len);
 
 /* Measures a plan. `plan` is the whole plan and nothing more.
    Refusals, in this order: 1, 2 and 3 as the fields are read, 6, 4, 5. */

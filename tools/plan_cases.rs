@@ -50,12 +50,12 @@ fn light() -> Vec<Job> {
 }
 
 /// Plan E, where nothing spawns job 2.
-fn never() -> Vec<Job> {
+pub fn never() -> Vec<Job> {
     e_with(0, 2, NONE)
 }
 
 /// Plan E, where job 2 joins position 3, right after its spawn.
-fn third() -> Vec<Job> {
+pub fn third() -> Vec<Job> {
     e_with(2, 0, join(3))
 }
 

@@ -130,3 +130,9 @@ pub fn large(frame: u32, last: usize, target: u32) -> Vec<Job> {
     }
     jobs
 }
+
+/// 256 jobs of eight actions: each but the last spawns the next at 0, and all actions of the next one join position 2.
+pub fn deep() -> Vec<Job> {
+    let action = |j: u32, i: u32| (if i == 0 && j < 255 { j + 2 } else { 0 }, if j > 0 { 3 } else { 0 }, 1);
+    (0..256).map(|j| (1, (0..8).map(|i| action(j, i)).collect())).collect()
+}

@@ -1,6 +1,6 @@
 //! A second runner, written from documents 01 and 02 alone, and inputs of `buildrun` with what they must give. It also carries out each
 //! tempting error and sees to it that some case tells it apart.
-use crate::plans::{chain, costed, e, e2, f, f2, input, join, large, one, plan, plan_2, plan_of, spawn, Job, NONE};
+use crate::plans::{chain, costed, deep, e, e2, f, f2, input, join, large, one, plan, plan_2, plan_of, spawn, Job, NONE};
 use crate::Cases;
 
 /// An action: the child's number plus 1 or 0, the join's target plus 1 or 0, and the cost.
@@ -620,12 +620,6 @@ fn refusals_2(c: &mut Cases) {
     refused("form_3_and_no_worker", input(0, &[], &third), 2);
 }
 
-/// 256 jobs of eight actions of cost 15: each but the last spawns the next at 0, and all actions of the next one join position 2.
-fn deep() -> Vec<Job> {
-    let action = |j: u32, i: u32| (if i == 0 && j < 255 { j + 2 } else { 0 }, if j > 0 { 3 } else { 0 }, 15);
-    (0..256).map(|j| (1, (0..8).map(|i| action(j, i)).collect())).collect()
-}
-
 /// The most choices, the most actions, the largest costs, and an input longer than 8,192 bytes.
 fn largest() -> Vec<Run> {
     let many: Vec<u8> = (0..4096).map(|k| (k % 2) as u8).collect();
@@ -634,7 +628,7 @@ fn largest() -> Vec<Run> {
         Run::new("choices_4096", &e(), 2, &many),
         Run::new_2("2048_of_15_with_1_worker", &wide, 1, &[]),
         Run::new_2("2048_of_15_with_16_workers", &wide, 16, &[0, 1, 2]),
-        Run::new_2("8701_bytes", &deep(), 2, &many),
+        Run::new_2("8701_bytes", &costed(deep(), &[15]), 2, &many),
     ]
 }
 

@@ -49,6 +49,14 @@ impl Sketch {
         self.jobs.iter().map(|job| job.actions.len()).sum()
     }
 
+    /// The same plan in this form.
+    pub fn in_form(&self, form: u32) -> Sketch {
+        Sketch {
+            form,
+            ..self.clone()
+        }
+    }
+
     /// The same plan in form 2, with costs by the action's number in the plan.
     pub fn costed(mut self, mut cost: impl FnMut(usize) -> u8) -> Sketch {
         self.form = 2;

@@ -45,6 +45,10 @@ extern "C" {
         plan: *mut u8,
         plan_len: usize,
     ) -> RawCount;
+    fn dw_to_form_2(plan: *const u8, plan_len: usize, bytes: *mut u8, bytes_len: usize)
+        -> RawCount;
+    fn dw_to_form_1(plan: *const u8, plan_len: usize, bytes: *mut u8, bytes_len: usize)
+        -> RawCount;
     fn dw_measure(plan: *const u8, plan_len: usize) -> RawMeasures;
     fn dw_run(
         plan: *const u8,
@@ -84,6 +88,18 @@ pub fn table_to_plan(form: u32, rows: &[u16], plan: &mut [u8]) -> Result<usize, 
             plan.len(),
         )
     };
+    answer(raw.refused, raw.count as usize, 0)
+}
+
+pub fn to_form_2(plan: &[u8], bytes: &mut [u8]) -> Result<usize, u32> {
+    // SAFETY: each pointer goes with the length of its own slice.
+    let raw = unsafe { dw_to_form_2(plan.as_ptr(), plan.len(), bytes.as_mut_ptr(), bytes.len()) };
+    answer(raw.refused, raw.count as usize, 0)
+}
+
+pub fn to_form_1(plan: &[u8], bytes: &mut [u8]) -> Result<usize, u32> {
+    // SAFETY: each pointer goes with the length of its own slice.
+    let raw = unsafe { dw_to_form_1(plan.as_ptr(), plan.len(), bytes.as_mut_ptr(), bytes.len()) };
     answer(raw.refused, raw.count as usize, 0)
 }
 

@@ -6,6 +6,7 @@
 
 mod bits;
 mod check;
+mod forms;
 mod input;
 mod measure;
 mod plan;
@@ -14,6 +15,7 @@ mod run;
 mod table;
 
 pub use check::check;
+pub use forms::{to_form_1, to_form_2};
 pub use input::{build, Counts};
 pub use measure::{measure, Measures};
 pub use run::{run, Tally};

@@ -30,6 +30,12 @@ impl Form {
         }
     }
 
+    /// The form of plan bytes, which is their first, and the fields behind it.
+    fn split(bytes: &[u8]) -> Result<(Self, &[u8]), u32> {
+        let (&form, fields) = bytes.split_first().ok_or(refusal::BITS)?;
+        Ok((Form::of(u32::from(form))?, fields))
+    }
+
     /// A cost that an action of this form may have.
     #[inline]
     pub fn cost(self, cost: u16) -> Result<u8, u32> {
@@ -197,12 +203,25 @@ impl Draft {
 impl Plan {
     /// The plan of these bytes, and their form.
     pub fn read(bytes: &[u8]) -> Result<(Form, Plan), u32> {
-        let mut reader = Reader::new(bytes);
+        let (form, fields) = Form::split(bytes)?;
+        Ok((form, Plan::read_fields(form, fields)?))
+    }
+
+    /// The plan of these bytes, which must be of this form.
+    pub fn read_as(form: Form, bytes: &[u8]) -> Result<Plan, u32> {
+        let (found, fields) = Form::split(bytes)?;
+        if found != form {
+            return Err(refusal::FORM);
+        }
+        Plan::read_fields(form, fields)
+    }
+
+    fn read_fields(form: Form, fields: &[u8]) -> Result<Plan, u32> {
+        let mut reader = Reader::new(fields);
         let field = |reader: &mut Reader, width| reader.take(width).ok_or(refusal::BITS);
-        let form = Form::of(field(&mut reader, 8)?)?;
         let jobs = field(&mut reader, 9)?;
         // An action takes two bits or more.
-        let mut draft = Draft::new(jobs as usize, bytes.len() * 4)?;
+        let mut draft = Draft::new(jobs as usize, fields.len() * 4)?;
         for _ in 0..jobs {
             let frame = field(&mut reader, 16)?;
             if frame == 0 {
@@ -223,7 +242,7 @@ impl Plan {
         if !reader.at_clean_end() {
             return Err(refusal::REST);
         }
-        Ok((form, draft.finish()?))
+        draft.finish()
     }
 
     /// Writes the plan's bytes and gives their number. In form 1 costs are not

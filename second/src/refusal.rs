@@ -2,7 +2,8 @@
 
 /// Bits run out in a plan, or bytes in the header of an input.
 pub const BITS: u32 = 1;
-/// A form is neither 1 nor 2: a plan's, or the one asked for of a table.
+/// A form is neither 1 nor 2: a plan's, or the one asked for of a table. Or it
+/// is not the one expected of a plan that is to be turned into the other form.
 pub const FORM: u32 = 2;
 /// A job count, frame, action count, sum or cost is outside its range.
 pub const RANGE: u32 = 3;
@@ -24,3 +25,5 @@ pub const TABLE: u32 = 10;
 pub const SCHEDULE: u32 = 11;
 /// A schedule rule is broken.
 pub const RULE: u32 = 12;
+/// A plan that is to be turned into form 1 has a cost other than 1.
+pub const COST: u32 = 15;

@@ -1,7 +1,8 @@
-//! The twelve starred cases, misses by their kind, and actions that take
-//! longer.
+//! The twelve starred cases, misses by their kind, actions that take longer,
+//! and plans turned into the other form.
 
 use second::{build, check, measure, plan_to_table, run, table_to_plan, Measures, Tally};
+use second::{to_form_1, to_form_2};
 
 const E: [u8; 18] = [
     0x01, 0x01, 0x80, 0x02, 0x02, 0xC0, 0x44, 0x08, 0x00, 0x00, 0x60, 0x42, 0x08, 0x00, 0x04, 0x02,
@@ -88,6 +89,15 @@ const CASE_4: [u8; 20] = [
     0x00, 0x30, 0x00, 0x41,
 ];
 
+/// The last round and the worker of each action, in a schedule of form 1.
+fn short_rows(schedule: &[u8]) -> Vec<(u16, u16)> {
+    schedule[4..]
+        .chunks(2)
+        .map(|pair| u16::from_be_bytes([pair[0], pair[1]]))
+        .map(|row| (row >> 4, row & 15))
+        .collect()
+}
+
 #[test]
 fn case_1() {
     let tally = tally_of(&one_job(), 1, &[]).unwrap();
@@ -114,12 +124,7 @@ fn case_4() {
     assert_eq!((t.requests, t.steals, misses(&t)), (3, 1, 2));
     assert_eq!(schedule[..20], CASE_4);
     assert_eq!(schedule[20..], [0xA5; 4]);
-    let rows: Vec<(u16, u16)> = schedule[4..20]
-        .chunks(2)
-        .map(|pair| u16::from_be_bytes([pair[0], pair[1]]))
-        .map(|row| (row >> 4, row & 15))
-        .collect();
-    assert_eq!(rows, CASE_4_ROWS);
+    assert_eq!(short_rows(&schedule[..20]), CASE_4_ROWS);
     assert_eq!(check(&E, &CASE_4), Ok(()));
 }
 
@@ -592,12 +597,9 @@ fn workers_of_a_long_schedule() {
 }
 
 /// Each of 256 jobs but the last spawns the next one at 0, whose eight actions,
-/// of cost 15, join position 2. With 4,096 choices in front, such a plan ends
-/// behind byte 8,192 of its input. The costliest chain goes down through all
-/// positions 0, and up again through positions 2 to 7.
-#[test]
-fn the_largest_run() {
-    let rows: Vec<u16> = (0..256 * 8)
+/// all of this cost, join position 2.
+fn largest_rows(cost: u16) -> Vec<u16> {
+    (0..256 * 8)
         .flat_map(|row| {
             let (job, position) = (row / 8, row % 8);
             let child = if position == 0 && job < 255 {
@@ -606,10 +608,17 @@ fn the_largest_run() {
                 0
             };
             let target = if job > 0 { 3 } else { 0 };
-            [job, 1, child, target, 15]
+            [job, 1, child, target, cost]
         })
-        .collect();
-    let plan = plan_in(2, &rows);
+        .collect()
+}
+
+/// With 4,096 choices in front, such a plan ends behind byte 8,192 of its
+/// input. The costliest chain goes down through all positions 0, and up again
+/// through positions 2 to 7.
+#[test]
+fn the_largest_run() {
+    let plan = plan_in(2, &largest_rows(15));
     let header = [1, 0x10, 0x00];
     let input = [&header[..], &[0; 4096], &plan].concat();
     assert_eq!(input.len(), 8701);
@@ -627,4 +636,254 @@ fn the_largest_run() {
     // Of a longer input the first 16,384 bytes count.
     let longer = [&input[..], &[0; 16_384]].concat();
     assert_eq!(build(&longer), Err(6));
+}
+
+/// E in form 2, with all costs 1.
+const E_IN_2: [u8; 22] = [
+    0x02, 0x01, 0x80, 0x02, 0x02, 0xC0, 0x42, 0x0C, 0x08, 0x20, 0x82, 0x00, 0x06, 0x04, 0x0A, 0x08,
+    0x20, 0x00, 0x40, 0x28, 0x20, 0x80,
+];
+
+/// Case 4's schedule, in form 2.
+const CASE_4_IN_2: [u8; 24] = [
+    0x02, 0x10, 0x04, 0x00, 0x00, 0x01, 0x00, 0x00, 0x21, 0x00, 0x03, 0x10, 0x00, 0x51, 0x00, 0x06,
+    0x10, 0x00, 0x20, 0x00, 0x03, 0x00, 0x00, 0x41,
+];
+
+/// One of the two calls that turn a plan into the other form.
+type Turn = fn(&[u8], &mut [u8]) -> Result<usize, u32>;
+
+/// What a call writes into a buffer of this length. All that is not its answer
+/// must be kept, so on a refusal the whole buffer.
+fn turned_into(turn: Turn, plan: &[u8], length: usize) -> Result<Vec<u8>, u32> {
+    let mut bytes = vec![0xA5; length];
+    let answer = turn(plan, &mut bytes);
+    let kept = bytes.split_off(answer.unwrap_or(0));
+    assert!(kept.iter().all(|&byte| byte == 0xA5));
+    answer.map(|_| bytes)
+}
+
+fn turned(turn: Turn, plan: &[u8]) -> Result<Vec<u8>, u32> {
+    turned_into(turn, plan, 6403)
+}
+
+/// A plan with these bytes at a place.
+fn with<const N: usize>(plan: &[u8], at: usize, bytes: [u8; N]) -> Vec<u8> {
+    let mut plan = plan.to_vec();
+    plan[at..at + N].copy_from_slice(&bytes);
+    plan
+}
+
+/// Tables whose costs are all 1, of one action up to 2,048.
+fn plain_tables() -> [Vec<u16>; 6] {
+    [
+        vec![0, 1, 0, 0, 1],
+        e_rows(4).to_vec(),
+        F_ROWS.to_vec(),
+        G_ROWS.to_vec(),
+        H_ROWS.to_vec(),
+        largest_rows(1),
+    ]
+}
+
+#[test]
+fn e_turned_into_form_2_and_back() {
+    assert_eq!(turned(to_form_2, &E).unwrap(), E_IN_2);
+    assert_eq!(turned(to_form_1, &E_IN_2).unwrap(), E);
+    let one = [0x02, 0x00, 0x80, 0x00, 0x80, 0x82];
+    assert_eq!(turned(to_form_2, &one_job()).unwrap(), one);
+    assert_eq!(turned(to_form_1, &one).unwrap(), one_job());
+}
+
+#[test]
+fn e2_and_plans_that_have_the_form_already() {
+    assert_eq!(turned(to_form_1, &E2), Err(15));
+    assert_eq!(turned(to_form_2, &E2), Err(2));
+    assert_eq!(turned(to_form_1, &E), Err(2));
+    assert_eq!(turned(to_form_2, &E_IN_2), Err(2));
+}
+
+#[test]
+fn there_and_back_from_either_side() {
+    for rows in plain_tables() {
+        let (old, new) = (plan_in(1, &rows), plan_in(2, &rows));
+        assert_eq!(turned(to_form_2, &old).as_ref(), Ok(&new));
+        assert_eq!(turned(to_form_1, &new).as_ref(), Ok(&old));
+    }
+}
+
+#[test]
+fn the_form_not_expected() {
+    for (turn, plan) in [(to_form_2 as Turn, &E[..]), (to_form_1, &E_IN_2)] {
+        // Without any byte bits run out, and they do behind the right form.
+        assert_eq!(turned(turn, &[]), Err(1));
+        assert_eq!(turned(turn, &plan[..1]), Err(1));
+        for form in (0..=255).filter(|&form| form != plan[0]) {
+            for rest in [&plan[1..], &[], &[0; 2], &[0xFF; 30]] {
+                let other = [&[form], rest].concat();
+                assert_eq!(turned(turn, &other), Err(2));
+                assert_eq!(turned_into(turn, &other, 0), Err(2));
+            }
+        }
+    }
+}
+
+/// In both plans the end of the first child's number begins byte 6, and job 2's
+/// join has its target in the last bytes, where it can name position 3.
+#[test]
+fn refusals_of_reading_come_as_ever() {
+    for (turn, plan, tail) in [
+        (to_form_2 as Turn, &E[..], [0x81, 0x80]),
+        (to_form_1, &E_IN_2, [0x18, 0x80]),
+    ] {
+        for length in 1..plan.len() {
+            assert_eq!(turned(turn, &plan[..length]), Err(1));
+        }
+        // No jobs, and a frame of 0 behind which bits run out.
+        assert_eq!(turned(turn, &[plan[0], 0, 0]), Err(3));
+        assert_eq!(turned(turn, &[plan[0], 0, 0x80, 0, 0]), Err(3));
+
+        let join = with(plan, plan.len() - 2, tail);
+        let spawn = with(&join, 6, [plan[6] | 0x80]);
+        let fill = with(&spawn, plan.len() - 1, [tail[1] | 1]);
+        let longer = [&spawn[..], &[0]].concat();
+        for (broken, number) in [(fill, 6), (longer, 6), (spawn, 4), (join, 5)] {
+            assert_eq!(turned(turn, &broken), Err(number));
+            assert_eq!(turned_into(turn, &broken, 0), Err(number));
+        }
+    }
+}
+
+/// The last two bytes of one job with two actions have both costs. The first one
+/// is 2, so 15 is due if nothing goes before it.
+#[test]
+fn a_cost_other_than_1_comes_after_all_of_reading() {
+    let of = |tail: &[u8]| turned_into(to_form_1, &[&[2, 0, 0x80, 0, 0x81], tail].concat(), 0);
+    assert_eq!(of(&[0x04, 0x08]), Err(15));
+    assert_eq!(of(&[0x04]), Err(1));
+    assert_eq!(of(&[0x04, 0x00]), Err(3));
+    assert_eq!(of(&[0x04, 0x09]), Err(6));
+    assert_eq!(of(&[0x04, 0x08, 0x00]), Err(6));
+    // With all costs 1 only the buffer is too short.
+    assert_eq!(of(&[0x02, 0x08]), Err(9));
+
+    let join = with(&E2, 20, [0x1A]);
+    let spawn = with(&join, 6, [0xC4]);
+    for (plan, number) in [(&spawn[..], 4), (&join, 5), (&E2, 15)] {
+        assert_eq!(turned(to_form_1, plan), Err(number));
+        assert_eq!(turned_into(to_form_1, plan, 0), Err(number));
+    }
+}
+
+/// Wherever the one cost stands that is not 1.
+#[test]
+fn every_cost_but_1() {
+    for action in 0..8 {
+        for cost in 2..=15 {
+            let mut costs = [1; 8];
+            costs[action] = cost;
+            let plan = plan_in(2, &costed_e_rows(4, costs));
+            assert_eq!(turned(to_form_1, &plan), Err(15));
+        }
+    }
+}
+
+#[test]
+fn a_buffer_too_short_for_the_other_form() {
+    for (turn, plan, other) in [
+        (to_form_2 as Turn, &E[..], &E_IN_2[..]),
+        (to_form_1, &E_IN_2, &E),
+    ] {
+        for length in 0..other.len() {
+            assert_eq!(turned_into(turn, plan, length), Err(9));
+        }
+        for length in other.len()..other.len() + 10 {
+            assert_eq!(turned_into(turn, plan, length).unwrap(), other);
+        }
+    }
+}
+
+/// The same by way of the open table, which is refused with 3 if form 1 is asked
+/// for and a cost is not 1.
+fn turned_by_table(from: u8, to: u32, plan: &[u8]) -> Result<Vec<u8>, u32> {
+    if plan[0] != from {
+        return Err(2);
+    }
+    let mut rows = [0; 64];
+    let count = plan_to_table(plan, &mut rows)?;
+    let mut bytes = [0; 64];
+    match table_to_plan(to, &rows[..5 * count], &mut bytes) {
+        Ok(length) => Ok(bytes[..length].to_vec()),
+        Err(number) => Err(if number == 3 { 15 } else { number }),
+    }
+}
+
+#[test]
+fn plans_that_differ_in_a_byte() {
+    for plan in [&E[..], &E2, &E_IN_2, &ONE_OF_3] {
+        for at in 0..plan.len() {
+            for byte in 0..=255 {
+                let plan = with(plan, at, [byte]);
+                assert_eq!(
+                    turned_into(to_form_2, &plan, 64),
+                    turned_by_table(1, 2, &plan)
+                );
+                assert_eq!(
+                    turned_into(to_form_1, &plan, 64),
+                    turned_by_table(2, 1, &plan)
+                );
+            }
+        }
+    }
+}
+
+#[test]
+fn case_4_in_either_form() {
+    let mut schedule = [0xA5; 26];
+    let t = run(&E_IN_2, 2, &[0, 1], &mut schedule).unwrap();
+    assert_eq!(counts_of(t), [6, 8, 4, 3, 1, 1, 1, 7]);
+    assert_eq!(Ok(t), tally_of(&E, 2, &[0, 1]));
+    assert_eq!(schedule[..24], CASE_4_IN_2);
+    assert_eq!(schedule[24..], [0xA5; 2]);
+    assert_eq!(long_schedule(2, &CASE_4_ROWS), CASE_4_IN_2);
+    assert_eq!(check(&E_IN_2, &CASE_4_IN_2), Ok(()));
+    // A buffer may have room for the schedule of form 1 alone.
+    assert_eq!(run(&E, 2, &[0, 1], &mut [0; 20]), Ok(t));
+    assert_eq!(run(&E_IN_2, 2, &[0, 1], &mut [0; 20]), Err(9));
+}
+
+#[test]
+fn both_forms_run_alike() {
+    for rows in plain_tables() {
+        let old = plan_of(&rows);
+        let new = turned(to_form_2, &old).unwrap();
+        assert_eq!(measure(&old), measure(&new));
+        for workers in 0..=17 {
+            for choices in [
+                &[][..],
+                &[0],
+                &[0, 1],
+                &[1, 0, 2, 1],
+                &[5, 0, 3, 15, 0, 8, 1],
+            ] {
+                run_alike(&old, &new, workers, choices);
+            }
+        }
+    }
+}
+
+/// Runs a plan in both forms, to the same refusal or to the same tally and rows.
+fn run_alike(old: &[u8], new: &[u8], workers: u32, choices: &[u8]) {
+    let actions = measure(old).unwrap().total as usize;
+    let mut short = vec![0; 4 + 2 * actions];
+    let mut long = vec![0; 4 + (20 * actions).div_ceil(8)];
+    let tally = run(old, workers, choices, &mut short);
+    assert_eq!(run(new, workers, choices, &mut long), tally);
+    if tally.is_ok() {
+        assert_eq!(long, long_schedule(workers as u8, &short_rows(&short)));
+        assert_eq!(check(old, &short), Ok(()));
+        assert_eq!(check(new, &long), Ok(()));
+    } else {
+        assert!(matches!(tally, Err(7 | 8)));
+    }
 }

@@ -15,6 +15,8 @@ const TOGETHER: usize = 8;
 /// A call on one plan again and again would learn its branches by heart.
 const PLANS: usize = 64;
 
+const WORKERS: [u32; 3] = [1, 4, 16];
+
 const LARGEST: Wish = Wish {
     shape: Shape::Recent,
     jobs: MAX_JOBS,
@@ -122,9 +124,34 @@ fn readings(plans: &[Vec<u8>], which: &str) {
     line(&format!("measure{which}"), times);
 }
 
+/// Turns plans of form 1 into form 2, and those into form 1 again; gives the plans of form 2.
+fn forms(plans: &[Vec<u8>]) -> Vec<Vec<u8>> {
+    let turned: Vec<Vec<u8>> = plans
+        .iter()
+        .map(|plan| {
+            let mut bytes = vec![0; 8 * MAX_ACTIONS];
+            let count = second::to_form_2(plan, &mut bytes).expect("the plan is of form 1");
+            bytes.truncate(count);
+            bytes
+        })
+        .collect();
+    let mut bytes = (vec![0; 8 * MAX_ACTIONS], vec![0; 8 * MAX_ACTIONS]);
+    let times = medians(
+        |k| proved::to_form_2(&plans[k], &mut bytes.0),
+        |k| second::to_form_2(&plans[k], &mut bytes.1),
+    );
+    line("form 1 into form 2", times);
+    let times = medians(
+        |k| proved::to_form_1(&turned[k], &mut bytes.0),
+        |k| second::to_form_1(&turned[k], &mut bytes.1),
+    );
+    line("form 2 into form 1, all costs 1", times);
+    turned
+}
+
 /// Runs with mixed choices, and checks of the schedules that they write.
-fn runs(random: &mut Random, plans: &[Vec<u8>], which: &str) {
-    for workers in [1, 4, 16] {
+fn runs(random: &mut Random, plans: &[Vec<u8>], counts: &[u32], which: &str) {
+    for &workers in counts {
         let choices = any_list(random, workers);
         let times = run(plans, workers, &choices);
         line(&format!("run, P {workers}, mixed choices{which}"), times);
@@ -157,7 +184,7 @@ fn main() {
     println!("|---|---:|---:|---:|");
 
     readings(&plans, "");
-    runs(&mut random, &plans, "");
+    runs(&mut random, &plans, &WORKERS, "");
     for victim in [0, 15] {
         let times = run(&plans, 16, &[victim; MAX_CHOICES]);
         line(&format!("run, P 16, all choose worker {victim}"), times);
@@ -175,15 +202,20 @@ fn main() {
     let times = run(&chains, 16, &any_list(&mut random, 16));
     line("run of a chain of jobs, P 16, mixed choices", times);
 
+    // The same plans in the other form, with other choices.
+    let plans = forms(&plans);
+    let mut own = Random(0x5EED_000B);
+    runs(&mut own, &plans, &WORKERS[1..], ", form 2, all costs 1");
+
     let costed = |costs| Wish {
         costs: Some(costs),
         ..LARGEST
     };
     let plans = plans_of(&mut random, costed(Costs::Any));
     readings(&plans, ", form 2, mixed costs");
-    runs(&mut random, &plans, ", form 2, mixed costs");
+    runs(&mut random, &plans, &WORKERS, ", form 2, mixed costs");
     let plans = plans_of(&mut random, costed(Costs::Largest));
-    runs(&mut random, &plans, ", form 2, all costs 15");
+    runs(&mut random, &plans, &WORKERS, ", form 2, all costs 15");
 
     println!("\nA run with P 4 as plans grow, over {PLANS} of each size:\n");
     println!("| Actions | proved | second | proved / second |");

@@ -1,6 +1,7 @@
 //! One call of each implementation and what must be equal afterwards.
 
 use compare::claims::Facts;
+use compare::inputs::FORMS;
 use compare::proved;
 use compare::schedules;
 use second::{Measures, Tally};
@@ -13,6 +14,8 @@ pub const SCHEDULE_ROOM: usize = 5_124;
 
 /// Numbers that are no form, some of which are one in their low bits.
 pub const NO_FORMS: [u32; 9] = [0, 3, 4, 255, 256, 257, 258, 1 << 16 | 1, u32::MAX];
+
+type Convert = fn(&[u8], &mut [u8]) -> Result<usize, u32>;
 
 /// Counts what was compared, and stops at the first difference.
 #[derive(Default)]
@@ -46,6 +49,23 @@ fn differ(what: &str, input: &[(&str, String)], proved: &dyn Debug, second: &dyn
         writeln!(text, "{name}: {value}").expect("a string takes it");
     }
     panic!("{text}proved: {proved:?}\nsecond: {second:?}\n");
+}
+
+/// Whether the costs of these rows can be written in this form.
+pub fn fits(form: u32, rows: &[u16]) -> bool {
+    form == 2 || rows.chunks_exact(5).all(|row| row[4] == 1)
+}
+
+/// What must be told of a plan that is to be turned into a form, if there is
+/// room: first of its own form, then of whatever else is read, then of its
+/// costs, which are all 1 where the work is the number of actions.
+fn refusal(form: u32, plan: &[u8], measures: Result<Measures, u32>) -> Option<u32> {
+    match (plan.first(), measures) {
+        (None, _) => Some(1),
+        (Some(&own), _) if u32::from(own) != 3 - form => Some(2),
+        (_, Err(refused)) => Some(refused),
+        (_, Ok(measures)) => (form == 1 && measures.work != measures.total).then_some(15),
+    }
 }
 
 /// Answers and buffers of both calls, held against each other.
@@ -161,54 +181,119 @@ impl Both {
         second
     }
 
+    /// Measures a plan and turns it into each form, with no room and with
+    /// enough: form 2 takes at most three times the bits of form 1.
+    pub fn read(&mut self, plan: &[u8]) -> Result<Measures, u32> {
+        let measures = self.measure(plan);
+        for form in FORMS {
+            let told = refusal(form, plan, measures);
+            let none = self.convert(form, plan, 0).err();
+            let converted = self.convert(form, plan, 3 * plan.len());
+            if (none, converted.as_ref().err()) != (told.or(Some(9)), told.as_ref()) {
+                let input = [("form", form.to_string()), ("plan", hex(plan, 2))];
+                differ("a plan in a form", &input, &(none, converted), &told);
+            }
+            if let Ok(converted) = converted {
+                self.back(plan, &converted, measures);
+            }
+        }
+        measures
+    }
+
+    /// There and back are the same bytes, with the same measures in between.
+    fn back(&mut self, plan: &[u8], converted: &[u8], measures: Result<Measures, u32>) {
+        let there = self.measure(converted);
+        let back = self.convert(plan[0].into(), converted, plan.len());
+        if (there, back.as_deref()) != (measures, Ok(plan)) {
+            let input = [("plan", hex(plan, 2)), ("converted", hex(converted, 2))];
+            differ("there and back", &input, &there, &back);
+        }
+    }
+
+    /// Lets both write over `before` and gives back what they wrote: as many
+    /// times `width` numbers as their answer says.
+    fn written<N: Clone + Debug + PartialEq>(
+        &mut self,
+        what: &str,
+        before: &[N],
+        width: usize,
+        proved: impl Fn(&mut [N]) -> Result<usize, u32>,
+        second: impl Fn(&mut [N]) -> Result<usize, u32>,
+        input: &dyn Fn() -> Vec<(&'static str, String)>,
+    ) -> Result<Vec<N>, u32> {
+        self.calls += 1;
+        let mut buffers = (before.to_vec(), before.to_vec());
+        let proved = proved(&mut buffers.0);
+        let second = second(&mut buffers.1);
+        let used = width * second.unwrap_or(0);
+        Outcome {
+            what,
+            proved: (proved, &buffers.0),
+            second: (second, &buffers.1),
+            before,
+            used,
+        }
+        .settle(input);
+        buffers.1.truncate(used);
+        second.map(|_| buffers.1)
+    }
+
     /// Opens a plan into a table of `room` numbers and gives the table back.
     pub fn plan_to_table(&mut self, plan: &[u8], room: usize) -> Result<Vec<u16>, u32> {
-        self.calls += 1;
-        let before = wide_pattern(room);
-        let mut tables = (before.clone(), before.clone());
-        let proved = proved::plan_to_table(plan, &mut tables.0);
-        let second = second::plan_to_table(plan, &mut tables.1);
-        Outcome {
-            what: "plan to table",
-            proved: (proved, &tables.0),
-            second: (second, &tables.1),
-            before: &before,
-            used: 5 * second.unwrap_or(0),
-        }
-        .settle(&|| vec![("plan", hex(plan, 2)), ("room", room.to_string())]);
-        tables.1.truncate(5 * second?);
-        Ok(tables.1)
+        self.written(
+            "plan to table",
+            &wide_pattern(room),
+            5,
+            |rows| proved::plan_to_table(plan, rows),
+            |rows| second::plan_to_table(plan, rows),
+            &|| vec![("plan", hex(plan, 2)), ("room", room.to_string())],
+        )
     }
 
     /// Closes a table into a plan of `room` bytes and gives the plan back.
     pub fn table_to_plan(&mut self, form: u32, rows: &[u16], room: usize) -> Result<Vec<u8>, u32> {
-        self.calls += 1;
-        let before = pattern(room);
-        let mut plans = (before.clone(), before.clone());
-        let proved = proved::table_to_plan(form, rows, &mut plans.0);
-        let second = second::table_to_plan(form, rows, &mut plans.1);
-        Outcome {
-            what: "table to plan",
-            proved: (proved, &plans.0),
-            second: (second, &plans.1),
-            before: &before,
-            used: second.unwrap_or(0),
-        }
-        .settle(&|| {
-            vec![
-                ("form", form.to_string()),
-                ("rows", hex(rows, 4)),
-                ("room", room.to_string()),
-            ]
-        });
-        plans.1.truncate(second?);
-        Ok(plans.1)
+        self.written(
+            "table to plan",
+            &pattern(room),
+            1,
+            |plan| proved::table_to_plan(form, rows, plan),
+            |plan| second::table_to_plan(form, rows, plan),
+            &|| {
+                vec![
+                    ("form", form.to_string()),
+                    ("rows", hex(rows, 4)),
+                    ("room", room.to_string()),
+                ]
+            },
+        )
+    }
+
+    /// Turns a plan into a form in `room` bytes and gives the bytes back.
+    pub fn convert(&mut self, form: u32, plan: &[u8], room: usize) -> Result<Vec<u8>, u32> {
+        let (proved, second): (Convert, Convert) = match form {
+            1 => (proved::to_form_1, second::to_form_1),
+            _ => (proved::to_form_2, second::to_form_2),
+        };
+        self.written(
+            "convert",
+            &pattern(room),
+            1,
+            |bytes| proved(plan, bytes),
+            |bytes| second(plan, bytes),
+            &|| {
+                vec![
+                    ("form", form.to_string()),
+                    ("plan", hex(plan, 2)),
+                    ("room", room.to_string()),
+                ]
+            },
+        )
     }
 
     /// Everything there is to say of plan bytes that may be turned down.
     pub fn all_of_plan(&mut self, plan: &[u8], schedule: &[u8]) {
         let answers = [
-            self.measure(plan).map(|_| ()),
+            self.read(plan).map(|_| ()),
             self.plan_to_table(plan, ROWS_ROOM).map(|_| ()),
             self.run(plan, 2, &[0, 1, 0], SCHEDULE_ROOM).map(|_| ()),
         ];
@@ -236,7 +321,7 @@ impl Both {
             differ("rows close to their plan", &input(), &closed, &closed);
         }
         self.other_forms(form, rows);
-        match self.measure(plan) {
+        match self.read(plan) {
             Ok(measures) => Facts::new(form, rows, measures),
             Err(refused) => differ("a plan of the rules is refused", &input(), &refused, &()),
         }
@@ -246,11 +331,10 @@ impl Both {
     /// back where it fits the costs, and in one that is none.
     fn other_forms(&mut self, form: u32, rows: &[u16]) {
         let other = 3 - form;
-        let fits = other == 2 || rows.chunks_exact(5).all(|row| row[4] == 1);
         let again = self
             .table_to_plan(other, rows, 2 * rows.len())
             .and_then(|plan| self.plan_to_table(&plan, rows.len()));
-        let wanted = if fits { Ok(rows) } else { Err(&3) };
+        let wanted = if fits(other, rows) { Ok(rows) } else { Err(&3) };
         if again.as_deref() != wanted {
             let input = [("form", other.to_string()), ("rows", hex(rows, 4))];
             differ("rows close in another form", &input, &again, &wanted);

@@ -1,6 +1,6 @@
 //! Buffers that are too short, just right, or longer.
 
-use crate::both::Both;
+use crate::both::{fits, Both};
 use compare::inputs::{any_choices, any_plan, Sketch, FORMS};
 use compare::random::Random;
 use compare::schedules;
@@ -31,17 +31,20 @@ fn every_length(both: &mut Both, random: &mut Random, sketch: &Sketch) {
         let answer = both.plan_to_table(&plan, room);
         assert_eq!(answer.err(), (room < rows.len()).then_some(9));
     }
-    // In each form that has room for the costs.
-    for form in FORMS.into_iter().filter(|&form| form >= sketch.form) {
-        let need = Sketch {
-            form,
-            ..sketch.clone()
-        }
-        .bytes()
-        .len();
+    for form in FORMS {
+        let need = sketch.in_form(form).bytes().len();
+        // What is told of the plan's form or of its costs goes before the room.
+        let (closed, converted) = match fits(form, &rows) {
+            _ if form == sketch.form => (None, Some(2)),
+            true => (None, None),
+            false => (Some(3), Some(15)),
+        };
         for room in 0..=need + 20 {
+            let short = (room < need).then_some(9);
             let answer = both.table_to_plan(form, &rows, room);
-            assert_eq!(answer.err(), (room < need).then_some(9));
+            assert_eq!(answer.err(), closed.or(short));
+            let answer = both.convert(form, &plan, room);
+            assert_eq!(answer.err(), converted.or(short));
         }
     }
 }

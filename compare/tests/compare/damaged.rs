@@ -1,6 +1,6 @@
 //! Inputs that were good until something touched them.
 
-use crate::both::{Both, NO_FORMS, ROWS_ROOM, SCHEDULE_ROOM};
+use crate::both::{Both, NO_FORMS, PLAN_ROOM, ROWS_ROOM, SCHEDULE_ROOM};
 use compare::claims::Facts;
 use compare::inputs::{
     any_choices, any_plan, Aim, Costs, Shape, Sketch, Wish, COSTS, FORMS, MAX_ACTIONS, MAX_COST,
@@ -86,7 +86,7 @@ pub fn plans(both: &mut Both) {
         for at in 0..large.len() {
             let mut copy = large.clone();
             copy[at] ^= 1 << random.below(8);
-            let _ = both.measure(&copy);
+            let _ = both.read(&copy);
             assert_eq!(both.measure(&large[..at]), Err(1));
         }
     }
@@ -139,6 +139,7 @@ pub fn plans(both: &mut Both) {
         let opened = both.plan_to_table(&plan, 5 * sketch.actions());
         let closed = both.table_to_plan(sketch.form, &sketch.rows(), plan.len());
         assert_eq!(opened.is_ok(), closed.is_ok());
+        assert_eq!(both.read(&plan).err(), opened.err());
         both.generated += 1;
     }
 }
@@ -174,7 +175,7 @@ fn no_cost(both: &mut Both, random: &mut Random) {
                 .bytes();
             let mut told = 1;
             for length in 0..=plan.len() {
-                let answer = both.measure(&plan[..length]);
+                let answer = both.read(&plan[..length]);
                 if answer == Err(3) {
                     told = 3;
                 }
@@ -365,8 +366,7 @@ fn other_form(both: &mut Both, plan: &[u8], schedule: &Schedule) {
     other[0] = 3 - other[0];
     assert_eq!(both.check(plan, &other), Err(11));
     // The other form's plan is another plan to the schedule.
-    let rows = both.plan_to_table(plan, ROWS_ROOM).expect("a good plan");
-    if let Ok(plan) = both.table_to_plan(3 - schedule.form, &rows, 2 * rows.len()) {
+    if let Ok(plan) = both.convert(3 - schedule.form, plan, PLAN_ROOM) {
         assert_eq!(both.check(&plan, &schedule.bytes()), Err(11));
     }
 }

@@ -296,14 +296,14 @@ fn sizes(both: &mut Both) {
         assert_eq!(told, Err(3));
     }
     for sketch in in_forms(vec![job(0)]) {
-        assert_eq!(both.measure(&sketch.bytes()), Err(3));
+        assert_eq!(both.read(&sketch.bytes()), Err(3));
     }
     for frame in [0, 1, 2, 255, 256, u16::MAX - 1, u16::MAX] {
         for mut sketch in in_forms(vec![job(1)]) {
             sketch.jobs[0].frame = frame;
             let closed = both.table_to_plan(sketch.form, &sketch.rows(), 99);
             assert_eq!(closed.is_ok(), frame > 0);
-            assert_eq!(both.measure(&sketch.bytes()).is_ok(), frame > 0);
+            assert_eq!(both.read(&sketch.bytes()).is_ok(), frame > 0);
         }
     }
 
@@ -316,7 +316,7 @@ fn sizes(both: &mut Both) {
         };
         for sketch in in_forms(vec![job(1); jobs]) {
             let plan = sketch.bytes();
-            assert_eq!(both.measure(&plan).err().unwrap_or(0), refusal);
+            assert_eq!(both.read(&plan).err().unwrap_or(0), refusal);
             let told = both.table_to_plan(sketch.form, &sketch.rows(), PLAN_ROOM);
             let wanted = if jobs == 0 { 10 } else { refusal };
             assert_eq!(told.err().unwrap_or(0), wanted);
@@ -337,7 +337,7 @@ fn sizes(both: &mut Both) {
     for sketch in in_forms(jobs) {
         let plan = sketch.bytes();
         for length in 0..=plan.len() {
-            both.measure(&plan[..length]).expect_err("it is too large");
+            both.read(&plan[..length]).expect_err("it is too large");
         }
     }
 

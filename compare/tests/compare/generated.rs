@@ -1,9 +1,9 @@
 //! Plans and lists from the generator.
 
-use crate::both::{Both, SCHEDULE_ROOM};
-use compare::inputs::{any_choices, any_plan, Sketch, MAX_CHOICES};
+use crate::both::Both;
+use compare::inputs::{any_choices, any_plan, MAX_CHOICES};
 use compare::random::Random;
-use compare::schedules::{self, Schedule};
+use compare::schedules;
 
 const PLANS: usize = 20_000;
 
@@ -20,32 +20,6 @@ pub fn runs(both: &mut Both) {
             both.run_claimed(&plan, &facts, workers as u32, &choices);
             both.generated += 1;
         }
-    }
-}
-
-/// A plan whose costs are all 1 gives the same run in both forms.
-pub fn both_forms(both: &mut Both) {
-    let mut random = Random(0x5EED_000A);
-    for _ in 0..4_000 {
-        let two = any_plan(&mut random).costed(|_| 1);
-        let one = Sketch {
-            form: 1,
-            ..two.clone()
-        };
-        let plans = [one.bytes(), two.bytes()];
-        assert_eq!(both.measure(&plans[0]), both.measure(&plans[1]));
-        let workers = random.within(1, 16);
-        let choices = any_choices(&mut random, workers);
-        let runs = plans.map(|plan| {
-            let (tally, schedule) = both
-                .run(&plan, workers as u32, &choices, SCHEDULE_ROOM)
-                .expect("the plan keeps the rules");
-            both.generated += 1;
-            let schedule = Schedule::read(&schedule).expect("a run wrote it");
-            assert_eq!(schedule.form, plan[0].into());
-            (tally, schedule.rows)
-        });
-        assert_eq!(runs[0], runs[1]);
     }
 }
 

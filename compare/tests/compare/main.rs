@@ -4,6 +4,7 @@ mod both;
 mod buffers;
 mod damaged;
 mod extreme;
+mod forms;
 mod generated;
 mod small;
 
@@ -17,7 +18,7 @@ fn main() {
         ("small plans with costs, all lists", small::costed_plans),
         ("small plans, any numbers", small::any_numbers),
         ("generated runs", generated::runs),
-        ("runs in both forms", generated::both_forms),
+        ("runs in both forms", forms::runs),
         ("runs turned down", generated::turned_down),
         ("extremes", extreme::all),
         ("damaged plans", damaged::plans),

@@ -69,7 +69,8 @@ pub fn costed_plans(both: &mut Both) {
 /// Plans of at most three jobs and five actions with any children from 1 to 2
 /// and any targets from 0 to 4; beyond four actions job 0 sends no join.
 /// Up to four actions also in form 2. Nearly all break a rule, so only what
-/// the reader says is compared.
+/// the reader says is compared. Up to three in form 1 and all in form 2 are
+/// turned into each form.
 pub fn any_numbers(both: &mut Both) {
     for total in 1..=5 {
         for jobs in 1..=total.min(3) {
@@ -104,8 +105,11 @@ fn fill(both: &mut Both, counts: &[usize], root_silent: bool) {
         if let Err(refused) = answer {
             assert!(refused == 4 || refused == 5);
         }
+        if sketch.actions() <= 3 {
+            assert_eq!(both.read(&sketch.bytes()), answer);
+        }
         if sketch.actions() <= 4 {
-            let costed = both.measure(&digits.costs(&sketch).bytes());
+            let costed = both.read(&digits.costs(&sketch).bytes());
             assert_eq!(costed.err(), answer.err());
         }
         if !advance(&mut sketch, root_silent) {

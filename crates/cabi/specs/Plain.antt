@@ -1,11 +1,14 @@
 -- What the exported functions answer, as plain numbers: the refusal's number, 0 for none, then what was asked for, or 0s.
 --   countOf, measuresOf, tallyOf      == the numbers of an outcome
 --   checkOf                           == the number of a judgement
+--   Converted from to plan r bytes    == what was written holds the plan that was given, in the other form
 --   Claimed plan n choices r schedule == demand 3's claim and the sums, of what was returned and written
 use Prim.Native.Nat.{ℕ}
 use mathlib.Core.Path.{_≡_}
 use mathlib.Core.List.{List}
+use lib.ListN.{take}
 use Rattle.plan.specs.Refusal.{Outcome, refused, accepted}
+use Rattle.plan.specs.Plan.{Plan}
 use Rattle.plan.specs.Reader.{Read, readPlan}
 use Rattle.plan_measure.specs.declared.Measures.{Measures}
 use Rattle.runs.specs.declared.tally.Tally.{Tally}
@@ -42,6 +45,13 @@ tallyOf (accepted t) =
 abbrev pub checkOf : Outcome ℕ → ℕ
 checkOf (refused k) = k
 checkOf (accepted n) = 0
+
+-- where nothing is refused
+abbrev pub Converted : (from to : ℕ) → List ℕ → DwCount → List ℕ → Type 0
+Converted from to plan r bytes =
+    r .refused ≡ 0
+    → (p : Plan) × (readPlan plan ≡ accepted (record { form = from; plan = p }))
+    × (readPlan (take (r .count) bytes) ≡ accepted (record { form = to; plan = p }))
 
 -- where nothing is refused, the plan was accepted, and the claim holds of the rows read off the schedule, with the tally
 abbrev pub Claimed : List ℕ → ℕ → List ℕ → DwTally → List ℕ → Type 0

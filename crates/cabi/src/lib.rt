@@ -3,20 +3,25 @@
 ghost use mathlib.Core.Path.{_≡_};
 ghost use Rattle.plan.specs.Refusal.{numberOf};
 ghost use Rattle.plan_measure.specs.Measure.{measures};
+ghost use Rattle.plan_writer.specs.Written.{answerOf};
 ghost use Rattle.plan_table.specs.Table.{toTable, toPlan};
 ghost use Rattle.courses.specs.Schedule.{checked};
 ghost use Rattle.scheduler.specs.Entry.{runInto};
-ghost use Rattle.cabi.specs.Plain.{countOf, measuresOf, tallyOf, checkOf, Claimed};
+ghost use Rattle.plan_forms.specs.Forms.{toForm2, toForm1};
+ghost use Rattle.cabi.specs.Plain.{countOf, measuresOf, tallyOf, checkOf, Converted, Claimed};
+ghost use Rattle.cabi.specs.Few.{Few};
 use checker::Judged;
 use checker::check;
 use numbers::units;
 use plan::refusal::Refusal;
 use plan::refusal::number;
+use plan_forms::to_form_1;
+use plan_forms::to_form_2;
 use plan_measure::Measured;
 use plan_measure::measure;
-use plan_table::Answer;
 use plan_table::plan_to_table;
 use plan_table::table_to_plan;
+use plan_writer::Answer;
 use scheduler::run::Ran;
 use scheduler::run::run;
 
@@ -54,12 +59,12 @@ fn cause_number(cause: Refusal) -> u32
     number(cause) as u32
 }
 
-#[no_mangle]
-pub extern "C" fn dw_plan_to_table(plan: &[u8], rows: &mut [u16]) -> DwCount
-    ensures { λ r. ⌜ (r ≡ countOf (toTable (now (plan .entry)) (now (rows .entry)) .answer))
-        × (now (rows .exit) ≡ toTable (now (plan .entry)) (now (rows .entry)) .buffer) ⌝ }
+// What an entry that writes answers: the number of its refusal, or of what it wrote.
+fn counted(a: Answer) -> DwCount
+    requires { ⌜ Few a ⌝ }
+    ensures { λ r. ⌜ r ≡ countOf (answerOf a) ⌝ }
 {
-    match plan_to_table(plan, rows) {
+    match a {
         Answer::Refused(cause) => DwCount {
             refused: cause_number(cause),
             count: 0,
@@ -72,20 +77,37 @@ pub extern "C" fn dw_plan_to_table(plan: &[u8], rows: &mut [u16]) -> DwCount
 }
 
 #[no_mangle]
+pub extern "C" fn dw_plan_to_table(plan: &[u8], rows: &mut [u16]) -> DwCount
+    ensures { λ r. ⌜ (r ≡ countOf (toTable (now (plan .entry)) (now (rows .entry)) .answer))
+        × (now (rows .exit) ≡ toTable (now (plan .entry)) (now (rows .entry)) .buffer) ⌝ }
+{
+    counted(plan_to_table(plan, rows))
+}
+
+#[no_mangle]
 pub extern "C" fn dw_table_to_plan(form: u32, rows: &[u16], plan: &mut [u8]) -> DwCount
     ensures { λ r. ⌜ (r ≡ countOf (toPlan form (now (rows .entry)) (now (plan .entry)) .answer))
         × (now (plan .exit) ≡ toPlan form (now (rows .entry)) (now (plan .entry)) .buffer) ⌝ }
 {
-    match table_to_plan(form, rows, plan) {
-        Answer::Refused(cause) => DwCount {
-            refused: cause_number(cause),
-            count: 0,
-        },
-        Answer::Count(n) => DwCount {
-            refused: 0,
-            count: units(n),
-        },
-    }
+    counted(table_to_plan(form, rows, plan))
+}
+
+#[no_mangle]
+pub extern "C" fn dw_to_form_2(plan: &[u8], bytes: &mut [u8]) -> DwCount
+    ensures { λ r. ⌜ (r ≡ countOf (toForm2 (now (plan .entry)) (now (bytes .entry)) .answer))
+        × (now (bytes .exit) ≡ toForm2 (now (plan .entry)) (now (bytes .entry)) .buffer) ⌝ }
+    ensures { λ r. ⌜ Converted 1 2 (now (plan .entry)) r (now (bytes .exit)) ⌝ }
+{
+    counted(to_form_2(plan, bytes))
+}
+
+#[no_mangle]
+pub extern "C" fn dw_to_form_1(plan: &[u8], bytes: &mut [u8]) -> DwCount
+    ensures { λ r. ⌜ (r ≡ countOf (toForm1 (now (plan .entry)) (now (bytes .entry)) .answer))
+        × (now (bytes .exit) ≡ toForm1 (now (plan .entry)) (now (bytes .entry)) .buffer) ⌝ }
+    ensures { λ r. ⌜ Converted 2 1 (now (plan .entry)) r (now (bytes .exit)) ⌝ }
+{
+    counted(to_form_1(plan, bytes))
 }
 
 #[no_mangle]

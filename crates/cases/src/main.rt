@@ -1,8 +1,9 @@
 // Runs the cases that standard input lists, a line for each, and prints a line of what comes of each: document 01's cases, each
 // refusal by itself and in its order, inputs on each side of each limit, and runs that tell the tempting errors apart. A line of
-// the list is a kind, the name of a file of data/, for a table the form that it is to be closed in, and for a room two numbers.
-// Files, list and answers are written by tools/cases.rs.
+// the list is a kind, the name of a file of data/, for a table the form that it is to be closed in, for a room two numbers, and
+// for `into1` and `into2` the room, where not the whole buffer is lent. Files, list and answers are written by tools/cases.rs.
 mod builds;
+mod forms;
 mod plans;
 mod rooms;
 mod rows;
@@ -78,6 +79,10 @@ fn of_kind(kind: &[u8], input: &[u8], rest: &[u8]) {
         tables::case(input, rest);
     } else if same(kind, b"room") {
         rooms::case(input, rest);
+    } else if same(kind, b"into1") {
+        forms::case(1, input, rest);
+    } else if same(kind, b"into2") {
+        forms::case(2, input, rest);
     } else if same(kind, b"run") {
         builds::case(input);
     } else if same(kind, b"check") {

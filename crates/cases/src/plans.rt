@@ -9,9 +9,9 @@ use numbers::units8;
 use plan_measure::Measured;
 use plan_measure::Measures;
 use plan_measure::measure;
-use plan_table::Answer;
 use plan_table::plan_to_table;
 use plan_table::table_to_plan;
+use plan_writer::Answer;
 
 pub fn case(plan: &[u8]) {
     match measure(plan) {
@@ -64,7 +64,7 @@ pub fn form_of(plan: &[u8]) -> u32 {
 }
 
 // The first n bytes are the plan, and beyond them stands what stood there.
-fn compared(plan: &[u8], bytes: &[u8], n: usize) {
+pub fn compared(plan: &[u8], bytes: &[u8], n: usize) {
     if n <= bytes.len() {
         if same(plan, &bytes[0..n]) {
             io::write_all(1, b" the same,");

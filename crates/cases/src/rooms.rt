@@ -5,9 +5,9 @@ use crate::told::refused;
 use crate::told::told;
 use bytes::scan::find;
 use numbers::wide8;
-use plan_table::Answer;
 use plan_table::plan_to_table;
 use plan_table::table_to_plan;
+use plan_writer::Answer;
 
 // The two numbers stand in `rest`, each behind a space.
 pub fn case(plan: &[u8], rest: &[u8]) {

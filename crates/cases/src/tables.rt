@@ -6,9 +6,9 @@ use crate::rows::same_rows;
 use crate::told::refused;
 use crate::told::told;
 use numbers::units;
-use plan_table::Answer;
 use plan_table::plan_to_table;
 use plan_table::table_to_plan;
+use plan_writer::Answer;
 
 // The form stands in `rest`, behind a space.
 pub fn case(input: &[u8], rest: &[u8]) {

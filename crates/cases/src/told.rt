@@ -2,7 +2,7 @@
 use numbers::wide8;
 use plan::refusal::Refusal;
 use plan::refusal::number;
-use plan_table::Answer;
+use plan_writer::Answer;
 
 pub fn told(word: &[u8], n: usize) {
     io::write_all(1, word);

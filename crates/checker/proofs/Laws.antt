@@ -5,6 +5,8 @@ pub mod Form
 pub mod Keeping
 pub mod Chains
 pub mod Buckets
+pub mod Digits
+pub mod Busy
 pub mod Senders
 pub mod Following
 pub mod Standing

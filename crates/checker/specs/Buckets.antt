@@ -13,7 +13,7 @@ use mathlib.Core.List.{List}
 use lib.Dec.{eqb}
 use Rattle.plan.specs.Told.{Told}
 use Rattle.courses.specs.Schedule.{Span}
-use Rattle.checker.specs.Rows.{spanAt}
+use Rattle.checker.specs.Rows.{spanFrom, spanAt}
 
 abbrev pub moreOf : ℕ → ℕ
 moreOf form = elim (eqb form 1) [ true ↦ 0 | false ↦ 1 ]
@@ -32,8 +32,7 @@ Meet a b = (a .worker ≡ b .worker) × (a .first ≤ b .last) × (b .first ≤ 
 
 abbrev pub Met : (words plan : List ℕ) → (i first row : ℕ) → Bool → Type 0
 Met words plan i first row r =
-    let b : Span = record { first = first; last = row / 16; worker = row % 16 } in
-    Told r (Meet (spanAt words plan i) b) (Meet (spanAt words plan i) b → ⊥)
+    Told r (Meet (spanAt words plan i) (spanFrom first row)) (Meet (spanAt words plan i) (spanFrom first row) → ⊥)
 
 abbrev pub Clear : ℕ → ℕ → ℕ → (ℕ → Span) → Type 0
 Clear more block k span = (i : ℕ) → i < k → Meet (span i) (span k) → blockOf more (span i .last) ≤ block

@@ -4,6 +4,7 @@ pub mod Chains
 pub mod Rows
 pub mod Formed
 pub mod Buckets
+pub mod Busy
 pub mod Senders
 pub mod Judging
 pub mod Given

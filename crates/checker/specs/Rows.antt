@@ -3,6 +3,7 @@
 --   word width s k        == the bits of row k in the bytes s, `width` of them, as one number: 16 times its round, and its worker
 --   Words width s n words == the array has those of the first n rows, none with a round of 0
 --   RowsIn rows words     == the array holds the rows: each row's round and worker as one number
+--   spanFrom first row    == the span of a row that is given with its first round
 --   spanAt words plan k   == the span of the row at place k, whose cost the plan's array has
 use Prim.Native.Nat.{ℕ, suc, _+_, _-_, _*_, _/_, _%_, _≤_, _<_}
 use mathlib.Core.Path.{_≡_}
@@ -29,6 +30,8 @@ pub record RowsIn (rows : List Row) (words : List ℕ) : Type 0 where
   pub row : (k : ℕ) → k < length rows → getD rows k noRow .round * 16 + getD rows k noRow .worker ≡ entry words k
   pub worker : (k : ℕ) → k < length rows → getD rows k noRow .worker < 16
 
+abbrev pub spanFrom : ℕ → ℕ → Span
+spanFrom first row = record { first = first; last = row / 16; worker = row % 16 }
+
 abbrev pub spanAt : List ℕ → List ℕ → ℕ → Span
-spanAt words plan k =
-    record { first = suc (entry words k / 16) - costAt plan k; last = entry words k / 16; worker = entry words k % 16 }
+spanAt words plan k = spanFrom (suc (entry words k / 16) - costAt plan k) (entry words k)

@@ -11,6 +11,7 @@ use plan::sheet::PLACES;
 use rules::rules_kept;
 
 mod buckets;
+mod busy;
 mod form;
 mod rows;
 mod rules;

@@ -6,9 +6,13 @@ ghost use Rattle.courses.specs.Schedule.{keeps};
 ghost use Rattle.checker.specs.Given.{SpawnGiven, StandGiven, RulesGiven};
 ghost use Rattle.checker.specs.Rows.{spanAt};
 ghost use Rattle.checker.specs.Judging.{FirstTold, spawnRound, Stood};
+use crate::buckets::back_from;
 use crate::buckets::bucket_of;
+use crate::buckets::enter;
+use crate::buckets::latest_in;
 use crate::buckets::meets;
 use crate::buckets::more_of;
+use crate::busy::take;
 use crate::rows::Rows;
 use crate::rows::row_of;
 use crate::senders::line_up;
@@ -76,7 +80,8 @@ fn first_round(rows: &Rows, k: usize, workers: usize, plan: &Sheet) -> usize
 // the one at hand ends in a block from that of its first round to the one behind that of its last: these are at most three, looked
 // in from the last down. In form 1 an action takes one round, a block is one round, and it is one block. Of each worker a bucket
 // takes rows of one block, no two with the same last round: at most 16, and in form 1 one, so that no row is compared with more
-// than 48 of each worker. Where every block is below the stride, no two workers share a bucket.
+// than 48 of each worker. Where every block is below the stride, no two workers share a bucket. In form 2 the chains are walked
+// only where a set of `busy` has a round of the row: else it clashes with no row before it.
 pub fn rules_kept(form: u32, workers: usize, actions: usize, rows: &Rows, plan: &Sheet) -> bool
     requires { ⌜ Some (RulesGiven form workers actions (now rows) (now plan)) ⌝ }
     ensures { λ r. ⌜ RulesGiven form workers actions (before rows) (before plan) ⇒ (λ t. r ≡ keeps (t .plan) workers (t .rows)) ⌝ }
@@ -86,6 +91,7 @@ pub fn rules_kept(form: u32, workers: usize, actions: usize, rows: &Rows, plan: 
     line_up(actions, plan, &mut latest, &mut prior);
     let mut last = [0u16; 4096];
     let mut earlier = [0u16; 2048];
+    let mut busy = [0u16; 4096];
     let stride = 4096 / workers;
     let more = more_of(form);
     let shift = 4 * more;
@@ -110,27 +116,31 @@ pub fn rules_kept(form: u32, workers: usize, actions: usize, rows: &Rows, plan: 
                 kept = false;
                 break 'actions;
             }
-            sender = wide16(prior[sender - 1]);
+            sender = back_from(&prior, sender);
         }
         let home = row / 16 >> shift;
         let low = first >> shift;
         let mut block = home + more;
-        let mut at = wide16(last[bucket_of(block, row % 16, stride)]);
-        'clashes: while at != 0 || low < block {
+        let mut at = latest_in(&last, block, row % 16, stride);
+        let free = take(more, first, row, stride, &mut busy);
+        'clashes: while !free && (at != 0 || low < block) {
             if at == 0 {
                 block -= 1;
-                at = wide16(last[bucket_of(block, row % 16, stride)]);
+                at = latest_in(&last, block, row % 16, stride);
                 continue 'clashes;
             }
             if meets(rows, at - 1, first, row, plan) {
                 kept = false;
                 break 'actions;
             }
-            at = wide16(earlier[at - 1]);
+            at = back_from(&earlier, at);
         }
-        let bucket = bucket_of(home, row % 16, stride);
-        earlier[k] = last[bucket];
-        last[bucket] = (k + 1) as u16;
+        enter(
+            k,
+            bucket_of(home, row % 16, stride),
+            &mut last,
+            &mut earlier,
+        );
         standing = Standing {
             job: here.job,
             end: here.end,

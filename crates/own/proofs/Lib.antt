@@ -1,2 +1,3 @@
--- The laws that proofs of this crate cite.
+-- The laws that proofs of this crate cite, and worked examples.
 pub mod Laws
+pub mod Contrasts

@@ -1,2 +1,3 @@
 -- What a reader must believe of the theorems.
 pub mod RoundTrip
+pub mod Forms

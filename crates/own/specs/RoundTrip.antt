@@ -1,4 +1,5 @@
--- What comes back through both entries of the open table (document 01, "Plan"): what went in, or why nothing does.
+-- What comes back through two entries that undo one another: what went in, or why nothing does. Here of the open table (document 01,
+-- "Plan").
 --   back o output n buffer     == the first entry answered o: its refusal, with the buffer as it was, or else the output written,
 --                                 9 where the buffer is too short for it
 --   planBack plan rows bytes   == of a plan opened into rows and closed again: the plan's own bytes
@@ -7,7 +8,8 @@ use Prim.Native.Nat.{ℕ, _/_}
 use mathlib.Core.List.{List}
 use lib.ListN.{length}
 use Rattle.plan.specs.Refusal.{Outcome, refused, accepted}
-use Rattle.plan_table.specs.Table.{Written, written, toTable, toPlan}
+use Rattle.plan_writer.specs.Written.{Written, written}
+use Rattle.plan_table.specs.Table.{toTable, toPlan}
 
 unfoldable pub back : Outcome ℕ → List ℕ → ℕ → List ℕ → Written
 unfolding written

@@ -1,11 +1,12 @@
 // The two entries of the open table undo one another (document 01, "Plan"; document 02, L5).
 ghost use mathlib.Core.Path.{_≡_};
-ghost use Rattle.plan_table.specs.Table.{toTable, toPlan, answerOf};
+ghost use Rattle.plan_writer.specs.Written.{answerOf};
+ghost use Rattle.plan_table.specs.Table.{toTable, toPlan};
 ghost use Rattle.own.specs.RoundTrip.{planBack, tableBack};
 use numbers::units8;
-use plan_table::Answer;
 use plan_table::plan_to_table;
 use plan_table::table_to_plan;
+use plan_writer::Answer;
 
 // Opens the plan into a table and closes the table again in the plan's form, its first byte: what comes back is the plan's bytes.
 pub fn plan_back(plan: &[u8], rows: &mut [u16], bytes: &mut [u8]) -> Answer

@@ -1,4 +1,6 @@
-// Why an input is turned down: one case for each row of document 01's table "Turned down".
+// Why an input is turned down: one case for each row of document 01's table "Turned down" and for each number of document 02, in
+// their order, so that a number is its case's place and one more, and no table is laid out for it. No entry gives 13, 14 or 16 to
+// 20 yet.
 ghost use mathlib.Core.Path.{_≡_};
 ghost use Rattle.plan.specs.Refusal.{numberOf};
 
@@ -15,9 +17,17 @@ pub enum Refusal {
     Table,
     Schedule,
     Rule,
+    Name,
+    Round,
+    Cost,
+    Changes,
+    Pair,
+    Deadline,
+    Windows,
+    Clock,
 }
 
-// The number that document 01 gives to a cause.
+// The number that the documents give to a cause.
 pub fn number(r: Refusal) -> u8
     ensures { λ n. ⌜ n ≡ numberOf r ⌝ }
 {
@@ -34,5 +44,13 @@ pub fn number(r: Refusal) -> u8
         Refusal::Table => 10,
         Refusal::Schedule => 11,
         Refusal::Rule => 12,
+        Refusal::Name => 13,
+        Refusal::Round => 14,
+        Refusal::Cost => 15,
+        Refusal::Changes => 16,
+        Refusal::Pair => 17,
+        Refusal::Deadline => 18,
+        Refusal::Windows => 19,
+        Refusal::Clock => 20,
     }
 }

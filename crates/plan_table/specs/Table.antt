@@ -7,19 +7,17 @@
 --   planOf rows  == the plan whose table the rows are
 --   readTable form t == the plan that a table of that form holds, or the refusal: 2, 10, 3, 4, 5
 --   toTable, toPlan == what the two entries answer and leave in the lent buffer
-use Prim.Native.Nat.{ℕ, zero, suc, _*_, _/_, _%_}
+use Prim.Native.Nat.{ℕ, suc, _%_}
 use mathlib.Core.Bool.{Bool, true, false}
 use mathlib.Core.List.{List, [], _∷_, _++_}
-use lib.ListN.{length, drop}
+use lib.ListN.{length}
 use lib.Dec.{eqb, leb}
-use Rattle.plan_table.specs.declared.Answer.{Answer}
-use Rattle.plan_table.specs.declared.Answer.the-variants.{Refused, Count}
-use Rattle.plan.specs.Refusal.{Outcome, refused, accepted, numberOf}
+use Rattle.plan.specs.Refusal.{Outcome, refused, accepted}
 use Rattle.plan.specs.Test.{both, either, all}
 use Rattle.plan.specs.Plan.{Action, Job, Plan, total}
 use Rattle.plan.specs.Rules.{inRange, costsFit, spawnRules, joinRules}
 use Rattle.plan.specs.Reader.{Read, isForm, readPlan}
-use Rattle.plan_writer.specs.Writer.{planBytes}
+use Rattle.plan_writer.specs.Written.{Written, written, encoded}
 
 -- the rows of the actions of job j, whose frame is f
 abbrev pub tableIn : ℕ → ℕ → List Action → List ℕ
@@ -100,20 +98,6 @@ readTable form t =
       | true ↦ elim (both (eqb (length t % 5) 0) (rowRules (rowsOf t))) [ false ↦ refused 10 | true ↦ ruled form (planOf (rowsOf t)) ]
     ]
 
--- An entry's answer with what its lent buffer then holds: "On success, bytes or numbers beyond the output keep
--- what they held"; on a refusal the buffer is as it was.
-pub record Written : Type 0 where
-  pub answer : Outcome ℕ
-  pub buffer : List ℕ
-
--- 9 where the output is longer than the buffer; an answer of n tells n of the output's units
-unfoldable pub written : List ℕ → ℕ → List ℕ → Written
-written output n buffer =
-    elim (leb (length output) (length buffer)) [
-      | false ↦ record { answer = refused 9; buffer = buffer }
-      | true ↦ record { answer = accepted n; buffer = output ++ drop (length output) buffer }
-    ]
-
 -- "reading into a table": 1 to 6, then 9; the answer is the number of rows
 unfoldable pub tabled : Outcome Read → List ℕ → Written
 unfolding written tableOf
@@ -124,17 +108,7 @@ unfoldable pub toTable : List ℕ → List ℕ → Written
 unfolding tabled readPlan
 toTable bytes buffer = tabled (readPlan bytes) buffer
 
--- "writing from a table": 2, 10, 3, 4, 5, 9; the answer is the number of bytes. "The writer is told the form."
-unfoldable pub encoded : ℕ → Outcome Plan → List ℕ → Written
-unfolding written planBytes
-encoded form (refused n) buffer = record { answer = refused n; buffer = buffer }
-encoded form (accepted p) buffer = written (planBytes form p) (length (planBytes form p)) buffer
-
+-- "writing from a table": 2, 10, 3, 4, 5, 9; the answer is the number of bytes
 unfoldable pub toPlan : ℕ → List ℕ → List ℕ → Written
 unfolding encoded readTable
 toPlan form table buffer = encoded form (readTable form table) buffer
-
--- the outcome that an answer stands for
-abbrev pub answerOf : Answer → Outcome ℕ
-answerOf (Refused cause) = refused (numberOf cause)
-answerOf (Count n) = accepted n

@@ -1,7 +1,8 @@
 // The open table (document 01, "Plan"; document 02, L5): a plan's bytes into a table, and a table into a plan's bytes.
 ghost use mathlib.Core.Path.{_≡_};
 ghost use Rattle.plan.specs.Contract.{Some, _⇒_, before, after};
-ghost use Rattle.plan_table.specs.Table.{toTable, toPlan, answerOf, encoded, ruled};
+ghost use Rattle.plan_writer.specs.Written.{encoded, answerOf};
+ghost use Rattle.plan_table.specs.Table.{toTable, toPlan, ruled};
 ghost use Rattle.plan_table.specs.GivenRows.{LaidAs};
 
 mod rows;
@@ -18,14 +19,8 @@ use plan::rules::join_rules;
 use plan::rules::spawn_rules;
 use plan::sheet::PLACES;
 use plan::sheet::Sheet;
-use plan_writer::plan_bits;
-use plan_writer::write_plan;
-
-// The number of rows or bytes written, or why nothing was.
-pub enum Answer {
-    Refused(Refusal),
-    Count(usize),
-}
+use plan_writer::Answer;
+use plan_writer::encode;
 
 // Writes the open table of the plan that the bytes hold, and tells the number of rows.
 pub fn plan_to_table(bytes: &[u8], rows: &mut [u16]) -> Answer
@@ -47,7 +42,7 @@ pub fn plan_to_table(bytes: &[u8], rows: &mut [u16]) -> Answer
 
 // Writes the bytes, in a form, of the plan whose jobs and actions the array has, where it keeps its rules and there is room, and
 // tells their number.
-fn encode(form: u32, bytes: &mut [u8], jobs: usize, rows: usize, plan: &mut Sheet) -> Answer
+fn close(form: u32, jobs: usize, rows: usize, plan: &mut Sheet, bytes: &mut [u8]) -> Answer
     requires { ⌜ Some (LaidAs form jobs rows (now plan)) ⌝ }
     ensures { λ r. ⌜ LaidAs form jobs rows (before plan)
         ⇒ (λ p. record { answer = answerOf r; buffer = after bytes } ≡ encoded form (ruled form p) (before bytes)) ⌝ }
@@ -59,10 +54,7 @@ fn encode(form: u32, bytes: &mut [u8], jobs: usize, rows: usize, plan: &mut Shee
     if !join_rules(jobs, rows, plan, &mut entering) {
         return Answer::Refused(Refusal::Join);
     }
-    if bytes.len() < (plan_bits(form, jobs, rows, plan) + 7) / 8 {
-        return Answer::Refused(Refusal::Short);
-    }
-    Answer::Count(write_plan(bytes, form, jobs, rows, plan))
+    encode(form, jobs, rows, plan, bytes)
 }
 
 // Writes the bytes, in the form told, of the plan that an open table holds, and tells the number of bytes.
@@ -82,6 +74,6 @@ pub fn table_to_plan(form: u32, table: &[u16], bytes: &mut [u8]) -> Answer
     let mut plan = [0u16; PLACES];
     match take_rows(form, table, &mut plan) {
         Jobs::Refused(cause) => Answer::Refused(cause),
-        Jobs::Count(jobs) => encode(form, bytes, jobs, rows, &mut plan),
+        Jobs::Count(jobs) => close(form, jobs, rows, &mut plan, bytes),
     }
 }

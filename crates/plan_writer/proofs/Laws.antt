@@ -3,3 +3,4 @@ pub mod PlanBytes
 pub mod Numbers
 pub mod Costs
 pub mod PlanBits
+pub mod Answers

@@ -10,9 +10,12 @@ ghost use Rattle.plan.specs.Sheet.{PlanIn};
 ghost use Rattle.plan_writer.specs.Writer.{numberBits, planBits, planBytes};
 ghost use Rattle.plan_writer.specs.ActionBits.{Writable, fieldsOf, actionBits};
 ghost use Rattle.plan_writer.specs.Given.{WritesInto};
+ghost use Rattle.plan_writer.specs.Written.{encoded, answerOf};
+ghost use Rattle.plan.specs.Refusal.{accepted};
 use fields::field::Sink;
 use fields::field::finish;
 use fields::field::put;
+use plan::refusal::Refusal;
 use plan::sheet::Sheet;
 use plan::sheet::child_at;
 use plan::sheet::cost_at;
@@ -20,6 +23,12 @@ use plan::sheet::first_of;
 use plan::sheet::frame_of;
 use plan::sheet::job_at;
 use plan::sheet::target_at;
+
+// The number of units written, rows of a table or bytes of a plan, or why nothing was.
+pub enum Answer {
+    Refused(Refusal),
+    Count(usize),
+}
 
 // How many bits a number plus 1, or 0, takes.
 fn number_bits(x: usize) -> usize
@@ -65,7 +74,7 @@ fn action_field(form: u32, child: usize, target: usize, cost: usize) -> u64
 }
 
 // How many bits the plan's fields take in a form.
-pub fn plan_bits(form: u32, jobs: usize, actions: usize, plan: &Sheet) -> usize
+fn plan_bits(form: u32, jobs: usize, actions: usize, plan: &Sheet) -> usize
     requires { ⌜ Some (PlanIn jobs actions (now plan)) ⌝ }
     ensures { λ r. ⌜ (r < 65536) × (PlanIn jobs actions (before plan) ⇒ (λ p. r ≡ length (planBits form p))) ⌝ }
 {
@@ -131,7 +140,7 @@ fn put_action(out: &mut [u8], sink: Sink, form: u32, k: usize, plan: &Sheet) -> 
 }
 
 // Writes the plan's bytes in a form, and tells how many they are.
-pub fn write_plan(out: &mut [u8], form: u32, jobs: usize, actions: usize, plan: &Sheet) -> usize
+fn write_plan(out: &mut [u8], form: u32, jobs: usize, actions: usize, plan: &Sheet) -> usize
     requires { ⌜ Some (WritesInto (length (now out)) form jobs actions (now plan)) ⌝ }
     ensures { λ r. ⌜ PlanIn jobs actions (before plan)
         ⇒ (λ p. (r ≡ length (planBytes form p)) × (after out ≡ planBytes form p ++ drop (length (planBytes form p)) (before out))) ⌝ }
@@ -153,4 +162,16 @@ pub fn write_plan(out: &mut [u8], form: u32, jobs: usize, actions: usize, plan: 
         k += 1;
     }
     finish(out, sink)
+}
+
+// Writes the bytes, in a form, of the plan that the array holds, where there is room, and tells their number.
+pub fn encode(form: u32, jobs: usize, actions: usize, plan: &Sheet, bytes: &mut [u8]) -> Answer
+    requires { ⌜ Some (PlanIn jobs actions (now plan)) × (form < 256) ⌝ }
+    ensures { λ r. ⌜ PlanIn jobs actions (before plan)
+        ⇒ (λ p. record { answer = answerOf r; buffer = after bytes } ≡ encoded form (accepted p) (before bytes)) ⌝ }
+{
+    if bytes.len() < (plan_bits(form, jobs, actions, plan) + 7) / 8 {
+        return Answer::Refused(Refusal::Short);
+    }
+    Answer::Count(write_plan(bytes, form, jobs, actions, plan))
 }

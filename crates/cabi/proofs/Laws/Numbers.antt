@@ -1,19 +1,21 @@
 -- The plain numbers that an entry's answer stands for, refused or not.
 --   number-some == the number of a cause is not 0, so 0 stands for no refusal
-use Prim.Native.Nat.{ℕ}
+use Prim.Native.Nat.{ℕ, _≤_}
 use native.Mathlib.Omega.{arith}
-use mathlib.Core.Path.{_≡_, refl}
+use mathlib.Core.Path.{_≡_, refl, sym, ap, _∙_}
 use mathlib.Core.List.{List}
 use Rattle.plan.specs.declared.refusal.Refusal.{Refusal}
 use Rattle.plan.specs.declared.refusal.Refusal.the-variants.{RanOut, Form, Range, Spawn, Join, Fill, Workers, Choices, Short, Table, Schedule, Rule}
+use Rattle.plan.specs.declared.refusal.Refusal.the-variants.{Name, Round, Cost, Changes, Pair, Deadline, Windows, Clock}
 use Rattle.plan.specs.Refusal.{Outcome, refused, accepted, numberOf}
 use Rattle.plan_measure.specs.declared.Measures.{Measures}
 use Rattle.plan_measure.specs.declared.Measured.{Measured}
 use Rattle.plan_measure.specs.declared.Measured.the-variants.{Refused as NotMeasured, Of}
 use Rattle.plan_measure.specs.Measure.{told}
-use Rattle.plan_table.specs.declared.Answer.{Answer}
-use Rattle.plan_table.specs.declared.Answer.the-variants.{Refused as NotWritten, Count}
-use Rattle.plan_table.specs.Table.{Written, answerOf}
+use Rattle.plan_writer.specs.declared.Answer.{Answer}
+use Rattle.plan_writer.specs.declared.Answer.the-variants.{Refused as NotWritten, Count}
+use Rattle.plan_writer.specs.Written.{Written, answerOf}
+use Rattle.plan_forms.specs.Forms.{Converted as FormConverted}
 use Rattle.runs.specs.declared.tally.Tally.{Tally}
 use Rattle.scheduler.specs.declared.run.Ran.{Ran}
 use Rattle.scheduler.specs.declared.run.Ran.the-variants.{Refused as NotRun, Done}
@@ -21,7 +23,9 @@ use Rattle.scheduler.specs.Entry.{runInto, ranOf, Claimed as RunClaimed}
 use Rattle.checker.specs.declared.Judged.{Judged}
 use Rattle.checker.specs.declared.Judged.the-variants.{Refused as NotKept, Accepted}
 use Rattle.checker.specs.Answer.{judgedOf}
-use Rattle.cabi.specs.Plain.{countOf, measuresOf, tallyOf, checkOf, Claimed}
+use Rattle.cabi.specs.declared.DwCount.{DwCount}
+use Rattle.cabi.specs.Few.{Few}
+use Rattle.cabi.specs.Plain.{countOf, measuresOf, tallyOf, checkOf, Converted, Claimed}
 
 pub number-some : (cause : Refusal) → numberOf cause ≡ 0 → ⊥
 number-some RanOut e = omega arith
@@ -36,17 +40,36 @@ number-some Short e = omega arith
 number-some Table e = omega arith
 number-some Schedule e = omega arith
 number-some Rule e = omega arith
+number-some Name e = omega arith
+number-some Round e = omega arith
+number-some Cost e = omega arith
+number-some Changes e = omega arith
+number-some Pair e = omega arith
+number-some Deadline e = omega arith
+number-some Windows e = omega arith
+number-some Clock e = omega arith
 
+module _ (a : Answer) where
+  pub count-refused : (cause : Refusal) (k : ℕ) → a ≡ NotWritten cause → k ≡ numberOf cause → countOf (refused k) ≡ countOf (answerOf a)
+  count-refused cause k e f = rw (e, f)
+
+  pub count-accepted : (n m : ℕ) → a ≡ Count n → m ≡ n → countOf (accepted m) ≡ countOf (answerOf a)
+  count-accepted n m e f = rw (e, f)
+
+-- what an entry that writes answered and left, with the number that stands for it
 module _ (w : Written) (a : Answer) (l : List ℕ) (ensures : record { answer = answerOf a; buffer = l } ≡ w) where
-  pub count-refused : (cause : Refusal) (k : ℕ) → a ≡ NotWritten cause → k ≡ numberOf cause
-      → (countOf (refused k) ≡ countOf (w .answer)) × (l ≡ w .buffer)
-  count-refused cause k e f = rw (← ensures, e, f) (refl, refl)
+  pub counts : (r : DwCount) → r ≡ countOf (answerOf a) → (r ≡ countOf (w .answer)) × (l ≡ w .buffer)
+  counts r e = (e ∙ ap (λ (w : Written). countOf (w .answer)) ensures, ap (λ (w : Written). w .buffer) ensures)
 
-  pub count-accepted : (n m : ℕ) → a ≡ Count n → m ≡ n → (countOf (accepted m) ≡ countOf (w .answer)) × (l ≡ w .buffer)
-  count-accepted n m e f = rw (← ensures, e, f) (refl, refl)
+  -- a count that is at most 6,403 fits
+  pub counts-fit : ((n : ℕ) → w .answer ≡ accepted n → n ≤ 6403) → Few a
+  counts-fit few n e = omega (arith, few n (sym (ap (λ (w : Written). w .answer) ensures) ∙ ap answerOf e))
 
-  pub answer-count : (n : ℕ) → a ≡ Count n → w .answer ≡ accepted n
-  answer-count n e = rw (← ensures, e)
+-- of plans turned into the other form
+pub converted-count : (from to : ℕ) (s : List ℕ) (a : Answer) (l : List ℕ) → FormConverted from to s a l → (r : DwCount) → r ≡ countOf (answerOf a)
+    → Converted from to s r l
+converted-count from to s (NotWritten cause) l claim r e z = absurd (number-some cause (sym (ap (λ (r : DwCount). r .refused) e) ∙ z))
+converted-count from to s (Count n) l claim r e z = rw (ap (λ (r : DwCount). r .count) e) (claim n refl)
 
 module _ (o : Outcome Measures) (r : Measured) (ensures : told r ≡ o) where
   pub measures-refused : (cause : Refusal) (k : ℕ) → r ≡ NotMeasured cause → k ≡ numberOf cause

@@ -1,4 +1,4 @@
--- What the table's two entries count is small: at most 2,048 rows, and at most 6,403 bytes.
+-- What entries that write count is small: at most 2,048 rows, and at most 6,403 bytes.
 --   planBytes-few == the longest that the format allows: 256 jobs and 2,048 actions, each with a child, a target and a cost
 use Prim.Native.Nat.{ℕ, _+_, _*_, _≤_}
 use native.Mathlib.Omega.{arith}
@@ -6,7 +6,7 @@ use mathlib.Core.Path.{_≡_}
 use mathlib.Core.List.{List, [], _∷_, _++_}
 use lib.ListN.{length, length-append}
 use lib.Dec.{T}
-use Rattle.plan.specs.Refusal.{accepted}
+use Rattle.plan.specs.Refusal.{Outcome, accepted}
 use Rattle.plan.specs.Plan.{Action, Plan, total}
 use Rattle.plan.specs.Rules.{inRange}
 use Rattle.fields.specs.Field.{bitsOf}
@@ -19,6 +19,11 @@ use Rattle.plan_table.specs.Table.{toTable, toPlan}
 use Rattle.plan_table.proofs.Laws.OpenTable.{readTable-rules}
 use Rattle.plan_writer.proofs.Laws.Numbers.{number-few, cost-few}
 use Rattle.plan_table.proofs.Laws.RoundTrip.{toTable-told, toPlan-told}
+use Rattle.plan_writer.specs.Written.{encoded}
+use Rattle.plan_writer.proofs.Laws.Answers.{encoded-told}
+use Rattle.plan_forms.specs.Forms.{readAs, plain, toForm2, toForm1}
+use Rattle.plan_forms.proofs.Laws.Reading.{as-known}
+use Rattle.plan_forms.proofs.Laws.RoundTrip.{plain-told}
 
 module _ (form : ℕ) where
   actions-few : (l : List Action) → length (actionsBits form l) ≤ 22 * length l
@@ -66,3 +71,20 @@ toTable-few s rows n e = toTable-told s rows n e λ x r k b. omega (arith, total
 
 pub toPlan-few : (form : ℕ) (t bytes : List ℕ) (n : ℕ) → toPlan form t bytes .answer ≡ accepted n → n ≤ 6403
 toPlan-few form t bytes n e = toPlan-told form t bytes n e λ p r k b. omega (arith, planBytes-few form p (readTable-rules form t p r .0))
+
+-- of plans turned into the other form
+encoded-few : (form : ℕ) (o : Outcome Plan) (bytes : List ℕ) (n : ℕ) → ((p : Plan) → o ≡ accepted p → T (inRange p)) → encoded form o bytes .answer ≡ accepted n
+    → n ≤ 6403
+encoded-few form o bytes n range e = encoded-told form o bytes n e λ p q k b. omega (arith, planBytes-few form p (range p q))
+
+-- a plan that was read as one of a form is in range
+as-range : (form : ℕ) (s : List ℕ) (p : Plan) → readAs form s ≡ accepted p → T (inRange p)
+as-range form s p e = accepted-kept s (record { form = form; plan = p }) (as-known form s p e) .range
+
+pub toForm2-few : (s bytes : List ℕ) (n : ℕ) → toForm2 s bytes .answer ≡ accepted n → n ≤ 6403
+unfolding toForm2
+toForm2-few s bytes n e = encoded-few 2 (readAs 1 s) bytes n (as-range 1 s) e
+
+pub toForm1-few : (s bytes : List ℕ) (n : ℕ) → toForm1 s bytes .answer ≡ accepted n → n ≤ 6403
+unfolding toForm1
+toForm1-few s bytes n e = encoded-few 1 (plain (readAs 2 s)) bytes n (λ p q. as-range 2 s p (plain-told (readAs 2 s) p q .0)) e

@@ -1,6 +1,6 @@
--- `dw_plan_to_table` meets its contract: the number of the cause, or a count that fits.
+-- `dw_plan_to_table` meets its contract: what the entry answers is a number that fits.
 use native.Mathlib.Omega.{arith}
-use Rattle.cabi.proofs.Laws.Numbers.{count-refused, count-accepted, answer-count}
+use Rattle.cabi.proofs.Laws.Numbers.{counts, counts-fit}
 use Rattle.cabi.proofs.Laws.Small.{toTable-few}
 use borrow.Author.Needs.{needs}
 use Rattle.cabi.proofs.dw_plan_to_table.Statement.{statement}
@@ -9,46 +9,16 @@ use Rattle.cabi.proofs.dw_plan_to_table.Tie as tie
 plan-to-table-requires : tie.Need-plan-to-table-requires
 plan-to-table-requires c κs = search needs
 
-enum-known-cause : tie.Need-enum-known-cause
-enum-known-cause c = search needs
-
-cause-number-requires : tie.Need-cause-number-requires
-cause-number-requires c κs = search needs
-
-enum-known-n : tie.Need-enum-known-n
-enum-known-n c = search needs
-
-units-requires : tie.Need-units-requires
-units-requires c κs =
-    let r = c .before .before .before .before .before .plan-to-table in
-    omega (arith, toTable-few _ _ _ (answer-count _ _ _ (r .ensures) _ (c .before .n .given .1)))
+counted-requires : tie.Need-counted-requires
+counted-requires c κs = counts-fit _ _ _ (c .before .before .plan-to-table .ensures) (λ n e. omega (arith, toTable-few _ _ n e))
 
 same-length : tie.Need-same-length
 same-length c = search needs
 
 returns : tie.Need-returns
 returns c =
-    let b = c .before .before in
-    count-refused _ _ _ (b .before .before .before .before .plan-to-table .ensures) _ _ (b .cause .given .1) (c .cause-number .ensures)
-
-same-length-2 : tie.Need-same-length-2
-same-length-2 c = search needs
-
-returns-2 : tie.Need-returns-2
-returns-2 c =
-    let b = c .before .before in
-    count-accepted _ _ _ (b .before .before .before .before .plan-to-table .ensures) _ _ (b .n .given .1) (c .units .ensures)
+    let r = c .before .before .before .plan-to-table in
+    counts _ (r .result) _ (r .ensures) _ (c .counted .ensures)
 
 pub dw-plan-to-table-spec : {M : Type 1} → statement M
-dw-plan-to-table-spec =
-    tie.close
-    (tie.spec
-    plan-to-table-requires
-    enum-known-cause
-    cause-number-requires
-    enum-known-n
-    units-requires
-    same-length
-    returns
-    same-length-2
-    returns-2)
+dw-plan-to-table-spec = tie.close (tie.spec plan-to-table-requires counted-requires same-length returns)

@@ -3,8 +3,8 @@
 --   clear-first, clear-next == so it is before any block, and behind a block whose bucket was looked through
 --   clear-all    == behind the lowest block no row is left that meets the one at hand
 --   meet-of, of-meet == the span of a row by what was read of it
-use Prim.Native.Nat.{ℕ, suc, _+_, _-_, _*_, _/_, _%_, _≤_, _<_}
-use mathlib.Core.Path.{_≡_, ap₂, sym, _∙_}
+use Prim.Native.Nat.{ℕ, suc, _+_, _-_, _*_, _/_, _≤_, _<_}
+use mathlib.Core.Path.{_≡_, ap, ap₂, sym, _∙_}
 use mathlib.Core.Logic.{by-cases}
 use mathlib.Core.List.{List}
 use native.Mathlib.Omega.{arith}
@@ -20,7 +20,7 @@ use Rattle.plan.proofs.Laws.Steps.{bool-cases}
 use Rattle.plan.proofs.Laws.Placed.{placed-of, placed-length}
 use Rattle.plan.proofs.Laws.Spawning.{cost-in-range}
 use Rattle.checker.specs.Chains.{entry, Walk}
-use Rattle.checker.specs.Rows.{spanAt}
+use Rattle.checker.specs.Rows.{spanFrom, spanAt}
 use Rattle.checker.specs.Given.{Task, RulesGiven}
 use Rattle.checker.specs.Buckets.{moreOf, blockOf, bucketOf, keyOf, Meet, Clear}
 
@@ -60,17 +60,14 @@ module _ (more : ℕ) (most : more ≤ 1) where
     pub clear-next : Clear more (b - 1) k span
     clear-next i h m = by-cases (ℕ-discrete (blockOf more (span i .last)) b) (λ q. absurd (none i h m q)) (λ q. omega (arith, c i h m))
 
-    pub clear-all : b ≤ blockOf more (span k .first) → (i : ℕ) → i < k → Meet (span i) (span k) → ⊥
-    clear-all low i h m =
-        none i h m (omega (arith, c i h m, block-rises (span k .first) (span i .last) (m .2)))
+    pub clear-all : {first : ℕ} → first ≡ span k .first → b ≤ blockOf more first → (i : ℕ) → i < k → Meet (span i) (span k) → ⊥
+    clear-all begins low i h m =
+        none i h m (omega (arith, c i h m, block-rises (span k .first) (span i .last) (m .2), ap (blockOf more) begins))
 
 -- the span of row k by what was read of it
 module _ (words plan : List ℕ) (k row first : ℕ) (is : row ≡ entry words k) (begins : first ≡ spanAt words plan k .first) (a : Span) where
-  abbrev read : Span
-  read = record { first = first; last = row / 16; worker = row % 16 }
-
-  pub meet-of : Meet a read → Meet a (spanAt words plan k)
+  pub meet-of : Meet a (spanFrom first row) → Meet a (spanAt words plan k)
   meet-of m = (omega (arith, m .0), omega (arith, m .1), omega (arith, m .2))
 
-  pub of-meet : Meet a (spanAt words plan k) → Meet a read
+  pub of-meet : Meet a (spanAt words plan k) → Meet a (spanFrom first row)
   of-meet m = (omega (arith, m .0), omega (arith, m .1), omega (arith, m .2))

@@ -7,18 +7,19 @@ use lib.ListN.{length, getD, take, drop, length-append}
 use Rattle.plan.specs.declared.refusal.Refusal.{Refusal}
 use Rattle.plan.specs.Refusal.{refused, numberOf}
 use Rattle.fields.specs.Field.{Bytes}
-use Rattle.plan_table.specs.declared.Answer.{Answer}
-use Rattle.plan_table.specs.declared.Answer.the-variants.{Refused, Count}
-use Rattle.plan_table.specs.Table.{Written, written, toTable, toPlan, answerOf}
+use Rattle.plan_writer.specs.declared.Answer.{Answer}
+use Rattle.plan_writer.specs.declared.Answer.the-variants.{Refused, Count}
+use Rattle.plan_writer.specs.Written.{Written, written, answerOf}
+use Rattle.plan_table.specs.Table.{toTable, toPlan}
 use Rattle.plan_table.proofs.Laws.Rows.{table-length}
 use Rattle.plan_table.proofs.Laws.RoundTrip.{toTable-told, toPlan-told, plan-form, plan-table-plan, table-plan-table}
 use Rattle.own.specs.RoundTrip.{back, planBack, tableBack}
 
 module _ (first : Written) (r : Answer) (left : List ℕ) (e : record { answer = answerOf r; buffer = left } ≡ first) where
-  left-is : left ≡ first .buffer
+  pub left-is : left ≡ first .buffer
   left-is = ap (λ (w : Written). w .buffer) e
 
-  answered : (a : Answer) → r ≡ a → first .answer ≡ answerOf a
+  pub answered : (a : Answer) → r ≡ a → first .answer ≡ answerOf a
   answered a f = sym (ap (λ (w : Written). w .answer) e) ∙ ap answerOf f
 
   pub refused-back : (cause : Refusal) → r ≡ Refused cause → (output : List ℕ) (n : ℕ) (buffer : List ℕ)
@@ -26,7 +27,7 @@ module _ (first : Written) (r : Answer) (left : List ℕ) (e : record { answer =
   unfolding back
   refused-back cause f output n buffer = (ap (λ o. back o output n buffer) (sym (answered (Refused cause) f)), left-is)
 
-  counted-back : (n : ℕ) → r ≡ Count n → (second : Written) (output : List ℕ) (k : ℕ) (buffer : List ℕ)
+  pub counted-back : (n : ℕ) → r ≡ Count n → (second : Written) (output : List ℕ) (k : ℕ) (buffer : List ℕ)
       → second ≡ written output k buffer → (second ≡ back (first .answer) output k buffer) × (left ≡ first .buffer)
   unfolding back
   counted-back n f second output k buffer g = (g ∙ ap (λ o. back o output k buffer) (sym (answered (Count n) f)), left-is)

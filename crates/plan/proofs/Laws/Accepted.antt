@@ -1,16 +1,17 @@
 -- What reading gives at each outcome of its tests, and what an accepted plan satisfies.
 use Prim.Native.Nat.{ℕ, _<_}
 use native.Mathlib.Omega.{arith}
-use mathlib.Core.Path.{_≡_}
+use mathlib.Core.Path.{_≡_, ap}
 use mathlib.Core.Bool.{Bool, true, false}
 use mathlib.Core.List.{List}
-use lib.Dec.{T, eqb, eqb→eq}
+use lib.Dec.{T, eqb, ltb, eqb→eq}
 use borrow.Author.Tests.{eqb-true}
 use Rattle.plan.specs.Refusal.{refused, accepted}
 use Rattle.plan.specs.Test.{either}
 use Rattle.plan.specs.Rules.{spawnRules, joinRules, Accepted}
-use Rattle.fields.specs.Field.{stop, step}
-use Rattle.plan.specs.Reader.{Read, planAt, fills, judged, isForm, readPlan}
+use Rattle.fields.specs.Field.{stop, step, fieldAt}
+use Rattle.fields.proofs.Laws.Readings.{then-went-on, unless-went-on, when-went-on}
+use Rattle.plan.specs.Reader.{Read, jobsAt, planAt, fills, judged, isForm, readPlan}
 use Rattle.plan.proofs.Laws.Steps.{bool-cases, step-cases, plan-next}
 
 module _ (s : List ℕ) where
@@ -64,6 +65,18 @@ module _ (s : List ℕ) (x : Read) (e : readPlan s ≡ accepted x) where
       let (at, e, fills, spawns, joins) = accepted-all in
       let r = plan-next s x at e in
       (record { range = r .0; spawns = spawns; joins = joins }, r .3)
+
+-- the form is the first field
+pub accepted-first : (s : List ℕ) (x : Read) → readPlan s ≡ accepted x → (at : ℕ) × (fieldAt s 8 0 ≡ step (x .form) at)
+unfolding planAt
+accepted-first s x e =
+    let (n, f, _) = accepted-place s x e in
+    then-went-on (fieldAt s 8 0) _ f λ form m r f₀. when-went-on (isForm form) 2 _ f₀ λ _ f₁.
+    then-went-on (fieldAt s 9 m) _ f₁ λ jobs m₁ r₁ f₂.
+    unless-went-on (either (eqb jobs 0) (ltb 256 jobs)) 3 _ f₂ λ _ f₃.
+    then-went-on (jobsAt form s jobs 0 m₁) _ f₃ λ p m₂ r₂ f₄.
+    let q : form ≡ x .form = ap (λ x. x .form) (let z : record { form = form; plan = p } ≡ x = cc in z) in
+    (m, rw (← q) r)
 
 pub accepted-kept : (s : List ℕ) (x : Read) → readPlan s ≡ accepted x → Accepted (x .plan)
 accepted-kept s x e = accepted-as s x e .0

@@ -1,4 +1,4 @@
--- Outcomes: a refusal is no acceptance, and three tests in order, of which the last two answer refusals 4 and 5.
+-- Outcomes: a refusal is no acceptance, what is accepted is one thing, and three tests in order, of which the last two answer refusals 4 and 5.
 use Prim.Native.Nat.{ℕ}
 use native.Mathlib.Omega.{arith}
 use mathlib.Core.Path.{_≡_, refl}
@@ -8,6 +8,9 @@ use Rattle.plan.specs.Refusal.{Outcome, refused, accepted}
 
 pub refused-accepted : {A P : Type 0} {k : ℕ} {a : A} → _≡_ {A = Outcome A} (refused k) (accepted a) → P
 refused-accepted e = absurd (let z : _≡_ {A = ℕ} 0 1 = cc in omega arith)
+
+pub accepted-same : {A : Type 0} (a b : A) → _≡_ {A = Outcome A} (accepted a) (accepted b) → a ≡ b
+accepted-same a b e = cc
 
 pub passes : {A : Type 0} (k : ℕ) (x y z : Bool) (a : A) → T x → T y → T z
     → _≡_ {A = Outcome A} (elim x [

@@ -6,28 +6,18 @@ use mathlib.Core.Bool.{true, false}
 use mathlib.Core.List.{List, _++_}
 use lib.ListN.{length, drop}
 use lib.Dec.{T, eqb}
-use borrow.Author.Tests.{le-leb, lt-leb}
 use Rattle.plan.specs.Refusal.{refused, accepted}
 use Rattle.plan.specs.Plan.{Plan, total}
 use Rattle.plan.specs.Reader.{isForm, readPlan}
 use Rattle.plan.specs.Sheet.{PlanIn}
-use Rattle.plan_table.specs.Table.{written, tableOf, tabled, toTable, rowsOf, rowRules, planOf, ruled, readTable, encoded, toPlan}
+use Rattle.plan_writer.specs.Written.{written, encoded}
+use Rattle.plan_table.specs.Table.{tableOf, tabled, toTable, rowsOf, rowRules, planOf, ruled, readTable, toPlan}
 use Rattle.plan.specs.Test.{both}
 use Rattle.plan.specs.Rules.{inRange, costsFit, spawnRules, joinRules, Accepted}
-use Rattle.plan_writer.specs.Writer.{planBytes}
 use Rattle.plan_table.specs.GivenRows.{ranged, RowsGiven}
 use Rattle.plan.proofs.Laws.Lists.{true-of, both-intro}
+use Rattle.plan_writer.proofs.Laws.Answers.{written-short, written-whole}
 use Rattle.plan_table.proofs.Laws.Rows.{table-length}
-
-written-short : (output : List ℕ) (n : ℕ) (buffer : List ℕ) → length buffer < length output
-    → written output n buffer ≡ record { answer = refused 9; buffer = buffer }
-unfolding written
-written-short output n buffer h = rw (written, lt-leb _ _ h)
-
-written-whole : (output : List ℕ) (n : ℕ) (buffer : List ℕ) → length output ≤ length buffer
-    → written output n buffer ≡ record { answer = accepted n; buffer = output ++ drop (length output) buffer }
-unfolding written
-written-whole output n buffer h = rw (written, le-leb _ _ h)
 
 pub table-refused : (s buffer : List ℕ) (n : ℕ) → readPlan s ≡ refused n → record { answer = refused n; buffer = buffer } ≡ toTable s buffer
 unfolding toTable tabled
@@ -67,17 +57,9 @@ module _ (form : ℕ) (p : Plan) (buffer : List ℕ) where
     encoded-joins s e = rw (ruled, in-range, true-of (spawnRules p) s, e)
 
   module _ (ok : Accepted p) (costs : T (costsFit form p)) where
-    encoded-plan : written (planBytes form p) (length (planBytes form p)) buffer ≡ encoded form (ruled form p) buffer
-    unfolding ruled encoded
+    pub encoded-plan : encoded form (accepted p) buffer ≡ encoded form (ruled form p) buffer
+    unfolding ruled
     encoded-plan = rw (ruled, in-range (ok .range) costs, true-of (spawnRules p) (ok .spawns), true-of (joinRules p) (ok .joins))
-
-    pub encoded-short : length buffer < length (planBytes form p) → record { answer = refused 9; buffer = buffer } ≡ encoded form (ruled form p) buffer
-    encoded-short h = sym (written-short (planBytes form p) (length (planBytes form p)) buffer h) ∙ encoded-plan
-
-    pub encoded-whole : length (planBytes form p) ≤ length buffer → (n : ℕ) (l : List ℕ)
-        → n ≡ length (planBytes form p) → l ≡ planBytes form p ++ drop (length (planBytes form p)) buffer
-        → record { answer = accepted n; buffer = l } ≡ encoded form (ruled form p) buffer
-    encoded-whole h n l e w = rw (e, w) (sym (written-whole (planBytes form p) (length (planBytes form p)) buffer h) ∙ encoded-plan)
 
 -- what a table answers in a form: 2, 10, 3, or what its plan answers
 

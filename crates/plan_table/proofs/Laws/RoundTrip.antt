@@ -2,42 +2,23 @@
 use Prim.Native.Nat.{ℕ, _*_, _/_, _≤_}
 use native.Mathlib.Omega.{arith}
 use mathlib.Core.Path.{_≡_, refl, sym, ap, ap₂, _∙_}
-use mathlib.Core.Bool.{Bool, true, false}
 use mathlib.Core.List.{List, _++_}
 use lib.ListN.{length, getD, take, drop}
 use lib.Seq.{take-at}
-use lib.Dec.{leb}
 use Rattle.plan.specs.Refusal.{Outcome, refused, accepted}
 use Rattle.plan.specs.Plan.{Plan, total}
 use Rattle.fields.specs.Field.{Bytes}
 use Rattle.plan.specs.Reader.{Read, readPlan}
 use Rattle.plan_writer.specs.Writer.{planBytes}
-use Rattle.plan_table.specs.Table.{tableOf, readTable, Written, written, tabled, toTable, encoded, toPlan}
+use Rattle.plan_writer.specs.Written.{written, encoded}
+use Rattle.plan_table.specs.Table.{tableOf, readTable, tabled, toTable, toPlan}
 use Rattle.plan.proofs.Laws.Accepted.{accepted-as}
-use Rattle.plan.proofs.Laws.Outcomes.{refused-accepted}
+use Rattle.plan.proofs.Laws.Outcomes.{refused-accepted, accepted-same}
+use Rattle.plan_writer.proofs.Laws.Answers.{written-told, encoded-told, encoded-front}
 use Rattle.plan_writer.proofs.Laws.PlanBytes.{read-form, read-write, write-read}
 use Rattle.plan.proofs.Laws.Costs.{accepted-costs}
 use Rattle.plan_table.proofs.Laws.Rows.{table-length}
 use Rattle.plan_table.proofs.Laws.OpenTable.{table-read-write, table-write-read, readTable-rules}
-
-accepted-same : (x y : Read) → _≡_ {A = Outcome Read} (accepted x) (accepted y) → x ≡ y
-accepted-same x y e = cc
-
--- what was written, where the answer is no refusal
-written-told : {P : Type 0} (output : List ℕ) (k : ℕ) (buffer : List ℕ) (n : ℕ) → written output k buffer .answer ≡ accepted n
-    → (n ≡ k → written output k buffer .buffer ≡ output ++ drop (length output) buffer → P) → P
-unfolding written
-written-told {P} output k buffer n e use-it = go (leb (length output) (length buffer)) e use-it
-  where
-    chosen : Bool → Written
-    chosen c = elim c [
-      | false ↦ record { answer = refused 9; buffer = buffer }
-      | true ↦ record { answer = accepted k; buffer = output ++ drop (length output) buffer }
-    ]
-
-    go : (c : Bool) → chosen c .answer ≡ accepted n → (n ≡ k → chosen c .buffer ≡ output ++ drop (length output) buffer → P) → P
-    go true e use-it = use-it (cc) refl
-    go false e use-it = refused-accepted e
 
 pub toTable-told : {P : Type 0} (s rows : List ℕ) (n : ℕ) → toTable s rows .answer ≡ accepted n
     → ((x : Read) → readPlan s ≡ accepted x → n ≡ total (x .plan)
@@ -54,14 +35,8 @@ toTable-told {P} s rows n e use-it = go (readPlan s) e use-it
 pub toPlan-told : {P : Type 0} (form : ℕ) (t bytes : List ℕ) (n : ℕ) → toPlan form t bytes .answer ≡ accepted n
     → ((p : Plan) → readTable form t ≡ accepted p → n ≡ length (planBytes form p)
     → toPlan form t bytes .buffer ≡ planBytes form p ++ drop (length (planBytes form p)) bytes → P) → P
-unfolding toPlan encoded
-toPlan-told {P} form t bytes n e use-it = go (readTable form t) e use-it
-  where
-    go : (o : Outcome Plan) → encoded form o bytes .answer ≡ accepted n
-        → ((p : Plan) → o ≡ accepted p → n ≡ length (planBytes form p)
-        → encoded form o bytes .buffer ≡ planBytes form p ++ drop (length (planBytes form p)) bytes → P) → P
-    go (refused k) e use-it = refused-accepted e
-    go (accepted p) e use-it = written-told (planBytes form p) (length (planBytes form p)) bytes n e (use-it p refl)
+unfolding toPlan
+toPlan-told form t bytes n e use-it = encoded-told form (readTable form t) bytes n e use-it
 
 -- the first of a plan's bytes is its form
 pub plan-form : (s : List ℕ) (x : Read) → Bytes s → readPlan s ≡ accepted x → (1 ≤ length s) × (getD s 0 0 ≡ x .form)
@@ -87,11 +62,9 @@ plan-table-plan s rows bytes n x h r e =
 
 pub table-plan-table : (form : ℕ) (t bytes rows : List ℕ) (n : ℕ) → toPlan form t bytes .answer ≡ accepted n
     → toTable (take n (toPlan form t bytes .buffer)) rows ≡ written t (length t / 5) rows
-unfolding toTable tabled
+unfolding toTable tabled toPlan
 table-plan-table form t bytes rows n e =
-    toPlan-told form t bytes n e λ p r k b.
-    let s : take n (toPlan form t bytes .buffer) ≡ planBytes form p
-    = ap (take n) b ∙ take-at (planBytes form p) (drop (length (planBytes form p)) bytes) n (sym k) in
+    encoded-front form (readTable form t) bytes n e λ p r s.
     let (range, spawns, joins, costs, passes) = readTable-rules form t p r in
     let w : tableOf p ≡ t = table-read-write form t p r in
     let l : total p ≡ length t / 5 = omega (arith, table-length p, ap length w) in

@@ -85,8 +85,8 @@ laid c =
     let l = taken-count form (kept o) (r .take-rows .result) _ (r .take-rows .ensures) _ (c .jobs .given .1) in
     record { held = l .0; costs = l .1; byte = form-small form (of-true (isForm form) (known (else1 o))) }
 
-encode-requires : tie.Need-encode-requires
-encode-requires c κs = (_, laid (c .before .before .before))
+close-requires : tie.Need-close-requires
+close-requires c κs = (_, laid (c .before .before .before))
 
 returns-4 : tie.Need-returns-4
 returns-4 c =
@@ -102,7 +102,7 @@ returns-5 : tie.Need-returns-5
 returns-5 c =
     let j = c .before .before .before .before .before .before in
     let o = else2 (j .before .before) in
-    c .before .before .encode .ensures _ (laid j) ∙ plan-ruled _ _ _ (known (else1 o)) (rules o)
+    c .before .before .close .ensures _ (laid j) ∙ plan-ruled _ _ _ (known (else1 o)) (rules o)
 
 pub table-to-plan-spec : {M : Type 1} → statement M
 table-to-plan-spec =
@@ -116,7 +116,7 @@ table-to-plan-spec =
     take-rows-requires
     enum-known-cause
     enum-known-jobs
-    encode-requires
+    close-requires
     returns-4
     same-length
     returns-5)

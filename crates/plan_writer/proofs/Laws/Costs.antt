@@ -2,7 +2,7 @@
 --   one a       == the action costs 1
 --   Ones form l == in form 1 each of the actions l does
 --   costs-ones, ones-costs == that is what it is for a plan's costs to fit the form
---   costs-at, costs-by     == the same of each action, and by place
+--   costs-place, costs-at, costs-by == the same by place, of each action, and the other way round
 --   ones-front, ones-back, ones-first, ones-rest == of lists one behind another, and of a job's first action
 use Prim.Native.Nat.{ℕ, suc, _+_, _<_}
 use mathlib.Core.Path.{_≡_, ap, sym, _∙_}
@@ -55,11 +55,13 @@ module _ (form : ℕ) where
     unfolding costsFit
     ones-costs f = bool-cases (eqb form 1) (λ e. rw (costsFit, e) (f e)) (λ e. rw (costsFit, e) tt)
 
+    pub costs-place : T (costsFit form p) → (k : ℕ) → k < total p → form ≡ 1 → getD (placed p) k noPlaced .cost ≡ 1
+    costs-place t k h e =
+        eqb→eq (getD (placed p) k noPlaced .cost) 1
+        (all-at one (placed p) (costs-ones t (eq-eqb form 1 e)) noPlaced k (omega (arith, placed-length p)))
+
     pub costs-at : T (costsFit form p) → (j i : ℕ) → j < length p → i < size p j → form ≡ 1 → action p j i .cost ≡ 1
-    costs-at t j i h b e =
-        sym (ap (λ a. a .cost) (placed-at p j i h b))
-        ∙ eqb→eq (getD (placed p) (start p j + i) noPlaced .cost) 1
-        (all-at one (placed p) (costs-ones t (eq-eqb form 1 e)) noPlaced (start p j + i) (omega (arith, placed-length p, place-below p j i h b)))
+    costs-at t j i h b e = sym (ap (λ a. a .cost) (placed-at p j i h b)) ∙ costs-place t (start p j + i) (place-below p j i h b) e
 
     pub costs-by : ((k : ℕ) → k < total p → form ≡ 1 → getD (placed p) k noPlaced .cost ≡ 1) → T (costsFit form p)
     costs-by f =

@@ -28,7 +28,7 @@ use Rattle.plan.proofs.Laws.Spawning.{jobs-in-range, total-in-range}
 use Rattle.fields.proofs.Laws.Bits.{Binary, append-binary, drop-binary, bits-binary, bitsOf-binary, bits-length, bitsOf-number}
 use Rattle.fields.proofs.Laws.Bits.{number-zeros, number-bitsOf, field-read, bits-pack, pack-length, pack-bytes}
 use Rattle.fields.proofs.Laws.Seams.{bits-same, bitsOf-zero, field-taken, Rest, field-found}
-use Rattle.plan.proofs.Laws.Accepted.{accepted-place, form-small}
+use Rattle.plan.proofs.Laws.Accepted.{accepted-place, accepted-first, form-small}
 use Rattle.plan_writer.proofs.Laws.Numbers.{number-binary, cost-binary}
 use Rattle.plan_writer.proofs.Laws.Costs.{Ones, ones-front, ones-back, ones-first, ones-rest, costs-ones}
 use Rattle.plan.proofs.Laws.Fill.{fills-rest}
@@ -190,16 +190,7 @@ first-byte (b ∷ s) v n h e =
 
 module _ (s : List ℕ) (x : Read) where
   pub read-form : Bytes s → readPlan s ≡ accepted x → (1 ≤ length s) × (getD s 0 0 ≡ x .form)
-  unfolding planAt
-  read-form h e =
-      let (n, f, _) = accepted-place s x e in
-      then-went-on (fieldAt s 8 0) _ f λ form m r f₀. when-went-on (isForm form) 2 _ f₀ λ _ f₁.
-      then-went-on (fieldAt s 9 m) _ f₁ λ jobs m₁ r₁ f₂.
-      unless-went-on (either (eqb jobs 0) (ltb 256 jobs)) 3 _ f₂ λ _ f₃.
-      then-went-on (jobsAt form s jobs 0 m₁) _ f₃ λ p m₂ r₂ f₄.
-      let q : form ≡ x .form = ap (λ x. x .form) (let z : record { form = form; plan = p } ≡ x = cc in z) in
-      let b = first-byte s form m h r in
-      (b .0, b .1 ∙ q)
+  read-form h e = let (m, r) = accepted-first s x e in first-byte s (x .form) m h r
 
   pub read-write : Bytes s → readPlan s ≡ accepted x → planBytes (x .form) (x .plan) ≡ s
   read-write h e = bits-same (planBytes (x .form) (x .plan)) s (planBytes-bytes (x .form) (x .plan)) h (planBytes-bits (x .form) (x .plan) ∙ same)

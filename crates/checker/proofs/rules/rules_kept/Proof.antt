@@ -1,61 +1,69 @@
--- `checker::rules::rules_kept` meets its contract: before each row those before it keep the rules and lie in the buckets, and the walk
--- stands in a job (`Laws.Standing`); the way along an action's line meets all that send it a join, and the way along the chains of the
--- buckets each earlier row whose span meets that of the row (`Laws.Chains`, `Laws.Buckets`).
+-- `checker::rules::rules_kept` meets its contract: before each row those before it keep the rules and lie in the buckets, their rounds
+-- are in the sets, and the walk stands in a job (`Laws.Standing`); the way along an action's line meets all that send it a join, and each
+-- earlier row whose span meets that of the row is met along the chains of the buckets (`Laws.Chains`, `Laws.Buckets`), if the sets do
+-- not tell that there is none (`Laws.Busy`).
 use Prim.Native.Nat.{_+_, _-_, _*_, _/_, _%_, _^_, _≤_, _<_}
-use mathlib.Core.Path.{_≡_, refl, ap, _∙_}
-use mathlib.Core.Logic.{_≢_, ⊎-elim, by-cases}
-use mathlib.Core.Bool.{true}
+use mathlib.Core.Path.{_≡_, refl, ap, sym, _∙_}
+use mathlib.Core.Logic.{_≢_, _⊎_, inl, inr, ⊎-elim, by-cases}
+use mathlib.Core.Bool.{Bool, true, false, not, true≢false}
 use native.Mathlib.Omega.{arith}
 use native.Mathlib.Decide.{ℕ-discrete}
 use native.Mathlib.Nat.{div-le-self}
 use borrow.Author.Needs.{needs}
-use borrow.Author.Tests.{ltb-true, ltb-false}
-use lib.ListN.{length, length-set}
+use borrow.Author.Tests.{ltb-true, ltb-false, ne-eqb}
+use lib.ListN.{length}
 use Rattle.plan.proofs.Laws.Laid.{laid-end}
 use Rattle.plan.proofs.Laws.Lists.{of-true}
 use Rattle.plan.proofs.Laws.Valid.{jobs-range, total-range}
 use Rattle.checker.specs.Rows.{spanAt}
 use Rattle.checker.specs.Given.{Task, RulesGiven}
 use Rattle.checker.specs.Chains.{entry, Chains, Walk}
-use Rattle.checker.specs.Buckets.{blockOf, bucketOf, keyOf, Meet, Clear}
+use Rattle.checker.specs.Buckets.{bucketOf, keyOf, Meet, Clear}
+use Rattle.checker.specs.Busy.{Taken, Noted}
 use Rattle.checker.specs.Senders.{lineOf}
 use Rattle.checker.specs.Judging.{Later, Seen, Stood}
 use Rattle.checker.proofs.Laws.Keeping.{seen-none, seen-more, all-keep, not-kept, not-apart}
 use Rattle.checker.proofs.Laws.Following.{joined-all, not-joined}
 use Rattle.checker.proofs.Laws.Standing.{stood-first, stood-on, stand-given}
-use Rattle.checker.proofs.Laws.Chains.{chains-none, head-below, enter, walk-first, walk-falls, walk-next}
+use Rattle.checker.proofs.Laws.Chains.{chains-none, head-below, walk-first, walk-falls, walk-next}
 use Rattle.checker.proofs.Laws.Buckets.{clear-first, clear-next, clear-all, meet-of, of-meet}
+use Rattle.checker.proofs.Laws.Busy.{span-short, taken-read, noted-none, noted-more, noted-apart}
 use Rattle.checker.proofs.rules.rules_kept.Statement.{statement}
 use Rattle.checker.proofs.rules.rules_kept.Tie as tie
 
+free-of : (b : Bool) → not b ≡ false → b ≡ true
+free-of true e = refl
+free-of false e = absurd (true≢false e)
+
 abbrev Inv-joins : tie.InvT-joins
-Inv-joins form workers actions rows plan latest prior last earlier stride more shift kept₀ k row first here sender₀ kept sender =
+Inv-joins form workers actions rows plan latest prior last earlier busy stride more shift kept₀ k row first here sender₀ kept sender =
     (kept ≡ true) × (sender ≤ actions) × Walk actions (lineOf plan) k (λ x. Later (spanAt rows plan) x k) sender
 
 abbrev μ-joins : tie.MeasureT-joins
-μ-joins form workers actions rows plan latest prior last earlier stride more shift kept₀ k row first here sender₀ kept sender =
+μ-joins form workers actions rows plan latest prior last earlier busy stride more shift kept₀ k row first here sender₀ kept sender =
     sender
 
 abbrev Inv-clashes : tie.InvT-clashes
-Inv-clashes form workers actions rows plan latest prior last earlier stride more shift kept₀ k row first here sender home low block₀ at₀ kept block at =
+Inv-clashes form workers actions rows plan latest prior last earlier busy stride more shift kept₀ k row first here sender home low block₀ at₀ free kept block at =
     (kept ≡ true) × (at ≤ k) × (block ≤ home + more)
     × Walk k (λ i. keyOf more stride (spanAt rows plan i)) (bucketOf stride block (row % 16)) (λ i. Meet (spanAt rows plan i) (spanAt rows plan k) → ⊥) at
     × Clear more block k (spanAt rows plan)
 
 -- what is left of the blocks, and of the chain
 abbrev μ-clashes : tie.MeasureT-clashes
-μ-clashes form workers actions rows plan latest prior last earlier stride more shift kept₀ k row first here sender home low block₀ at₀ kept block at =
+μ-clashes form workers actions rows plan latest prior last earlier busy stride more shift kept₀ k row first here sender home low block₀ at₀ free kept block at =
     (block - low) * 2049 + at
 
 abbrev Inv-actions : tie.InvT-actions
-Inv-actions form workers actions rows plan latest prior last₀ earlier₀ stride more shift standing₀ kept₀ k₀ last earlier standing kept k =
+Inv-actions form workers actions rows plan latest prior last₀ earlier₀ busy₀ stride more shift standing₀ kept₀ k₀ last earlier busy standing kept k =
     (kept ≡ true) × (length last ≡ 4096) × (length earlier ≡ 2048) × (k ≤ actions) × (actions ≤ 2048)
     × Chains k (λ i. keyOf more stride (spanAt rows plan i)) (entry last) (entry earlier)
     × ((t : Task) → RulesGiven form workers actions rows plan t → Seen (t .plan) workers k (spanAt rows plan))
     × ((t : Task) → RulesGiven form workers actions rows plan t → Stood (t .plan) (spanAt rows plan) k standing)
+    × Noted more stride k (spanAt rows plan) busy
 
 abbrev μ-actions : tie.MeasureT-actions
-μ-actions form workers actions rows plan latest prior last₀ earlier₀ stride more shift standing₀ kept₀ k₀ last earlier standing kept k =
+μ-actions form workers actions rows plan latest prior last₀ earlier₀ busy₀ stride more shift standing₀ kept₀ k₀ last earlier busy standing kept k =
     actions - k
 
 -- where the row was read, where the walk over the rows stood then, and where all began
@@ -71,12 +79,17 @@ lined v = v .before .before .before
 abbrev start : tie.At-actions Inv-joins μ-joins Inv-clashes μ-clashes Inv-actions μ-actions → tie.Start Inv-joins μ-joins Inv-clashes μ-clashes Inv-actions μ-actions
 start v = lined v .before .before .before
 
+-- the row is one of the rows, and these are few
+in-rows : (o : tie.After-first-round Inv-joins μ-joins Inv-clashes μ-clashes Inv-actions μ-actions) → let v = on-walk o in
+    (v .actions .k < start v .args .actions) × (start v .args .actions ≤ 2048)
+in-rows o = (o .before .before .actions-test .taken, on-walk o .actions .inv .4)
+
 -- where the ways along the joins and along the clashes came from
 abbrev on-joins : tie.After-joins Inv-joins μ-joins Inv-clashes μ-clashes Inv-actions μ-actions → tie.Else1 Inv-joins μ-joins Inv-clashes μ-clashes Inv-actions μ-actions
 on-joins j = j .before .before .before
 
 abbrev on-clashes : tie.At-clashes Inv-joins μ-joins Inv-clashes μ-clashes Inv-actions μ-actions → tie.After-joins Inv-joins μ-joins Inv-clashes μ-clashes Inv-actions μ-actions
-on-clashes a = a .before .before .before
+on-clashes a = a .before .before .before .before .before
 
 -- the row's worker is one of the workers, and its first round is that of its span
 begun : (e : tie.Else1 Inv-joins μ-joins Inv-clashes μ-clashes Inv-actions μ-actions) → let o = on-row e in
@@ -98,10 +111,35 @@ stride-small : (e : tie.Else1 Inv-joins μ-joins Inv-clashes μ-clashes Inv-acti
 stride-small e = div-le-self 4096 (start (on-walk (on-row e)) .args .workers)
 
 -- the loop went on at the end of a chain, so a block is left
-left : (c : tie.Then5 Inv-joins μ-joins Inv-clashes μ-clashes Inv-actions μ-actions) → let a = c .before .before in
+left : (c : tie.Then5 Inv-joins μ-joins Inv-clashes μ-clashes Inv-actions μ-actions) → let a = c .before .before .before .before in
     let o = on-row (on-joins (on-clashes a)) in
     o .first-round .result / 2 ^ (4 * on-walk o .before .before .more-of .result) < a .clashes .block
-left c = ⊎-elim (λ u. absurd (u .taken (c .if5 .taken))) (λ u. ltb-true _ _ (u .1 .taken)) (c .before .if3 .came)
+left c =
+    let f = c .before in
+    ⊎-elim (λ u. absurd (u .0 .taken (c .if5 .taken))) (λ u. ltb-true _ _ (sym (u .1) ∙ f .if4 .taken)) (f .before .if3 .came)
+
+-- the loop was left: no row and no block is, or none of the row's rounds was in the sets
+over : (x : tie.Left-clashes Inv-joins μ-joins Inv-clashes μ-clashes Inv-actions μ-actions) → let a = x .before in
+    let o = on-row (on-joins (on-clashes a)) in
+    ((a .clashes .at ≡ 0) × (a .clashes .block ≤ o .first-round .result / 2 ^ (4 * on-walk o .before .before .more-of .result)))
+    ⊎ (a .before .take .result ≡ true)
+over x =
+    ⊎-elim
+    (λ u. ⊎-elim (λ w. absurd (true≢false (sym (w .1 ∙ ap not (ne-eqb _ 0 (w .0 .taken))) ∙ u .2 .left)))
+    (λ w. inl (w .0 .left, ltb-false _ _ (sym (w .1) ∙ u .2 .left))) (u .1 .came))
+    (λ u. inr (free-of _ (u .left))) (x .clashes-test .came)
+
+-- the row's rounds have come into the sets
+took : (a : tie.At-clashes Inv-joins μ-joins Inv-clashes μ-clashes Inv-actions μ-actions) → let k = a .before in
+    let o = on-row (on-joins (on-clashes a)) in
+    let v = on-walk o in
+    Taken (v .before .before .more-of .result) (4096 / start v .args .workers) (spanAt (start v .args .rows .now) (start v .args .plan .now) (v .actions .k))
+    (v .actions .busy) (k .take .last .1 .1 .1 .1 .0) (k .take .result)
+took a =
+    let e = on-joins (on-clashes a) in
+    let o = on-row e in
+    let v = on-walk o in
+    taken-read (start v .args .rows .now) (start v .args .plan .now) _ _ _ (o .before .row-of .ensures .0) (begun e .1) (a .before .take .ensures)
 
 line-up-requires : tie.Need-line-up-requires Inv-joins μ-joins Inv-clashes μ-clashes Inv-actions μ-actions
 line-up-requires c κs =
@@ -134,7 +172,8 @@ actions-holds c =
       chains-none 4096 _ _,
       λ t g. seen-none _ _ _,
       λ t g. stood-first _ (g .tasked .planned .rules) _ _
-          (c .first-of .ensures .0 ∙ laid-end _ _ (g .tasked .planned .laid) 0 (jobs-range (t .plan) (g .tasked .planned .rules) .0)),
+          (rw (c .first-of .ensures .0) (laid-end _ _ (g .tasked .planned .laid) 0 (jobs-range (t .plan) (g .tasked .planned .rules) .0))),
+      noted-none _ _ _,
     )
 
 row-of-requires : tie.Need-row-of-requires Inv-joins μ-joins Inv-clashes μ-clashes Inv-actions μ-actions
@@ -173,36 +212,27 @@ sub-row-of c = omega arith
 row-of-requires-2 : tie.Need-row-of-requires-2 Inv-joins μ-joins Inv-clashes μ-clashes Inv-actions μ-actions
 row-of-requires-2 c κs = omega arith
 
-sub-wide16 : tie.Need-sub-wide16 Inv-joins μ-joins Inv-clashes μ-clashes Inv-actions μ-actions
-sub-wide16 c = omega arith
-
-mul-wide16-2 : tie.Need-mul-wide16-2 Inv-joins μ-joins Inv-clashes μ-clashes Inv-actions μ-actions
-mul-wide16-2 c = omega arith
-
-array-read-wide16-2 : tie.Need-array-read-wide16-2 Inv-joins μ-joins Inv-clashes μ-clashes Inv-actions μ-actions
-array-read-wide16-2 c = omega arith
-
-wide16-requires-2 : tie.Need-wide16-requires-2 Inv-joins μ-joins Inv-clashes μ-clashes Inv-actions μ-actions
-wide16-requires-2 c κs = search needs
+back-from-requires : tie.Need-back-from-requires Inv-joins μ-joins Inv-clashes μ-clashes Inv-actions μ-actions
+back-from-requires c κs = (omega arith, omega arith)
 
 joins-less : tie.Need-joins-less Inv-joins μ-joins Inv-clashes μ-clashes Inv-actions μ-actions
 joins-less c =
-    let j = c .before .before .before .before in
+    let j = c .before .before .before .before .before in
     let l = lined (on-walk (on-row (j .before .before))) .line-up .ensures in
-    omega (arith, walk-falls _ _ _ _ _ _ _ _ l (j .joins .inv .2) (omega arith) (omega arith), c .wide162 .ensures .0)
+    omega (arith, walk-falls _ _ _ _ _ _ _ _ l (j .joins .inv .2) (omega arith) (omega arith), c .back-from .ensures)
 
 joins-again : tie.Need-joins-again Inv-joins μ-joins Inv-clashes μ-clashes Inv-actions μ-actions
 joins-again c =
-    let r = c .before .before in
+    let r = c .before .before .before in
     let j = r .before .before in
     let e = j .before .before in
     let l = lined (on-walk (on-row e)) .line-up .ensures in
     let some : j .joins .sender ≢ 0 = omega arith in
     let f = walk-falls _ _ _ _ _ _ _ _ l (j .joins .inv .2) (omega arith) some in (
       j .joins .inv .0,
-      omega (arith, c .wide162 .ensures .0),
-      rw (c .wide162 .ensures .0) (walk-next _ _ _ _ _ _ _ _ l (j .joins .inv .2) (omega arith) some
-          (omega (arith, c .before .if2 .left, r .row-of2 .ensures .0, begun e .1))),
+      omega (arith, c .back-from .ensures),
+      rw (c .back-from .ensures) (walk-next _ _ _ _ _ _ _ _ l (j .joins .inv .2) (omega arith) some
+          (omega (arith, c .before .before .if2 .left, r .row-of2 .ensures .0, begun e .1))),
     )
 
 shr-home : tie.Need-shr-home Inv-joins μ-joins Inv-clashes μ-clashes Inv-actions μ-actions
@@ -214,71 +244,63 @@ shr-low c = omega (arith, on-walk (on-row (on-joins c)) .before .before .more-of
 add-block : tie.Need-add-block Inv-joins μ-joins Inv-clashes μ-clashes Inv-actions μ-actions
 add-block c = omega (arith, small (on-joins c))
 
-bucket-of-requires : tie.Need-bucket-of-requires Inv-joins μ-joins Inv-clashes μ-clashes Inv-actions μ-actions
-bucket-of-requires c κs = (small (on-joins c), omega arith, stride-small (on-joins c))
+latest-in-requires : tie.Need-latest-in-requires Inv-joins μ-joins Inv-clashes μ-clashes Inv-actions μ-actions
+latest-in-requires c κs =
+    let e = on-joins (c .before) in
+    (small e, omega arith, stride-small e)
 
-mul-wide16-3 : tie.Need-mul-wide16-3 Inv-joins μ-joins Inv-clashes μ-clashes Inv-actions μ-actions
-mul-wide16-3 c = omega arith
-
-array-read-wide16-3 : tie.Need-array-read-wide16-3 Inv-joins μ-joins Inv-clashes μ-clashes Inv-actions μ-actions
-array-read-wide16-3 c = omega (arith, on-walk (on-row (on-joins (c .before))) .actions .inv .1, c .bucket-of .ensures .1)
-
-wide16-requires-3 : tie.Need-wide16-requires-3 Inv-joins μ-joins Inv-clashes μ-clashes Inv-actions μ-actions
-wide16-requires-3 c κs = search needs
+take-requires : tie.Need-take-requires Inv-joins μ-joins Inv-clashes μ-clashes Inv-actions μ-actions
+take-requires c κs =
+    let e = on-joins (c .before .before .before) in
+    let o = on-row e in
+    let v = on-walk o in
+    let (t, g) = start v .pre in
+    let s = span-short _ _ t g (v .actions .k) (omega arith) in
+    let row = o .before .row-of .ensures in
+    (omega (arith, begun e .1), omega (arith, begun e .1), row .1, stride-small e, v .actions .inv .8 .long)
 
 clashes-holds : tie.Need-clashes-holds Inv-joins μ-joins Inv-clashes μ-clashes Inv-actions μ-actions
 clashes-holds c =
-    let j = c .before .before in
+    let j = c .before .before .before .before in
     let o = on-row (on-joins j) in
     let v = on-walk o in
     let (t, g) = start v .pre in
-    let m = v .before .before .more-of in
-    let e = c .wide163 .ensures .0 ∙ ap (entry (v .actions .last)) (c .before .bucket-of .ensures .0) in (
+    let m = v .before .before .more-of in (
       j .before .joins .inv .0,
-      head-below (v .actions .inv .5) _ _ e,
+      head-below (v .actions .inv .5) _ _ (c .before .before .latest-in .ensures),
       omega arith,
-      walk-first _ _ _ _ _ _ _ (v .actions .inv .5) e,
+      walk-first _ _ _ _ _ _ _ (v .actions .inv .5) (c .before .before .latest-in .ensures),
       clear-first _ (m .ensures .1) _ _ t g (m .ensures .0) _ _ (omega arith) (o .before .row-of .ensures .0),
     )
 
 sub-block : tie.Need-sub-block Inv-joins μ-joins Inv-clashes μ-clashes Inv-actions μ-actions
 sub-block c = omega (arith, left c)
 
-bucket-of-requires-2 : tie.Need-bucket-of-requires-2 Inv-joins μ-joins Inv-clashes μ-clashes Inv-actions μ-actions
-bucket-of-requires-2 c κs =
-    let a = c .before .before in
+latest-in-requires-2 : tie.Need-latest-in-requires-2 Inv-joins μ-joins Inv-clashes μ-clashes Inv-actions μ-actions
+latest-in-requires-2 c κs =
+    let a = c .before .before .before .before .before in
     let e = on-joins (on-clashes a) in
     (omega (arith, small e, a .clashes .inv .2), omega arith, stride-small e)
 
-mul-wide16-4 : tie.Need-mul-wide16-4 Inv-joins μ-joins Inv-clashes μ-clashes Inv-actions μ-actions
-mul-wide16-4 c = omega arith
-
-array-read-wide16-4 : tie.Need-array-read-wide16-4 Inv-joins μ-joins Inv-clashes μ-clashes Inv-actions μ-actions
-array-read-wide16-4 c = omega (arith, on-walk (on-row (on-joins (on-clashes (c .before .before .before)))) .actions .inv .1, c .bucket-of2 .ensures .1)
-
-wide16-requires-4 : tie.Need-wide16-requires-4 Inv-joins μ-joins Inv-clashes μ-clashes Inv-actions μ-actions
-wide16-requires-4 c κs = search needs
-
 clashes-less : tie.Need-clashes-less Inv-joins μ-joins Inv-clashes μ-clashes Inv-actions μ-actions
 clashes-less c =
-    let a = c .before .before .before .before in
-    let v = on-walk (on-row (on-joins (on-clashes a))) in
-    let e = c .wide164 .ensures .0 ∙ ap (entry (v .actions .last)) (c .before .bucket-of2 .ensures .0) in
-    omega (arith, left (c .before .before), head-below (v .actions .inv .5) _ _ e, c .before .before .if5 .taken)
+    let f = c .before .before in
+    let v = on-walk (on-row (on-joins (on-clashes (f .before .before .before .before)))) in
+    omega (arith, left f, head-below (v .actions .inv .5) _ _ (c .latest-in2 .ensures), f .if5 .taken)
 
 clashes-again : tie.Need-clashes-again Inv-joins μ-joins Inv-clashes μ-clashes Inv-actions μ-actions
 clashes-again c =
-    let a = c .before .before .before .before in
+    let f = c .before .before in
+    let a = f .before .before .before .before in
     let o = on-row (on-joins (on-clashes a)) in
     let v = on-walk o in
     let m = v .before .before .more-of in
-    let i = a .clashes .inv in
-    let e = c .wide164 .ensures .0 ∙ ap (entry (v .actions .last)) (c .before .bucket-of2 .ensures .0) in (
+    let i = a .clashes .inv in (
       i .0,
-      head-below (v .actions .inv .5) _ _ e,
+      head-below (v .actions .inv .5) _ _ (c .latest-in2 .ensures),
       omega (arith, i .2),
-      walk-first _ _ _ _ _ _ _ (v .actions .inv .5) e,
-      clear-next _ (m .ensures .1) _ _ _ _ _ (ap (λ n. n % 16) (o .before .row-of .ensures .0)) (i .4) (rw (c .before .before .if5 .taken) at (i .3)),
+      walk-first _ _ _ _ _ _ _ (v .actions .inv .5) (c .latest-in2 .ensures),
+      clear-next _ (m .ensures .1) _ _ _ _ _ (omega (arith, o .before .row-of .ensures .0)) (i .4) (rw (f .if5 .taken) at (i .3)),
     )
 
 sub-meets : tie.Need-sub-meets Inv-joins μ-joins Inv-clashes μ-clashes Inv-actions μ-actions
@@ -287,84 +309,61 @@ sub-meets c = omega arith
 meets-requires : tie.Need-meets-requires Inv-joins μ-joins Inv-clashes μ-clashes Inv-actions μ-actions
 meets-requires c κs = omega arith
 
-sub-wide16-2 : tie.Need-sub-wide16-2 Inv-joins μ-joins Inv-clashes μ-clashes Inv-actions μ-actions
-sub-wide16-2 c = omega arith
-
-mul-wide16-5 : tie.Need-mul-wide16-5 Inv-joins μ-joins Inv-clashes μ-clashes Inv-actions μ-actions
-mul-wide16-5 c = omega arith
-
-array-read-wide16-5 : tie.Need-array-read-wide16-5 Inv-joins μ-joins Inv-clashes μ-clashes Inv-actions μ-actions
-array-read-wide16-5 c = omega arith
-
-wide16-requires-5 : tie.Need-wide16-requires-5 Inv-joins μ-joins Inv-clashes μ-clashes Inv-actions μ-actions
-wide16-requires-5 c κs = search needs
+back-from-requires-2 : tie.Need-back-from-requires-2 Inv-joins μ-joins Inv-clashes μ-clashes Inv-actions μ-actions
+back-from-requires-2 c κs =
+    let a = c .before .before .before .before .before .before .before in
+    (omega arith, omega (arith, a .clashes .inv .1, in-rows (on-row (on-joins (on-clashes a)))))
 
 clashes-less-2 : tie.Need-clashes-less-2 Inv-joins μ-joins Inv-clashes μ-clashes Inv-actions μ-actions
 clashes-less-2 c =
-    let l = c .before .before .before in
-    let a = l .before .before in
+    let l = c .before .before .before .before in
+    let a = l .before .before .before .before in
     let i = a .clashes .inv in
     let v = on-walk (on-row (on-joins (on-clashes a))) in
-    omega (arith, walk-falls _ _ _ _ _ _ _ _ (v .actions .inv .5) (i .3) (omega arith) (l .if5 .left), c .wide165 .ensures .0)
+    omega (arith, walk-falls _ _ _ _ _ _ _ _ (v .actions .inv .5) (i .3) (omega arith) (l .if5 .left), c .back-from2 .ensures)
 
 clashes-again-2 : tie.Need-clashes-again-2 Inv-joins μ-joins Inv-clashes μ-clashes Inv-actions μ-actions
 clashes-again-2 c =
-    let n = c .before .before in
+    let n = c .before .before .before in
     let l = n .before in
-    let a = l .before .before in
+    let a = l .before .before .before .before in
     let i = a .clashes .inv in
     let e = on-joins (on-clashes a) in
     let o = on-row e in
     let v = on-walk o in
     let f = walk-falls _ _ _ _ _ _ _ _ (v .actions .inv .5) (i .3) (omega arith) (l .if5 .left) in (
       i .0,
-      omega (arith, c .wide165 .ensures .0, i .1),
+      omega (arith, c .back-from2 .ensures, i .1),
       i .2,
-      rw (c .wide165 .ensures .0) (walk-next _ _ _ _ _ _ _ _ (v .actions .inv .5) (i .3) (omega arith) (l .if5 .left)
-          (λ m. n .meets .ensures .broken (λ t. rw (c .before .if6 .left) at t)
+      rw (c .back-from2 .ensures) (walk-next _ _ _ _ _ _ _ _ (v .actions .inv .5) (i .3) (omega arith) (l .if5 .left)
+          (λ m. n .meets .ensures .broken (λ t. rw (c .before .before .if6 .left) at t)
           (of-meet (start v .args .rows .now) (start v .args .plan .now) (v .actions .k) _ _ (o .before .row-of .ensures .0) (begun e .1) _ m))),
       i .4,
     )
 
-bucket-of-requires-3 : tie.Need-bucket-of-requires-3 Inv-joins μ-joins Inv-clashes μ-clashes Inv-actions μ-actions
-bucket-of-requires-3 c κs =
-    let e = on-joins (on-clashes (c .before .before)) in
+bucket-of-requires : tie.Need-bucket-of-requires Inv-joins μ-joins Inv-clashes μ-clashes Inv-actions μ-actions
+bucket-of-requires c κs =
+    let e = on-joins (on-clashes (c .before)) in
     (omega (arith, small e), omega arith, stride-small e)
 
-mul-earlier : tie.Need-mul-earlier Inv-joins μ-joins Inv-clashes μ-clashes Inv-actions μ-actions
-mul-earlier c = omega arith
-
-array-read-earlier : tie.Need-array-read-earlier Inv-joins μ-joins Inv-clashes μ-clashes Inv-actions μ-actions
-array-read-earlier c = omega (arith, on-walk (on-row (on-joins (on-clashes (c .before .before .before)))) .actions .inv .1, c .bucket-of3 .ensures .1)
-
-mul-earlier-2 : tie.Need-mul-earlier-2 Inv-joins μ-joins Inv-clashes μ-clashes Inv-actions μ-actions
-mul-earlier-2 c = omega arith
-
-array-write-earlier : tie.Need-array-write-earlier Inv-joins μ-joins Inv-clashes μ-clashes Inv-actions μ-actions
-array-write-earlier c = omega arith
-
-add-last : tie.Need-add-last Inv-joins μ-joins Inv-clashes μ-clashes Inv-actions μ-actions
-add-last c = omega arith
-
-cast-last : tie.Need-cast-last Inv-joins μ-joins Inv-clashes μ-clashes Inv-actions μ-actions
-cast-last c = omega arith
-
-mul-last : tie.Need-mul-last Inv-joins μ-joins Inv-clashes μ-clashes Inv-actions μ-actions
-mul-last c = omega arith
-
-array-write-last : tie.Need-array-write-last Inv-joins μ-joins Inv-clashes μ-clashes Inv-actions μ-actions
-array-write-last c = omega (arith, on-walk (on-row (on-joins (on-clashes (c .before .before .before)))) .actions .inv .1, c .bucket-of3 .ensures .1)
+enter-requires : tie.Need-enter-requires Inv-joins μ-joins Inv-clashes μ-clashes Inv-actions μ-actions
+enter-requires c κs =
+    let b = c .before .before in
+    let o = on-row (on-joins (on-clashes (b .before .before))) in
+    let i = on-walk o .actions .inv in
+    (omega (arith, in-rows o), b .bucket-of .ensures .1, i .1, i .2)
 
 add-k : tie.Need-add-k Inv-joins μ-joins Inv-clashes μ-clashes Inv-actions μ-actions
-add-k c = omega arith
+add-k c = omega (arith, in-rows (on-row (on-joins (on-clashes (c .before .before .before .before .before)))))
 
 actions-less : tie.Need-actions-less Inv-joins μ-joins Inv-clashes μ-clashes Inv-actions μ-actions
-actions-less c = omega arith
+actions-less c = omega (arith, in-rows (on-row (on-joins (on-clashes (c .before .before .before .before .before)))))
 
 actions-again : tie.Need-actions-again Inv-joins μ-joins Inv-clashes μ-clashes Inv-actions μ-actions
 actions-again c =
-    let x = c .before in
-    let a = x .before .before in
+    let b = c .before .before .before in
+    let x = b .before in
+    let a = x .before in
     let j = on-clashes a in
     let e = on-joins j in
     let o = on-row e in
@@ -373,24 +372,27 @@ actions-again c =
     let s = e .before .before in
     let m = v .before .before .more-of in
     let row = o .before .row-of .ensures .0 in
-    let past : a .clashes .block ≤ blockOf (m .result) (o .first-round .result) = ltb-false _ _ (x .if4 .left) in (
+    let some = in-rows o in (
       a .clashes .inv .0,
-      simp length-set (i .1),
-      simp length-set (i .2),
+      c .enter .ensures .heads ∙ i .1,
+      c .enter .ensures .links ∙ i .2,
       omega arith,
       i .4,
-      enter _ _ _ (v .actions .last) (v .actions .earlier) (omega (arith, i .1, c .bucket-of3 .ensures .1)) (omega (arith, i .2))
-          (c .bucket-of3 .ensures .0 ∙ ap (λ n. bucketOf (4096 / start v .args .workers) (blockOf (m .result) (n / 16)) (n % 16)) row) (i .5),
+      c .enter .ensures .chains _
+          (rw row at (b .bucket-of .ensures .0)) (i .5),
       λ t g.
           let (l, here) = s .stand .ensures t (stand-given _ _ t _ g (omega arith) (i .7 t g)) in
           seen-more _ _ _ _ (i .6 t g) (omega (arith, e .if1 .left, begun e .1)) (begun e .0)
           (here .told l .kept (omega (arith, e .if1 .left, begun e .1))
           (joined-all _ _ t (g .tasked) _ (omega (arith, g .count)) (λ x l z. j .before .joins .inv .2 .passed x (omega (arith, j .joins-test .left)) (omega (arith, g .count)) z)))
-          (clear-all _ (m .ensures .1) _ _ _ _ _ (ap (λ n. n % 16) row) (a .clashes .inv .4) (rw (x .before .if3 .left) at (a .clashes .inv .3))
-          (omega (arith, past, ap (blockOf (m .result)) (begun e .1)))),
+          (elim (over x) [
+            | inl u ↦ clear-all _ (m .ensures .1) _ _ _ _ _ (omega (arith, row)) (a .clashes .inv .4) (rw (u .0) at (a .clashes .inv .3)) (begun e .1) (u .1)
+            | inr u ↦ noted-apart _ _ t g _ _ _ _ _ _ (omega arith) (i .8) (took a) u
+          ]),
       λ t g.
           let (l, here) = s .stand .ensures t (stand-given _ _ t _ g (omega arith) (i .7 t g)) in
-          stood-on _ (g .tasked .planned .rules) (spanAt (start v .args .rows .now) (start v .args .plan .now)) _ _ here l _ (ap (λ n. n / 16) row),
+          stood-on _ (g .tasked .planned .rules) (spanAt (start v .args .rows .now) (start v .args .plan .now)) _ _ here l _ (omega (arith, row)),
+      noted-more _ _ _ _ _ _ _ (i .8) (took a),
     )
 
 returns : tie.Need-returns Inv-joins μ-joins Inv-clashes μ-clashes Inv-actions μ-actions
@@ -419,7 +421,7 @@ returns-3 c = λ t g.
 returns-4 : tie.Need-returns-4 Inv-joins μ-joins Inv-clashes μ-clashes Inv-actions μ-actions
 returns-4 c = λ t g.
     let n = c .before in
-    let a = n .before .before .before in
+    let a = n .before .before .before .before .before in
     let e = on-joins (on-clashes a) in
     let o = on-row e in
     let v = on-walk o in
@@ -453,44 +455,26 @@ rules-kept-spec =
     joins-holds
     sub-row-of
     row-of-requires-2
-    sub-wide16
-    mul-wide16-2
-    array-read-wide16-2
-    wide16-requires-2
+    back-from-requires
     joins-less
     joins-again
     shr-home
     shr-low
     add-block
-    bucket-of-requires
-    mul-wide16-3
-    array-read-wide16-3
-    wide16-requires-3
+    latest-in-requires
+    take-requires
     clashes-holds
     sub-block
-    bucket-of-requires-2
-    mul-wide16-4
-    array-read-wide16-4
-    wide16-requires-4
+    latest-in-requires-2
     clashes-less
     clashes-again
     sub-meets
     meets-requires
-    sub-wide16-2
-    mul-wide16-5
-    array-read-wide16-5
-    wide16-requires-5
+    back-from-requires-2
     clashes-less-2
     clashes-again-2
-    bucket-of-requires-3
-    mul-earlier
-    array-read-earlier
-    mul-earlier-2
-    array-write-earlier
-    add-last
-    cast-last
-    mul-last
-    array-write-last
+    bucket-of-requires
+    enter-requires
     add-k
     actions-less
     actions-again

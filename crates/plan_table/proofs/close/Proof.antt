@@ -1,21 +1,17 @@
--- `plan_table::encode` meets its contract: each answer by what the rules and the writer tell of the plan.
-use Prim.Native.Nat.{ℕ, _+_, _/_}
-use mathlib.Core.Path.{_≡_, refl, ap, sym, _∙_}
+-- `plan_table::close` meets its contract: each answer by what the rules and the writer tell of the plan.
+use Prim.Native.Nat.{ℕ}
+use mathlib.Core.Path.{refl, sym, _∙_}
 use mathlib.Core.List.{List}
-use native.Mathlib.Omega.{arith}
-use lib.ListN.{length}
 use borrow.Author.Tests.{not-true, not-false}
 use Rattle.plan.specs.Plan.{Plan}
 use Rattle.plan.specs.Sheet.{SpawnedIn, PlanIn}
-use Rattle.plan_writer.specs.Writer.{planBytes}
 use Rattle.plan_table.specs.GivenRows.{LaidAs}
 use Rattle.plan.proofs.Laws.Lists.{of-true}
 use Rattle.plan.proofs.Laws.Sheets.{planned-by}
-use Rattle.plan_writer.proofs.Laws.PlanBytes.{planBytes-length}
-use Rattle.plan_table.proofs.Laws.Answers.{encoded-spawns, encoded-joins, encoded-short, encoded-whole}
+use Rattle.plan_table.proofs.Laws.Answers.{encoded-spawns, encoded-joins, encoded-plan}
 use borrow.Author.Needs.{needs}
-use Rattle.plan_table.proofs.encode.Statement.{statement}
-use Rattle.plan_table.proofs.encode.Tie as tie
+use Rattle.plan_table.proofs.close.Statement.{statement}
+use Rattle.plan_table.proofs.close.Tie as tie
 
 abbrev Given : tie.Start → Plan → Type 0
 Given s p = LaidAs (s .args .form) (s .args .jobs) (s .args .rows) (s .args .plan .now) p
@@ -61,57 +57,29 @@ returns-2 c p g =
     let r = c .before .join-rules in
     encoded-joins _ p _ (g .held .laid .range) (g .costs) (h .parented .rules) (sym (r .ensures p h .0) ∙ not-true _ (c .if2 .taken))
 
-plan-bits-requires : tie.Need-plan-bits-requires
-plan-bits-requires c κs =
-    let o = c .before in
+encode-requires : tie.Need-encode-requires
+encode-requires c κs =
+    let o = c .before .before in
     let q = start (else1 o) .pre in
-    (q .0, planned o (q .0) (q .1))
-
-add-if3 : tie.Need-add-if3
-add-if3 c = omega arith
-
--- what the bytes take
-bits : (c : tie.After-plan-bits) (p : Plan) → let s = start (else1 (c .before .before)) in
-    Given s p → (c .plan-bits .result + 7) / 8 ≡ length (planBytes (s .args .form) p)
-bits c p g = ap (λ n. (n + 7) / 8) (c .plan-bits .ensures .1 p (planned (c .before .before) p g)) ∙ sym (planBytes-length _ p)
-
-returns-3 : tie.Need-returns-3
-returns-3 c p g =
-    encoded-short _ p _ (planned (c .before .before .before) p g .planned .rules) (g .costs) (omega (arith, bits (c .before) p g))
-
-write-plan-requires : tie.Need-write-plan-requires
-write-plan-requires c κs =
-    let b = c .before .before .before in
-    let q = start (else1 (b .before .before)) .pre in (
-      q .0,
-      record {
-        given = planned (b .before .before) (q .0) (q .1);
-        byte = q .1 .byte;
-        room = omega (arith, bits b (q .0) (q .1), planBytes-length (start (else1 (b .before .before)) .args .form) (q .0));
-      },
-    )
+    ((q .0, planned o (q .0) (q .1)), q .1 .byte)
 
 same-length : tie.Need-same-length
 same-length c = search needs
 
-returns-4 : tie.Need-returns-4
-returns-4 c p g =
-    let b = c .before .before .before .before .before .before in
-    let h = planned (b .before .before) p g in
-    let w = c .before .before .write-plan .ensures p h in
-    encoded-whole _ p _ (h .planned .rules) (g .costs) (omega (arith, bits b p g)) _ _ (w .0) (w .1)
+returns-3 : tie.Need-returns-3
+returns-3 c p g =
+    let o = c .before .before .before .before .before in
+    let h = planned o p g in
+    c .before .before .encode .ensures p h ∙ encoded-plan _ p _ (h .planned .rules) (g .costs)
 
-pub encode-spec : {M : Type 1} → statement M
-encode-spec =
+pub close-spec : {M : Type 1} → statement M
+close-spec =
     tie.close
     (tie.spec
     spawn-rules-requires
     returns
     join-rules-requires
     returns-2
-    plan-bits-requires
-    add-if3
-    returns-3
-    write-plan-requires
+    encode-requires
     same-length
-    returns-4)
+    returns-3)
