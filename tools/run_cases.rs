@@ -531,14 +531,16 @@ fn kinds_of_miss() -> Vec<Run> {
     ]
 }
 
-fn drawn() -> Vec<Run> {
-    let mut random = Random(0x9E37_79B9_7F4A_7C15);
-    (0..42)
+/// `count` plans of a form, drawn from a seed, with workers and choices.
+fn drawn(form: u32, seed: u64, count: usize, word: &str) -> Vec<Run> {
+    let mut random = Random(seed);
+    (0..count)
         .map(|k| {
             let workers = [2, 3, 4, 5, 8, 16, 1][k % 7];
-            let plan = random.plan([4, 7, 12, 18, 30][k % 5]);
+            let most = [4, 7, 12, 18, 30][k % 5];
+            let plan = if form == 1 { random.plan(most) } else { random.plan_2(most) };
             let choices = (0..1 + random.below(9)).map(|_| random.below(workers) as u8).collect();
-            Run { form: 1, name: format!("plan_{k}_with_{workers}_workers"), plan, workers, choices }
+            Run { form, name: format!("{word}_{k}_with_{workers}_workers"), plan, workers, choices }
         })
         .collect()
 }
@@ -564,18 +566,6 @@ fn papers_2() -> Vec<Run> {
         case("f2_with_2_workers_that_ask_themselves", &f2(), 2, &[1, 0], [10, 13, 7, 6, 1, 2, 3]),
         case("f2_with_3_workers", &f2(), 3, &[0], [10, 13, 17, 10, 1, 8, 0]),
     ]
-}
-
-fn drawn_2() -> Vec<Run> {
-    let mut random = Random(0xD1B5_4A32_D192_ED03);
-    (0..14)
-        .map(|k| {
-            let workers = [2, 3, 4, 5, 8, 16, 1][k % 7];
-            let plan = random.plan_2([4, 7, 12, 18, 30][k % 5]);
-            let choices = (0..1 + random.below(9)).map(|_| random.below(workers) as u8).collect();
-            Run { form: 2, name: format!("costs_{k}_with_{workers}_workers"), plan, workers, choices }
-        })
-        .collect()
 }
 
 fn save(c: &mut Cases, name: &str, input: Vec<u8>, answer: &str) {
@@ -635,9 +625,9 @@ fn largest() -> Vec<Run> {
 pub fn all(c: &mut Cases) {
     let mut runs = papers();
     runs.extend(kinds_of_miss());
-    runs.extend(drawn());
+    runs.extend(drawn(1, 0x9E37_79B9_7F4A_7C15, 42, "plan"));
     runs.extend(papers_2());
-    runs.extend(drawn_2());
+    runs.extend(drawn(2, 0xD1B5_4A32_D192_ED03, 14, "costs"));
     for slip in SLIPS {
         let told = runs.iter().filter(|run| run.tally(slip) != run.tally(Slip::None)).count();
         println!("{slip:?}: told apart by {told} cases");

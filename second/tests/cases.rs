@@ -98,6 +98,13 @@ fn short_rows(schedule: &[u8]) -> Vec<(u16, u16)> {
         .collect()
 }
 
+/// Compares what is printed for an input of these workers, choices and plan.
+fn prints(workers: u8, choices: &[u8], plan: &[u8], lines: &str) {
+    let count = (choices.len() as u16).to_be_bytes();
+    let input = [&[workers], &count[..], choices, plan].concat();
+    assert_eq!(build(&input).unwrap().to_string(), lines);
+}
+
 #[test]
 fn case_1() {
     let tally = tally_of(&one_job(), 1, &[]).unwrap();
@@ -130,11 +137,12 @@ fn case_4() {
 
 #[test]
 fn case_4_printed() {
-    let input = [&[2, 0, 2, 0, 1], &E[..]].concat();
-    assert_eq!(
-        build(&input).unwrap().to_string(),
+    prints(
+        2,
+        &[0, 1],
+        &E,
         "rounds 6\nactions 8\nlongest 5\npath 7\npeak 7\nidle 4\nrequests 3\nsteals 1\n\
-         bare 1\nidle-victim 1\n"
+         bare 1\nidle-victim 1\n",
     );
 }
 
@@ -402,11 +410,12 @@ fn e2_by_two() {
 
 #[test]
 fn e2_by_two_printed() {
-    let input = [&[2, 0, 2, 0, 1], &E2[..]].concat();
-    assert_eq!(
-        build(&input).unwrap().to_string(),
+    prints(
+        2,
+        &[0, 1],
+        &E2,
         "rounds 14\nactions 19\nlongest 13\npath 7\npeak 7\nidle 9\nrequests 8\nsteals 2\n\
-         bare 3\nidle-victim 3\n"
+         bare 3\nidle-victim 3\n",
     );
 }
 

@@ -15,10 +15,10 @@ use Rattle.plan.proofs.Laws.Accepted.{accepted-kept}
 use Rattle.fields.proofs.Laws.Bits.{bitsOf-length}
 use Rattle.plan_writer.proofs.Laws.PlanBytes.{planBytes-length}
 use Rattle.plan.proofs.Laws.Spawning.{jobs-in-range, total-in-range}
-use Rattle.plan_table.specs.Table.{toTable, toPlan}
+use Rattle.plan_table.specs.Table.{readTable, toTable, toPlan}
 use Rattle.plan_table.proofs.Laws.OpenTable.{readTable-rules}
 use Rattle.plan_writer.proofs.Laws.Numbers.{number-few, cost-few}
-use Rattle.plan_table.proofs.Laws.RoundTrip.{toTable-told, toPlan-told}
+use Rattle.plan_table.proofs.Laws.RoundTrip.{toTable-told}
 use Rattle.plan_writer.specs.Written.{encoded}
 use Rattle.plan_writer.proofs.Laws.Answers.{encoded-told}
 use Rattle.plan_forms.specs.Forms.{readAs, plain, toForm2, toForm1}
@@ -69,13 +69,14 @@ module _ (form : ℕ) where
 pub toTable-few : (s rows : List ℕ) (n : ℕ) → toTable s rows .answer ≡ accepted n → n ≤ 2048
 toTable-few s rows n e = toTable-told s rows n e λ x r k b. omega (arith, total-in-range (x .plan) (accepted-kept s x r .range))
 
-pub toPlan-few : (form : ℕ) (t bytes : List ℕ) (n : ℕ) → toPlan form t bytes .answer ≡ accepted n → n ≤ 6403
-toPlan-few form t bytes n e = toPlan-told form t bytes n e λ p r k b. omega (arith, planBytes-few form p (readTable-rules form t p r .0))
-
--- of plans turned into the other form
+-- bytes of a plan that is in range
 encoded-few : (form : ℕ) (o : Outcome Plan) (bytes : List ℕ) (n : ℕ) → ((p : Plan) → o ≡ accepted p → T (inRange p)) → encoded form o bytes .answer ≡ accepted n
     → n ≤ 6403
 encoded-few form o bytes n range e = encoded-told form o bytes n e λ p q k b. omega (arith, planBytes-few form p (range p q))
+
+pub toPlan-few : (form : ℕ) (t bytes : List ℕ) (n : ℕ) → toPlan form t bytes .answer ≡ accepted n → n ≤ 6403
+unfolding toPlan
+toPlan-few form t bytes n e = encoded-few form (readTable form t) bytes n (λ p q. readTable-rules form t p q .0) e
 
 -- a plan that was read as one of a form is in range
 as-range : (form : ℕ) (s : List ℕ) (p : Plan) → readAs form s ≡ accepted p → T (inRange p)

@@ -3,23 +3,18 @@ use Prim.Native.Nat.{ℕ, _-_, _≤_}
 use native.Mathlib.Omega.{arith}
 use mathlib.Core.Path.{_≡_, _∙_}
 use mathlib.Core.List.{List}
-use lib.ListN.{length, take, drop, length-append}
+use lib.ListN.{length, take, drop}
 use Rattle.fields.specs.Field.{Bytes}
-use Rattle.plan.specs.Refusal.{Outcome, accepted}
-use Rattle.plan.specs.Plan.{Plan}
+use Rattle.plan.specs.Refusal.{accepted}
 use Rattle.plan_writer.specs.declared.Answer.{Answer}
 use Rattle.plan_writer.specs.declared.Answer.the-variants.{Count}
-use Rattle.plan_writer.specs.Written.{Written, written, encoded, answerOf}
-use Rattle.plan_writer.proofs.Laws.Answers.{encoded-told}
+use Rattle.plan_writer.specs.Written.{Written, written, answerOf}
+use Rattle.plan_writer.proofs.Laws.Answers.{encoded-room}
 use Rattle.plan_forms.specs.Forms.{readAs, plain, toForm2, toForm1}
 use Rattle.plan_forms.proofs.Laws.RoundTrip.{there-and-back, back-and-there}
 use Rattle.own.specs.RoundTrip.{back}
 use Rattle.own.specs.Forms.{oldBack, newBack}
 use Rattle.own.proofs.Laws.RoundTrip.{answered, left-is, counted-back}
-
--- bytes that were written lie within what was lent
-written-room : (form : ℕ) (o : Outcome Plan) (bytes : List ℕ) (n : ℕ) → encoded form o bytes .answer ≡ accepted n → n ≤ length (encoded form o bytes .buffer)
-written-room form o bytes n e = encoded-told form o bytes n e λ p q k b. rw (b, length-append) (omega arith)
 
 -- a plan that one call turned into n bytes, which another turns back
 module _ (one other : List ℕ → List ℕ → Written)
@@ -38,7 +33,7 @@ module _ (plan bytes left : List ℕ) (r : Answer) (n : ℕ) (f : r ≡ Count n)
   module _ (e : record { answer = answerOf r; buffer = left } ≡ toForm2 plan bytes) where
     pub old-room : n ≤ length left
     unfolding toForm2
-    old-room = rw (left-is _ r left e) (written-room 2 (readAs 1 plan) bytes n (answered _ r left e (Count n) f))
+    old-room = rw (left-is _ r left e) (encoded-room 2 (readAs 1 plan) bytes n (answered _ r left e (Count n) f))
 
     pub old-back : Bytes plan → (out : List ℕ) (second : Written) → second ≡ toForm1 (take (n - 0) (drop 0 left)) out
         → (second ≡ oldBack plan bytes out) × (left ≡ toForm2 plan bytes .buffer)
@@ -48,7 +43,7 @@ module _ (plan bytes left : List ℕ) (r : Answer) (n : ℕ) (f : r ≡ Count n)
   module _ (e : record { answer = answerOf r; buffer = left } ≡ toForm1 plan bytes) where
     pub new-room : n ≤ length left
     unfolding toForm1
-    new-room = rw (left-is _ r left e) (written-room 1 (plain (readAs 2 plan)) bytes n (answered _ r left e (Count n) f))
+    new-room = rw (left-is _ r left e) (encoded-room 1 (plain (readAs 2 plan)) bytes n (answered _ r left e (Count n) f))
 
     pub new-back : Bytes plan → (out : List ℕ) (second : Written) → second ≡ toForm2 (take (n - 0) (drop 0 left)) out
         → (second ≡ newBack plan bytes out) × (left ≡ toForm1 plan bytes .buffer)

@@ -14,8 +14,9 @@ use Rattle.plan.specs.Refusal.{Outcome, refused, accepted, numberOf}
 use Rattle.plan.specs.Plan.{total}
 use Rattle.plan.specs.Reader.{Read, readPlan}
 use Rattle.plan.proofs.Laws.Accepted.{accepted-kept, accepted-form}
+use Rattle.plan.proofs.Laws.Outcomes.{refused-accepted}
 use Rattle.plan.proofs.Laws.Valid.{total-range}
-use Rattle.plan_table.proofs.Laws.RoundTrip.{plan-form}
+use Rattle.plan_writer.proofs.Laws.PlanBytes.{read-form}
 use Rattle.plan_measure.specs.declared.Measures.{Measures}
 use Rattle.plan_measure.specs.declared.Measured.{Measured}
 use Rattle.plan_measure.specs.declared.Measured.the-variants.{Refused as NotMeasured, Of}
@@ -49,7 +50,7 @@ module _ (plan : List ℕ) (r : Measured) (m : Measures) (e : told r ≡ measure
 
   pub length-told : Bytes plan → (form : ℕ) → form ≡ getD plan 0 0 → (k : ℕ) → k ≡ scheduleLength form (m .total) → Sized plan k
   length-told h form first k long x q =
-      long ∙ ap₂ scheduleLength (first ∙ plan-form plan x h q .1) (measured-total x q)
+      long ∙ ap₂ scheduleLength (first ∙ read-form plan x h q .1) (measured-total x q)
 
   pub measured-few : (x : Read) → readPlan plan ≡ accepted x → m .total ≤ 2048
   measured-few x q = omega (arith, measured-total x q, total-range (x .plan) (accepted-kept plan x q))
@@ -96,8 +97,7 @@ module _ (plan : List ℕ) (n : ℕ) (choices before after : List ℕ) where
     left-measured m cause told-so f =
         let (x, q) = left-read in
         let y : _≡_ {A = Outcome Measures} (refused (numberOf cause)) (accepted (measuresOf (x .plan))) = sym (ap told f) ∙ (told-so ∙ rw q) in
-        let z : _≡_ {A = ℕ} 0 1 = cc in
-        omega arith
+        refused-accepted y
 
     module _ (k : ℕ) (sized : Sized plan k) where
       pub left-room : k ≤ length after
@@ -109,5 +109,4 @@ module _ (plan : List ℕ) (n : ℕ) (choices before after : List ℕ) where
           let whole : k - 0 ≡ k = omega arith in
           let x : _≡_ {A = Outcome ℕ} (refused (numberOf cause)) (accepted 0) =
           sym (ap judgedOf f) ∙ (told-so ∙ rw (whole, left-is (ranOf r) e) (run-accepted plan n choices before t answered k sized)) in
-          let z : _≡_ {A = ℕ} 0 1 = cc in
-          omega arith
+          refused-accepted x

@@ -10,9 +10,11 @@ use Rattle.fields.specs.Field.{Bytes}
 use Rattle.plan_writer.specs.declared.Answer.{Answer}
 use Rattle.plan_writer.specs.declared.Answer.the-variants.{Refused, Count}
 use Rattle.plan_writer.specs.Written.{Written, written, answerOf}
-use Rattle.plan_table.specs.Table.{toTable, toPlan}
+use Rattle.plan_table.specs.Table.{readTable, toTable, toPlan}
 use Rattle.plan_table.proofs.Laws.Rows.{table-length}
-use Rattle.plan_table.proofs.Laws.RoundTrip.{toTable-told, toPlan-told, plan-form, plan-table-plan, table-plan-table}
+use Rattle.plan_table.proofs.Laws.RoundTrip.{toTable-told, plan-table-plan, table-plan-table}
+use Rattle.plan_writer.proofs.Laws.Answers.{encoded-room}
+use Rattle.plan_writer.proofs.Laws.PlanBytes.{read-form}
 use Rattle.own.specs.RoundTrip.{back, planBack, tableBack}
 
 module _ (first : Written) (r : Answer) (left : List ℕ) (e : record { answer = answerOf r; buffer = left } ≡ first) where
@@ -42,7 +44,7 @@ module _ (plan rows left : List ℕ) (r : Answer) (n : ℕ)
 
   -- it has a first byte
   pub plan-some : Bytes plan → 1 ≤ length plan
-  plan-some h = toTable-told plan rows n (answered _ r left e (Count n) f) λ x q _ _. plan-form plan x h q .0
+  plan-some h = toTable-told plan rows n (answered _ r left e (Count n) f) λ x q _ _. read-form plan x h q .0
 
   -- the table that is closed, in the form of the first byte, is the part from 0 to 5 * n
   pub plan-back : Bytes plan → (bytes : List ℕ) (form : ℕ) → form ≡ getD plan 0 0 → (second : Written)
@@ -50,7 +52,7 @@ module _ (plan rows left : List ℕ) (r : Answer) (n : ℕ)
   plan-back h bytes form i second g =
       toTable-told plan rows n (answered _ r left e (Count n) f) λ x q _ _.
       let whole : 5 * n - 0 ≡ 5 * n = omega arith in
-      let own : form ≡ x .form = i ∙ plan-form plan x h q .1 in
+      let own : form ≡ x .form = i ∙ read-form plan x h q .1 in
       counted-back _ r left e n f second plan (length plan) bytes
       (rw (whole, left-is _ r left e, own) at g ∙ plan-table-plan plan rows bytes n x h q (answered _ r left e (Count n) f))
 
@@ -58,9 +60,8 @@ module _ (plan rows left : List ℕ) (r : Answer) (n : ℕ)
 module _ (form : ℕ) (table bytes left : List ℕ) (r : Answer) (n : ℕ)
     (e : record { answer = answerOf r; buffer = left } ≡ toPlan form table bytes) (f : r ≡ Count n) where
   pub bytes-room : n ≤ length left
-  bytes-room =
-      toPlan-told form table bytes n (answered _ r left e (Count n) f) λ p _ k b.
-      rw (left-is _ r left e, b, length-append) (omega arith)
+  unfolding toPlan
+  bytes-room = rw (left-is _ r left e) (encoded-room form (readTable form table) bytes n (answered _ r left e (Count n) f))
 
   -- the bytes that are opened are the part from 0 to n
   pub table-back : (rows : List ℕ) (second : Written) → second ≡ toTable (take (n - 0) (drop 0 left)) rows

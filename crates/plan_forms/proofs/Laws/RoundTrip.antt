@@ -16,7 +16,7 @@ use Rattle.plan_writer.specs.Writer.{planBytes}
 use Rattle.plan_writer.specs.Written.{written, encoded}
 use Rattle.plan.proofs.Laws.Costs.{accepted-costs}
 use Rattle.plan.proofs.Laws.Lists.{true-of, of-true}
-use Rattle.plan.proofs.Laws.Outcomes.{refused-accepted}
+use Rattle.plan.proofs.Laws.Outcomes.{refused-accepted, accepted-same}
 use Rattle.plan_writer.proofs.Laws.Answers.{encoded-front}
 use Rattle.plan_writer.proofs.Laws.PlanBytes.{read-write}
 use Rattle.plan_forms.specs.Forms.{readAs, plain, toForm2, toForm1}
@@ -33,8 +33,7 @@ plain-told (accepted q) p e = go (costsFit 1 q) refl
     go true f =
         let z : plain (accepted q) ≡ accepted q = rw (plain, f) in
         let same : accepted q ≡ accepted p = sym z ∙ e in
-        let is : q ≡ p = cc in
-        (same, rw (← is) (of-true (costsFit 1 q) f))
+        (same, rw (← accepted-same q p same) (of-true (costsFit 1 q) f))
 
 pub there-and-back : (s bytes lent : List ℕ) (n : ℕ) → Bytes s → toForm2 s bytes .answer ≡ accepted n
     → toForm1 (take n (toForm2 s bytes .buffer)) lent ≡ written s (length s) lent

@@ -3,6 +3,7 @@ use Prim.Native.Nat.{ℕ, _-_, _≤_, _<_}
 use mathlib.Core.Path.{_≡_, refl, sym, _∙_}
 use native.Mathlib.Omega.{arith}
 use borrow.Author.Count.{below-more}
+use Rattle.plan.specs.Plan.{total}
 use Rattle.plan.specs.Rules.{costsFit}
 use Rattle.plan.specs.Sheet.{costAt}
 use Rattle.plan.proofs.Laws.Found.{counts-few}
@@ -28,8 +29,8 @@ returns c p g =
     let d = c .before .before in
     let k = d .before .loop .k in
     sym (false-of (costsFit 1 p) (λ t.
-    let h : k < _ = omega (arith, g .all, d .loop-test .taken) in
-    c .if1 .taken (c .before .cost-at .ensures .0 ∙ (g .planned .laid .costs k h ∙ costs-place 1 p t k h refl))))
+    let h : k < total p = omega (arith, g .all, d .loop-test .taken) in
+    omega (arith, c .if1 .taken, c .before .cost-at .ensures .0, g .planned .laid .costs k h, costs-place 1 p t k h refl)))
 
 add-k : tie.Need-add-k Inv-loop μ-loop
 add-k c = omega arith
@@ -41,7 +42,7 @@ loop-again : tie.Need-loop-again Inv-loop μ-loop
 loop-again c = (
   omega arith,
   omega arith,
-  below-more _ _ (c .before .before .before .loop .inv .2) (sym (c .before .cost-at .ensures .0) ∙ c .if1 .left),
+  below-more _ _ (c .before .before .before .loop .inv .2) (omega (arith, c .before .cost-at .ensures .0, c .if1 .left)),
 )
 
 returns-2 : tie.Need-returns-2 Inv-loop μ-loop

@@ -14,8 +14,8 @@ use Rattle.plan_writer.specs.Written.{written, encoded}
 use Rattle.plan_table.specs.Table.{tableOf, readTable, tabled, toTable, toPlan}
 use Rattle.plan.proofs.Laws.Accepted.{accepted-as}
 use Rattle.plan.proofs.Laws.Outcomes.{refused-accepted, accepted-same}
-use Rattle.plan_writer.proofs.Laws.Answers.{written-told, encoded-told, encoded-front}
-use Rattle.plan_writer.proofs.Laws.PlanBytes.{read-form, read-write, write-read}
+use Rattle.plan_writer.proofs.Laws.Answers.{written-told, encoded-front}
+use Rattle.plan_writer.proofs.Laws.PlanBytes.{read-write, write-read}
 use Rattle.plan.proofs.Laws.Costs.{accepted-costs}
 use Rattle.plan_table.proofs.Laws.Rows.{table-length}
 use Rattle.plan_table.proofs.Laws.OpenTable.{table-read-write, table-write-read, readTable-rules}
@@ -31,17 +31,6 @@ toTable-told {P} s rows n e use-it = go (readPlan s) e use-it
         → tabled o rows .buffer ≡ tableOf (x .plan) ++ drop (length (tableOf (x .plan))) rows → P) → P
     go (refused k) e use-it = refused-accepted e
     go (accepted x) e use-it = written-told (tableOf (x .plan)) (total (x .plan)) rows n e (use-it x refl)
-
-pub toPlan-told : {P : Type 0} (form : ℕ) (t bytes : List ℕ) (n : ℕ) → toPlan form t bytes .answer ≡ accepted n
-    → ((p : Plan) → readTable form t ≡ accepted p → n ≡ length (planBytes form p)
-    → toPlan form t bytes .buffer ≡ planBytes form p ++ drop (length (planBytes form p)) bytes → P) → P
-unfolding toPlan
-toPlan-told form t bytes n e use-it = encoded-told form (readTable form t) bytes n e use-it
-
--- the first of a plan's bytes is its form
-pub plan-form : (s : List ℕ) (x : Read) → Bytes s → readPlan s ≡ accepted x → (1 ≤ length s) × (getD s 0 0 ≡ x .form)
-unfolding readPlan
-plan-form s x h r = read-form s x h r
 
 -- what was read of a plan's bytes is closed in its own form
 pub plan-table-plan : (s rows bytes : List ℕ) (n : ℕ) (x : Read) → Bytes s → readPlan s ≡ accepted x → toTable s rows .answer ≡ accepted n

@@ -1,12 +1,14 @@
 -- What is written of an output, and of a plan, by the room that is lent.
 --   written-short, written-whole == 9, or the output
 --   encoded-short, encoded-whole == the same of a plan's bytes
---   written-told, encoded-told   == what was written, where the answer is no refusal; encoded-front == and that it stands in front
+--   written-told, encoded-told   == what was written, where the answer is no refusal; encoded-front, encoded-room == and that
+--                                   it stands in front, within what was lent
 use Prim.Native.Nat.{ℕ, _≤_, _<_}
 use mathlib.Core.Path.{_≡_, refl, sym, ap, _∙_}
 use mathlib.Core.Bool.{Bool, true, false}
 use mathlib.Core.List.{List, _++_}
-use lib.ListN.{length, take, drop}
+use native.Mathlib.Omega.{arith}
+use lib.ListN.{length, take, drop, length-append}
 use lib.Seq.{take-at}
 use lib.Dec.{leb}
 use borrow.Author.Tests.{le-leb, lt-leb}
@@ -67,3 +69,8 @@ module _ (form : ℕ) where
   encoded-front o buffer n e use-it =
       encoded-told o buffer n e λ p q k b.
       use-it p q (ap (take n) b ∙ take-at (planBytes form p) (drop (length (planBytes form p)) buffer) n (sym k))
+
+  -- they lie within what was lent
+  pub encoded-room : (o : Outcome Plan) (buffer : List ℕ) (n : ℕ) → encoded form o buffer .answer ≡ accepted n
+      → n ≤ length (encoded form o buffer .buffer)
+  encoded-room o buffer n e = encoded-told o buffer n e λ p q k b. rw (b, length-append) (omega arith)

@@ -5,7 +5,7 @@ use native.Mathlib.Omega.{arith}
 use denote.Ref.{now}
 use borrow.Author.Needs.{needs}
 use Rattle.fields.specs.Field.{Bytes}
-use Rattle.plan_table.proofs.Laws.RoundTrip.{plan-form}
+use Rattle.plan_writer.proofs.Laws.PlanBytes.{read-form}
 use Rattle.own.proofs.Laws.OwnSchedule.{Sized, length-told, measured-few, left-is, left-read, left-measured, left-room, left-accepted}
 use Rattle.own.proofs.schedule.own_schedule.Statement.{statement}
 use Rattle.own.proofs.schedule.own_schedule.Tie as tie
@@ -48,7 +48,7 @@ shared-slice-read-units8 c =
     let d = measured (c .before .before) .before in
     let r = ran d in
     let (x, q) = left-read _ _ _ _ _ _ _ (r .run .ensures .0) (d .enum-told2 .given .1) in
-    omega (arith, plan-form _ x (bytes r) q .0)
+    omega (arith, read-form _ x (bytes r) q .0)
 
 units8-requires : tie.Need-units8-requires
 units8-requires c κs = search needs
