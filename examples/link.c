@@ -32,8 +32,9 @@ static uint32_t build(const uint8_t *bytes, size_t len) {
     if (m.refused || t.refused)
         return m.refused ? m.refused : t.refused;
     printf("total %u\nwork %u\n", (unsigned)m.total, (unsigned)m.work);
-    printf("rounds %u\nactions %u\nlongest %u\npath %u\npeak %u\n", (unsigned)t.rounds, (unsigned)t.actions,
-           (unsigned)m.longest, (unsigned)m.path, (unsigned)t.peak);
+    printf("rounds %u\nactions %u\nlongest %u\npath %u\n", (unsigned)t.rounds, (unsigned)t.actions,
+           (unsigned)m.longest, (unsigned)m.path);
+    printf("parallel %u\nrest %u\npeak %u\n", (unsigned)m.parallel, (unsigned)m.rest, (unsigned)t.peak);
     printf("idle %u\nrequests %u\nsteals %u\nbare %u\nidle-victim %u\n", (unsigned)t.idle, (unsigned)t.requests,
            (unsigned)t.steals, (unsigned)t.bare, (unsigned)t.idle_victim);
     size_t width = bytes[0] == 1 ? 12 : 16;

@@ -72,16 +72,19 @@ typedef struct {
 
 typedef struct {
     uint32_t refused;
-    uint32_t total;   /* the plan's number of actions, which is the number of rows of its table and of a schedule */
-    uint32_t work;    /* the sum of the costs of all actions (T1) */
-    uint32_t longest; /* the largest sum of costs of a chain of actions, each of which must follow the one before it
-                         (T-infinity) */
-    uint32_t path;    /* the largest sum of frames on the way from job 0 down to a job (S1), in units of 64 KiB */
+    uint32_t total;    /* the plan's number of actions, which is the number of rows of its table and of a schedule */
+    uint32_t work;     /* the sum of the costs of all actions (T1) */
+    uint32_t longest;  /* the largest sum of costs of a chain of actions, each of which must follow the one before it
+                          (T-infinity) */
+    uint32_t path;     /* the largest sum of frames on the way from job 0 down to a job (S1), in units of 64 KiB */
+    uint32_t parallel; /* how many whole times longest goes into work. More workers than that cannot all be kept busy */
+    uint32_t rest;     /* what remains: parallel x longest + rest = work, and rest < longest. No plan that is accepted
+                          has a longest of 0 */
 } dw_measures;
 
 /* For every list of choices longest <= rounds <= work and peak <= workers x path. With one worker rounds is work and
-   peak is path. Of the requests, steals + bare + idle_victim were answered, and the rest still wait as the run
-   ends. */
+   peak is path. With more workers than parallel, (workers - parallel) x longest <= idle + rest. Of the requests,
+   steals + bare + idle_victim were answered, and the others still wait as the run ends. */
 typedef struct {
     uint32_t refused;
     uint32_t rounds;      /* the last round */

@@ -44,7 +44,7 @@ fn examples(c: &mut Cases) {
     refused(2, c, "e_in_form_2", 2);
     refused(1, c, "e", 2);
     // case 4's lines
-    let answer = "rounds 6 actions 8 longest 5 path 7 peak 7 idle 4 requests 3 steals 1 bare 1 idle-victim 1";
+    let answer = "rounds 6 actions 8 longest 5 path 7 parallel 1 rest 3 peak 7 idle 4 requests 3 steals 1 bare 1 idle-victim 1";
     c.case("run", "runs/case_4_in_form_2", input(2, &[0, 1], &plan_2(&e())), answer);
 }
 

@@ -1,7 +1,7 @@
 //! Plans and tables, and what their entries must give: document 01's plans, its refusals 1 to 6, 9 and 10, and inputs on each side
-//! of each limit; and the same of form 2 (document 02, L5).
+//! of each limit; the same of form 2 (document 02, L5); and T1 divided by T∞ (L7).
 use crate::plans::{
-    chain, costed, e, e2, f, f2, join, large, one, plan, plan_2, plan_of, spawn, with_header, Action, Job, NONE,
+    chain, costed, e, e2, f, f2, join, large, one, plan, plan_2, plan_of, quotient, spawn, with_header, Action, Job, NONE,
 };
 use crate::Cases;
 
@@ -92,7 +92,8 @@ fn count(jobs: &[Job]) -> usize {
 fn accepted_in(form: u32, c: &mut Cases, name: &str, jobs: &[Job], (work, longest, path): (u32, u32, u32)) {
     let bytes = plan_of(form, jobs);
     let total = count(jobs);
-    let measures = format!("total {total} work {work} longest {longest} path {path}");
+    let (parallel, rest) = quotient(work, longest);
+    let measures = format!("total {total} work {work} longest {longest} path {path} parallel {parallel} rest {rest}");
     let answer = format!("{measures}, rows {total}, bytes {} the same, beyond kept", bytes.len());
     c.case("plan", &format!("plans/{name}"), bytes, &answer);
 }
@@ -301,6 +302,12 @@ fn papers_2(c: &mut Cases) {
     accepted_2(c, "costliest_chain_of_few_actions", &few, 14, 11, 2);
     accepted_2(c, "jobs_256_of_15", &costed(chain(256), &[15]), 15 * 766, 15 * 511, 256);
     accepted_2(c, "sum_2048_of_15", &costed(large(1, 8, 254), &[15]), 30720, 15 * 263, 2);
+    // document 02, L7: the largest remainder, none, and 1
+    for (cost, work, longest, divided) in [(2, 11, 6, (1, 5)), (3, 14, 7, (2, 0)), (4, 17, 8, (2, 1))] {
+        assert_eq!(quotient(work, longest), divided);
+        let jobs = costed(fan(3, 4), &[1, 1, 1, 1, 1, cost, cost, cost]);
+        accepted_2(c, &format!("three_of_{cost}"), &jobs, work, longest, 2);
+    }
     refused(c, "sum_2049_of_15", plan_2(&costed(large(1, 9, 254), &[15])), 3);
     // in the jobs; in the child of 0.0; in the costs of 0.2 and of 2.0
     for n in [1, 6, 9, 21] {

@@ -23,6 +23,15 @@ pub fn costed(mut jobs: Vec<Job>, costs: &[u32]) -> Vec<Job> {
     jobs
 }
 
+/// T1 divided by T∞, as `parallel` and `rest` (document 02, L7): T∞ is taken away for as long as it can be.
+pub fn quotient(work: u32, longest: u32) -> (u32, u32) {
+    let mut left = (0, work);
+    while left.1 >= longest {
+        left = (left.0 + 1, left.1 - longest);
+    }
+    left
+}
+
 pub struct Bits(pub Vec<bool>);
 
 impl Bits {

@@ -1,6 +1,6 @@
 //! A second runner, written from documents 01 and 02 alone, and inputs of `buildrun` with what they must give. It also carries out each
 //! tempting error and sees to it that some case tells it apart.
-use crate::plans::{chain, costed, deep, e, e2, f, f2, input, join, large, one, plan, plan_2, plan_of, spawn, Job, NONE};
+use crate::plans::{chain, costed, deep, e, e2, f, f2, input, join, large, one, plan, plan_2, plan_of, quotient, spawn, Job, NONE};
 use crate::Cases;
 
 /// An action: the child's number plus 1 or 0, the join's target plus 1 or 0, and the cost.
@@ -192,6 +192,11 @@ impl Plan {
         before
     }
 
+    /// T1: the costs of all actions.
+    fn work(&self) -> usize {
+        self.actions.iter().flatten().map(|a| a.2).sum()
+    }
+
     /// T∞: each action's costliest chain, until nothing grows.
     fn longest(&self) -> usize {
         let mut chain: Vec<Vec<usize>> = self.actions.iter().map(|a| vec![0; a.len()]).collect();
@@ -300,7 +305,7 @@ impl Plan {
         };
         s.workers[0] = Worker::Holding(0);
         let mut laid_by = vec![0; n];
-        let work: usize = self.actions.iter().flatten().map(|a| a.2).sum();
+        let work = self.work();
         while s.next[0] < self.actions[0].len() {
             s.t.rounds += 1;
             if s.t.rounds > 2 * work {
@@ -482,11 +487,13 @@ impl Run {
     /// What `buildrun` has to print of it.
     fn answer(&self) -> String {
         let t = self.tally(Slip::None);
+        let longest = self.plan.longest();
+        let (parallel, rest) = quotient(self.plan.work() as u32, longest as u32);
         format!(
-            "rounds {} actions {} longest {} path {} peak {} idle {} requests {} steals {} bare {} idle-victim {}",
+            "rounds {} actions {} longest {longest} path {} parallel {parallel} rest {rest} peak {} idle {} requests {} steals {} bare {} \
+             idle-victim {}",
             t.rounds,
             t.actions,
-            self.plan.longest(),
             self.plan.path(),
             t.peak,
             t.idle,

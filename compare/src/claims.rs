@@ -120,6 +120,8 @@ impl Facts {
             work,
             longest,
             path,
+            parallel,
+            rest,
         } = self.measures;
         let Some(schedule) = Schedule::read(schedule) else {
             return Some("a schedule is its header and rows, filled with zero bits");
@@ -171,6 +173,10 @@ impl Facts {
                 chains.iter().max() == Some(&longest),
                 "the costliest chain is the one measured",
             ),
+            (
+                parallel * longest + rest == work && rest < longest,
+                "the work is the costliest chain so many times, and the rest",
+            ),
             (i64::from(tally.peak) == peak, "the peak is the one reached"),
             (
                 tally.rounds == rounds,
@@ -187,6 +193,10 @@ impl Facts {
             (
                 workers * rounds == work + tally.idle,
                 "turns are worked or idle",
+            ),
+            (
+                workers.saturating_sub(parallel) * longest <= tally.idle + rest,
+                "more workers than the quotient cannot all be kept busy",
             ),
             (
                 (0..i64::from(workers)).contains(&waiting),

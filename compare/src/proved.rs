@@ -16,6 +16,8 @@ struct RawMeasures {
     work: u32,
     longest: u32,
     path: u32,
+    parallel: u32,
+    rest: u32,
 }
 
 #[repr(C)]
@@ -113,12 +115,16 @@ pub fn measure(plan: &[u8]) -> Result<Measures, u32> {
             work: raw.work,
             longest: raw.longest,
             path: raw.path,
+            parallel: raw.parallel,
+            rest: raw.rest,
         },
         Measures {
             total: 0,
             work: 0,
             longest: 0,
             path: 0,
+            parallel: 0,
+            rest: 0,
         },
     )
 }

@@ -16,6 +16,8 @@ pub struct Counts {
     pub actions: u32,
     pub longest: u32,
     pub path: u32,
+    pub parallel: u32,
+    pub rest: u32,
     pub peak: u32,
     pub idle: u32,
     pub requests: u32,
@@ -32,6 +34,8 @@ impl Counts {
             actions: tally.actions,
             longest: measures.longest,
             path: measures.path,
+            parallel: measures.parallel,
+            rest: measures.rest,
             peak: tally.peak,
             idle: tally.idle,
             requests: tally.requests,
@@ -42,12 +46,14 @@ impl Counts {
     }
 
     /// Names and values, in the printed order.
-    pub fn named(&self) -> [(&'static str, u32); 10] {
+    pub fn named(&self) -> [(&'static str, u32); 12] {
         [
             ("rounds", self.rounds),
             ("actions", self.actions),
             ("longest", self.longest),
             ("path", self.path),
+            ("parallel", self.parallel),
+            ("rest", self.rest),
             ("peak", self.peak),
             ("idle", self.idle),
             ("requests", self.requests),

@@ -2,7 +2,7 @@
 
 use crate::plan::Plan;
 
-/// The size of a plan, T1, T∞ and S1.
+/// The size of a plan, T1, T∞, S1, and T1 divided by T∞.
 #[derive(Clone, Copy, Debug, PartialEq, Eq)]
 pub struct Measures {
     /// The number of actions.
@@ -13,6 +13,10 @@ pub struct Measures {
     pub longest: u32,
     /// S1, the largest path weight.
     pub path: u32,
+    /// T1 divided by T∞, the whole quotient.
+    pub parallel: u32,
+    /// What remains of T1, less than T∞.
+    pub rest: u32,
 }
 
 /// Measures a plan.
@@ -21,15 +25,17 @@ pub fn measure(plan: &[u8]) -> Result<Measures, u32> {
 }
 
 pub fn of(plan: &Plan) -> Measures {
+    let costs = plan.actions.iter().map(|action| u32::from(action.cost));
+    let work: u32 = costs.sum();
+    // At least 1: an action is a chain by itself.
+    let longest = longest(plan);
     Measures {
         total: plan.actions.len() as u32,
-        work: plan
-            .actions
-            .iter()
-            .map(|action| u32::from(action.cost))
-            .sum(),
-        longest: longest(plan),
+        work,
+        longest,
         path: path(plan),
+        parallel: work / longest,
+        rest: work % longest,
     }
 }
 

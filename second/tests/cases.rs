@@ -1,7 +1,7 @@
 //! The twelve starred cases, misses by their kind, actions that take longer,
-//! and plans turned into the other form.
+//! plans turned into the other form, and how many workers are worth renting.
 
-use second::{build, check, measure, plan_to_table, run, table_to_plan, Measures, Tally};
+use second::{build, check, measure, plan_to_table, run, table_to_plan, Counts, Measures, Tally};
 use second::{to_form_1, to_form_2};
 
 const E: [u8; 18] = [
@@ -98,11 +98,15 @@ fn short_rows(schedule: &[u8]) -> Vec<(u16, u16)> {
         .collect()
 }
 
-/// Compares what is printed for an input of these workers, choices and plan.
-fn prints(workers: u8, choices: &[u8], plan: &[u8], lines: &str) {
+/// The counts for an input of these workers, choices and plan.
+fn built(workers: u8, choices: &[u8], plan: &[u8]) -> Counts {
     let count = (choices.len() as u16).to_be_bytes();
-    let input = [&[workers], &count[..], choices, plan].concat();
-    assert_eq!(build(&input).unwrap().to_string(), lines);
+    build(&[&[workers], &count[..], choices, plan].concat()).unwrap()
+}
+
+/// Compares what is printed for such an input.
+fn prints(workers: u8, choices: &[u8], plan: &[u8], lines: &str) {
+    assert_eq!(built(workers, choices, plan).to_string(), lines);
 }
 
 #[test]
@@ -141,8 +145,8 @@ fn case_4_printed() {
         2,
         &[0, 1],
         &E,
-        "rounds 6\nactions 8\nlongest 5\npath 7\npeak 7\nidle 4\nrequests 3\nsteals 1\n\
-         bare 1\nidle-victim 1\n",
+        "rounds 6\nactions 8\nlongest 5\npath 7\nparallel 1\nrest 3\npeak 7\nidle 4\n\
+         requests 3\nsteals 1\nbare 1\nidle-victim 1\n",
     );
 }
 
@@ -217,7 +221,9 @@ fn measures_of_e() {
             total: 8,
             work: 8,
             longest: 5,
-            path: 7
+            path: 7,
+            parallel: 1,
+            rest: 3
         })
     );
 }
@@ -360,7 +366,8 @@ fn one_of_3() {
     let mut schedule = [0xA5; 8];
     let t = run(&ONE_OF_3, 1, &[], &mut schedule).unwrap();
     assert_eq!((t.rounds, t.actions, t.idle), (3, 3, 0));
-    assert_eq!(measure(&ONE_OF_3).unwrap().longest, 3);
+    let m = measure(&ONE_OF_3).unwrap();
+    assert_eq!((m.longest, m.parallel, m.rest), (3, 1, 0));
     // The last four bits fill the byte.
     assert_eq!(schedule, [2, 0x08, 0, 0x80, 0, 0x03, 0x00, 0xA5]);
     assert_eq!(check(&ONE_OF_3, &schedule[..7]), Ok(()));
@@ -385,7 +392,9 @@ fn measures_of_e2() {
             total: 8,
             work: 19,
             longest: 13,
-            path: 7
+            path: 7,
+            parallel: 1,
+            rest: 6
         })
     );
 }
@@ -394,6 +403,17 @@ fn measures_of_e2() {
 fn e2_alone() {
     let t = tally_of(&E2, 1, &[]).unwrap();
     assert_eq!(counts_of(t), [19, 19, 0, 0, 0, 0, 0, 7]);
+}
+
+#[test]
+fn e2_alone_printed() {
+    prints(
+        1,
+        &[],
+        &E2,
+        "rounds 19\nactions 19\nlongest 13\npath 7\nparallel 1\nrest 6\npeak 7\nidle 0\n\
+         requests 0\nsteals 0\nbare 0\nidle-victim 0\n",
+    );
 }
 
 #[test]
@@ -414,8 +434,8 @@ fn e2_by_two_printed() {
         2,
         &[0, 1],
         &E2,
-        "rounds 14\nactions 19\nlongest 13\npath 7\npeak 7\nidle 9\nrequests 8\nsteals 2\n\
-         bare 3\nidle-victim 3\n",
+        "rounds 14\nactions 19\nlongest 13\npath 7\nparallel 1\nrest 6\npeak 7\nidle 9\n\
+         requests 8\nsteals 2\nbare 3\nidle-victim 3\n",
     );
 }
 
@@ -634,6 +654,8 @@ fn the_largest_run() {
     let counts = build(&input).unwrap();
     assert_eq!((counts.rounds, counts.actions), (30_720, 30_720));
     assert_eq!(counts.longest, 15 * (255 + 8 + 255 * 6));
+    // Positions 1 are left out of it, but for that of the last job.
+    assert_eq!((counts.parallel, counts.rest), (1, 15 * 255));
     assert_eq!((counts.path, counts.peak), (256, 256));
 
     let mut schedule = [0; 5124];
@@ -861,6 +883,9 @@ fn case_4_in_either_form() {
     assert_eq!(run(&E_IN_2, 2, &[0, 1], &mut [0; 20]), Err(9));
 }
 
+/// Lists of choices, most of which are not for every number of workers.
+const CHOICES: [&[u8]; 5] = [&[], &[0], &[0, 1], &[1, 0, 2, 1], &[5, 0, 3, 15, 0, 8, 1]];
+
 #[test]
 fn both_forms_run_alike() {
     for rows in plain_tables() {
@@ -868,13 +893,7 @@ fn both_forms_run_alike() {
         let new = turned(to_form_2, &old).unwrap();
         assert_eq!(measure(&old), measure(&new));
         for workers in 0..=17 {
-            for choices in [
-                &[][..],
-                &[0],
-                &[0, 1],
-                &[1, 0, 2, 1],
-                &[5, 0, 3, 15, 0, 8, 1],
-            ] {
+            for choices in CHOICES {
                 run_alike(&old, &new, workers, choices);
             }
         }
@@ -894,5 +913,119 @@ fn run_alike(old: &[u8], new: &[u8], workers: u32, choices: &[u8]) {
         assert_eq!(check(new, &long), Ok(()));
     } else {
         assert!(matches!(tally, Err(7 | 8)));
+    }
+}
+
+/// A tree of jobs. Each spawns up to so many children, one right after the
+/// other, and waits for all in its last action. A job without children is one
+/// action of this cost; all other actions cost 1.
+fn tree_rows(jobs: u16, children: u16, cost: u16) -> Vec<u16> {
+    let spawned = |job| children * job + 1..jobs.min(children * job + children + 1);
+    let mut rows = vec![];
+    for job in 0..jobs {
+        let target = match job {
+            0 => 0,
+            // No join may enter the position right after the last spawn.
+            _ => spawned((job - 1) / children).len() as u16 + 2,
+        };
+        if spawned(job).is_empty() {
+            rows.extend([job, 1, 0, target, cost]);
+            continue;
+        }
+        for child in spawned(job) {
+            rows.extend([job, 1, child + 1, 0, 1]);
+        }
+        rows.extend([job, 1, 0, 0, 1]);
+        rows.extend([job, 1, 0, target, 1]);
+    }
+    rows
+}
+
+fn tree(jobs: u16, children: u16, cost: u16) -> Vec<u8> {
+    plan_in(2, &tree_rows(jobs, children, cost))
+}
+
+/// T1, T∞, their quotient and the rest. Of the last two no others would pass.
+fn divided(plan: &[u8]) -> [u32; 4] {
+    let m = measure(plan).unwrap();
+    assert!(m.longest >= 1 && m.parallel >= 1);
+    assert!(m.rest < m.longest);
+    assert_eq!(m.parallel * m.longest + m.rest, m.work);
+    [m.work, m.longest, m.parallel, m.rest]
+}
+
+/// With three children T1 is 5 + 3 × cost, and T∞, by way of the last child,
+/// 4 + cost.
+#[test]
+fn rests_around_a_new_quotient() {
+    assert_eq!(divided(&tree(4, 3, 2)), [11, 6, 1, 5]);
+    assert_eq!(divided(&tree(4, 3, 3)), [14, 7, 2, 0]);
+    assert_eq!(divided(&tree(4, 3, 4)), [17, 8, 2, 1]);
+}
+
+#[test]
+fn rests_of_0() {
+    assert_eq!(divided(&one_job()), [1, 1, 1, 0]);
+    assert_eq!(divided(&tree(5, 4, 9)), [42, 14, 3, 0]);
+    assert_eq!(divided(&tree(7, 6, 10)), [68, 17, 4, 0]);
+    // In form 1. A longest chain goes by way of jobs 1 and 3.
+    assert_eq!(divided(&plan_of(&tree_rows(10, 2, 1))), [24, 8, 3, 0]);
+}
+
+#[test]
+fn more_than_16_worth_renting() {
+    assert_eq!(divided(&tree(73, 8, 15)), [1050, 33, 31, 27]);
+}
+
+#[test]
+fn trees_divided() {
+    for jobs in (1..=40).chain([255, 256]) {
+        for children in 1..=8 {
+            for cost in 1..=15 {
+                divided(&tree(jobs, children, cost));
+            }
+        }
+    }
+}
+
+/// Plans of both forms, for which 1 to over 16 workers are worth renting.
+fn plans() -> Vec<Vec<u8>> {
+    let mut plans: Vec<_> = plain_tables().iter().map(|rows| plan_of(rows)).collect();
+    plans.extend([E2.to_vec(), ONE_OF_3.to_vec(), costed_g([1, 5, 1, 3])]);
+    plans.push(plan_in(2, &largest_rows(15)));
+    for (jobs, children) in [(4, 3), (9, 8), (73, 8), (256, 1), (256, 2)] {
+        plans.extend([1, 3, 15].map(|cost| tree(jobs, children, cost)));
+    }
+    plans
+}
+
+/// In every run (P − parallel) × T∞ ≤ idle + rest. Here parallel × T∞ stands on
+/// the other side, since P may be the smaller number.
+#[test]
+fn workers_that_cannot_be_kept_busy() {
+    for plan in plans() {
+        let measures = divided(&plan);
+        for workers in 1..=16 {
+            for choices in &CHOICES[1..] {
+                let choices: Vec<u8> = choices.iter().map(|choice| choice % workers).collect();
+                let c = built(workers, &choices, &plan);
+                assert_eq!([c.actions, c.longest, c.parallel, c.rest], measures);
+                let workers = u32::from(workers);
+                assert!(workers * c.longest <= c.idle + c.rest + c.parallel * c.longest);
+            }
+        }
+    }
+}
+
+/// No run of F has fewer rounds than T∞, and so with two workers or three none
+/// has fewer idle turns than these.
+#[test]
+fn f_idles_as_little_as_it_can() {
+    for workers in [2, 3] {
+        let c = built(workers, &[0], &plan_of(&F_ROWS));
+        assert_eq!((c.rounds, c.longest), (6, 6));
+        assert_eq!((c.parallel, c.rest), (1, 1));
+        let least = (u32::from(workers) - c.parallel) * c.longest;
+        assert_eq!(c.idle + c.rest, least);
     }
 }

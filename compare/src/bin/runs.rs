@@ -1,7 +1,7 @@
 //! Writes a file of inputs and their answers, for another program to repeat.
 //!
 //! Each entry: the input's length (two bytes, high first), the input, one byte
-//! of refusal or 0, and the ten counts in their printed order (four bytes
+//! of refusal or 0, and the twelve counts in their printed order (four bytes
 //! each, high first), which are 0 where there is a refusal.
 
 use compare::inputs::{
@@ -33,7 +33,7 @@ fn main() -> Result<(), Box<dyn Error>> {
         match second::build(input) {
             Err(refusal) => {
                 file.push(refusal as u8);
-                file.extend([0; 40]);
+                file.extend([0; 48]);
                 told[refusal as usize] += 1;
             }
             Ok(counts) => {

@@ -1,13 +1,13 @@
 -- What `buildrun` prints (document 01, "Cases"): "reads P (one byte), the choice count (two bytes, high first), the choices,
 -- and the plan that begins in the middle of its input".
---   ranWith plan n choices  == the ten counts of a run, or the refusal: 1 to 6, then 7, 8
+--   ranWith plan n choices  == the twelve counts of a run, or the refusal: 1 to 6, then 7, 8
 --   buildOf input           == "Before the plan is looked at, in this order: P or the count missing prints `refused 1`, a count
 --                              above 4,096 `refused 8` even if choices are missing too, missing choices `refused 1`."
 --   builtOf r               == the outcome that an answer stands for
 --   planIn, choicesIn input == the plan and the choices of an input
---   CountBounds S c         == demand 3's claim, as far as counts can tell, and the sums, of the run of S
+--   CountBounds S c         == demand 3's claim, as far as counts can tell, and the sums, of the run of S; and T1 divided by T∞
 --   Claimed input r         == so it is of the counts that were answered
-use Prim.Native.Nat.{ℕ, _+_, _*_, _≤_}
+use Prim.Native.Nat.{ℕ, _+_, _-_, _*_, _≤_}
 use mathlib.Core.Path.{_≡_}
 use mathlib.Core.Bool.{true, false}
 use mathlib.Core.List.{List}
@@ -16,7 +16,7 @@ use lib.Dec.{ltb}
 use Rattle.plan.specs.Refusal.{Outcome, refused, accepted, numberOf}
 use Rattle.plan.specs.Plan.{size}
 use Rattle.plan.specs.Reader.{Read, readPlan}
-use Rattle.plan_measure.specs.Measure.{work, longest, heaviest}
+use Rattle.plan_measure.specs.Measure.{work, longest, heaviest, parallel, rest, Quotient}
 use Rattle.build.specs.declared.Counts.{Counts}
 use Rattle.build.specs.declared.Built.{Built}
 use Rattle.build.specs.declared.Built.the-variants.{Refused, Counted}
@@ -27,7 +27,7 @@ use Rattle.runs.specs.Run.{run, runOf}
 use Rattle.runs.specs.Misses.{misses}
 
 unfoldable pub countsOf : Outcome Read → Outcome State → Outcome Counts
-unfolding longest heaviest
+unfolding longest heaviest parallel rest
 countsOf (refused k) o = refused k
 countsOf (accepted x) (refused k) = refused k
 countsOf (accepted x) (accepted s) =
@@ -37,6 +37,8 @@ countsOf (accepted x) (accepted s) =
       actions = t .actions;
       longest = longest (x .plan);
       path = heaviest (x .plan);
+      parallel = parallel (x .plan);
+      rest = rest (x .plan);
       peak = t .peak;
       idle = t .idle;
       requests = t .requests;
@@ -100,6 +102,9 @@ module _ (S : Setting) where
     pub turns : workers * c .rounds ≡ c .actions + c .idle
     pub requests : c .requests ≡ c .steals + c .bare + c .«idle_victim» + waiting workers (run S .workers)
     pub misses-split : c .bare + c .«idle_victim» ≡ misses S
+    -- document 02, L7: T1 divided by T∞, and what it says of idle turns
+    pub quotient : Quotient (c .actions) (c .longest) (c .parallel) (c .rest)
+    pub spare : (workers - c .parallel) * c .longest ≤ c .idle + c .rest
 
 -- where counts are answered, the plan was accepted, and the claim holds of them
 abbrev pub Claimed : List ℕ → Built → Type 0

@@ -14,12 +14,14 @@ use plan_measure::measure_read;
 use scheduler::run::Ran;
 use scheduler::run::run_read;
 
-// The ten counts that are printed.
+// The twelve counts that are printed.
 pub struct Counts {
     pub rounds: u32,
     pub actions: u32,
     pub longest: u32,
     pub path: u32,
+    pub parallel: u32,
+    pub rest: u32,
     pub peak: u32,
     pub idle: u32,
     pub requests: u32,
@@ -64,6 +66,8 @@ fn build_read(
                 actions: t.actions,
                 longest: m.longest,
                 path: m.path,
+                parallel: m.parallel,
+                rest: m.rest,
                 peak: t.peak,
                 idle: t.idle,
                 requests: t.requests,

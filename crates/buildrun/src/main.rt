@@ -23,6 +23,8 @@ fn counts(c: Counts) {
     line(b"actions", c.actions);
     line(b"longest", c.longest);
     line(b"path", c.path);
+    line(b"parallel", c.parallel);
+    line(b"rest", c.rest);
     line(b"peak", c.peak);
     line(b"idle", c.idle);
     line(b"requests", c.requests);

@@ -2,6 +2,7 @@
 --   countOf, measuresOf, tallyOf      == the numbers of an outcome
 --   checkOf                           == the number of a judgement
 --   Converted from to plan r bytes    == what was written holds the plan that was given, in the other form
+--   Divided r                         == T1 divided by T∞ is `parallel`, and `rest` remains
 --   Claimed plan n choices r schedule == demand 3's claim and the sums, of what was returned and written
 use Prim.Native.Nat.{ℕ}
 use mathlib.Core.Path.{_≡_}
@@ -11,6 +12,7 @@ use Rattle.plan.specs.Refusal.{Outcome, refused, accepted}
 use Rattle.plan.specs.Plan.{Plan}
 use Rattle.plan.specs.Reader.{Read, readPlan}
 use Rattle.plan_measure.specs.declared.Measures.{Measures}
+use Rattle.plan_measure.specs.Measure.{Quotient}
 use Rattle.runs.specs.declared.tally.Tally.{Tally}
 use Rattle.runs.specs.Setting.{setting}
 use Rattle.runs.specs.Claim.{Bounded}
@@ -23,8 +25,17 @@ countOf (refused k) = record { refused = k; count = 0 }
 countOf (accepted n) = record { refused = 0; count = n }
 
 abbrev pub measuresOf : Outcome Measures → DwMeasures
-measuresOf (refused k) = record { refused = k; total = 0; work = 0; longest = 0; path = 0 }
-measuresOf (accepted m) = record { refused = 0; total = m .total; work = m .work; longest = m .longest; path = m .path }
+measuresOf (refused k) = record { refused = k; total = 0; work = 0; longest = 0; path = 0; parallel = 0; rest = 0 }
+measuresOf (accepted m) =
+    record {
+      refused = 0;
+      total = m .total;
+      work = m .work;
+      longest = m .longest;
+      path = m .path;
+      parallel = m .parallel;
+      rest = m .rest;
+    }
 
 abbrev pub tallyOf : Outcome Tally → DwTally
 tallyOf (refused k) =
@@ -52,6 +63,9 @@ Converted from to plan r bytes =
     r .refused ≡ 0
     → (p : Plan) × (readPlan plan ≡ accepted (record { form = from; plan = p }))
     × (readPlan (take (r .count) bytes) ≡ accepted (record { form = to; plan = p }))
+
+abbrev pub Divided : DwMeasures → Type 0
+Divided r = r .refused ≡ 0 → Quotient (r .work) (r .longest) (r .parallel) (r .rest)
 
 -- where nothing is refused, the plan was accepted, and the claim holds of the rows read off the schedule, with the tally
 abbrev pub Claimed : List ℕ → ℕ → List ℕ → DwTally → List ℕ → Type 0

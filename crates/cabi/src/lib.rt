@@ -8,7 +8,7 @@ ghost use Rattle.plan_table.specs.Table.{toTable, toPlan};
 ghost use Rattle.courses.specs.Schedule.{checked};
 ghost use Rattle.scheduler.specs.Entry.{runInto};
 ghost use Rattle.plan_forms.specs.Forms.{toForm2, toForm1};
-ghost use Rattle.cabi.specs.Plain.{countOf, measuresOf, tallyOf, checkOf, Converted, Claimed};
+ghost use Rattle.cabi.specs.Plain.{countOf, measuresOf, tallyOf, checkOf, Converted, Divided, Claimed};
 ghost use Rattle.cabi.specs.Few.{Few};
 use checker::Judged;
 use checker::check;
@@ -38,6 +38,8 @@ pub struct DwMeasures {
     pub work: u32,
     pub longest: u32,
     pub path: u32,
+    pub parallel: u32,
+    pub rest: u32,
 }
 
 #[repr(C)]
@@ -113,6 +115,7 @@ pub extern "C" fn dw_to_form_1(plan: &[u8], bytes: &mut [u8]) -> DwCount
 #[no_mangle]
 pub extern "C" fn dw_measure(plan: &[u8]) -> DwMeasures
     ensures { λ r. ⌜ r ≡ measuresOf (measures (now (plan .entry))) ⌝ }
+    ensures { λ r. ⌜ Divided r ⌝ }
 {
     match measure(plan) {
         Measured::Refused(cause) => DwMeasures {
@@ -121,6 +124,8 @@ pub extern "C" fn dw_measure(plan: &[u8]) -> DwMeasures
             work: 0,
             longest: 0,
             path: 0,
+            parallel: 0,
+            rest: 0,
         },
         Measured::Of(m) => DwMeasures {
             refused: 0,
@@ -128,6 +133,8 @@ pub extern "C" fn dw_measure(plan: &[u8]) -> DwMeasures
             work: m.work,
             longest: m.longest,
             path: m.path,
+            parallel: m.parallel,
+            rest: m.rest,
         },
     }
 }

@@ -17,6 +17,8 @@ fn counts(c: Counts) {
     count(b" actions ", c.actions);
     count(b" longest ", c.longest);
     count(b" path ", c.path);
+    count(b" parallel ", c.parallel);
+    count(b" rest ", c.rest);
     count(b" peak ", c.peak);
     count(b" idle ", c.idle);
     count(b" requests ", c.requests);

@@ -28,6 +28,8 @@ fn measures(m: Measures) {
     count(b" work ", m.work);
     count(b" longest ", m.longest);
     count(b" path ", m.path);
+    count(b" parallel ", m.parallel);
+    count(b" rest ", m.rest);
 }
 
 fn there(plan: &[u8]) {

@@ -1,6 +1,6 @@
 // Runs the inputs of `buildrun` that standard input holds and compares what comes of each with the answer beside it, which a
 // second runner gave (compare/src/bin/runs.rs). An input is its length in two bytes, high first, and its bytes; an answer is a
-// refusal's number or 0, and the ten counts in four bytes each, in the order in which `buildrun` prints them.
+// refusal's number or 0, and the twelve counts in four bytes each, in the order in which `buildrun` prints them.
 use build::Built;
 use build::Counts;
 use build::build;
@@ -33,7 +33,7 @@ fn next_run() -> Came {
         return Came::End;
     }
     let mut input = [0u8; 16384];
-    let mut answer = [0u8; 41];
+    let mut answer = [0u8; 49];
     read_run(
         wide8(head[0]) * 256 + wide8(head[1]),
         &mut input,
@@ -46,13 +46,13 @@ fn read_run(n: usize, input: &mut [u8], answer: &mut [u8]) -> Came {
     if input.len() < n {
         return Came::End;
     }
-    if answer.len() != 41 {
+    if answer.len() != 49 {
         return Came::End;
     }
     if io::read_full(0, &mut input[0..n]) < n {
         return Came::End;
     }
-    if io::read_full(0, answer) < 41 {
+    if io::read_full(0, answer) < 49 {
         return Came::End;
     }
     if same(build(&input[0..n]), answer) {
@@ -76,12 +76,14 @@ fn counts_are(c: Counts, answer: &[u8]) -> bool {
         && c.actions == count_at(answer, 5)
         && c.longest == count_at(answer, 9)
         && c.path == count_at(answer, 13)
-        && c.peak == count_at(answer, 17)
-        && c.idle == count_at(answer, 21)
-        && c.requests == count_at(answer, 25)
-        && c.steals == count_at(answer, 29)
-        && c.bare == count_at(answer, 33)
-        && c.idle_victim == count_at(answer, 37)
+        && c.parallel == count_at(answer, 17)
+        && c.rest == count_at(answer, 21)
+        && c.peak == count_at(answer, 25)
+        && c.idle == count_at(answer, 29)
+        && c.requests == count_at(answer, 33)
+        && c.steals == count_at(answer, 37)
+        && c.bare == count_at(answer, 41)
+        && c.idle_victim == count_at(answer, 45)
 }
 
 // The count in the four bytes from place `at` on, high first.

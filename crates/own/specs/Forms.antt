@@ -33,7 +33,7 @@ ReadOff plan schedule w =
     × (readSchedule (x .form) (take (scheduleLength (x .form) (total (x .plan))) schedule) (total (x .plan)) ≡ accepted w)
 
 pub record SameRun (s t : List ℕ) (n : ℕ) (choices : List ℕ) : Type 0 where
-  -- the number of actions, T1, T∞ and S1 are equal
+  -- all measures are equal
   pub measured : measures s ≡ measures t
   -- both are turned down with one number, or run to one state: one tally and one list of rows
   pub run : runOf s n choices ≡ runOf t n choices

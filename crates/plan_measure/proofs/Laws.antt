@@ -7,4 +7,5 @@ pub mod Chains
 pub mod Times
 pub mod Sends
 pub mod Clock
+pub mod Parallel
 pub mod Measuring

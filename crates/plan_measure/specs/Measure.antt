@@ -1,4 +1,4 @@
--- The measures of a plan (document 01, "Plan"; document 02, L5).
+-- The measures of a plan (document 01, "Plan"; document 02, L5 and L7).
 --   costs l          == the costs of the actions l, added up
 --   work p           == T1
 --   mustFollow p x y == x must follow y: y is "the one before it, its spawner (for position 0)" or a sender of a join into it
@@ -9,8 +9,12 @@
 --   longest p        == T∞, the largest cost of a chain: no chain has more actions than the plan
 --   path p j         == the path weight of job j: "its own frame plus its parent's path weight"
 --   heaviest p       == S1, the largest path weight
---   measures s       == the number of actions, T1, T∞ and S1 of the plan that the bytes s hold, or the refusal
-use Prim.Native.Nat.{ℕ, zero, suc, _+_, _≤_}
+--   parallel, rest p == "T1 divided by T∞ as a whole quotient and a remainder"
+--   measures s       == the number of actions, T1, T∞, S1, the quotient and the remainder of the plan that the bytes s hold, or the
+--                       refusal
+--   Quotient a b q r == a divided by b is q, and r remains
+--   Divided r        == so it is of the measures that were answered
+use Prim.Native.Nat.{ℕ, zero, suc, _+_, _*_, _/_, _%_, _≤_, _<_}
 use mathlib.Core.Path.{_≡_}
 use mathlib.Core.Logic.{_⊎_}
 use mathlib.Core.Bool.{Bool, true, false}
@@ -77,9 +81,18 @@ unfoldable pub heaviest : Plan → ℕ
 unfolding path
 heaviest p = largest (path p) (below (length p))
 
+unfoldable pub parallel : Plan → ℕ
+unfolding work longest
+parallel p = work p / longest p
+
+unfoldable pub rest : Plan → ℕ
+unfolding work longest
+rest p = work p % longest p
+
 unfoldable pub measuresOf : Plan → Measures
-unfolding work longest heaviest
-measuresOf p = record { total = total p; work = work p; longest = longest p; path = heaviest p }
+unfolding work longest heaviest parallel rest
+measuresOf p =
+    record { total = total p; work = work p; longest = longest p; path = heaviest p; parallel = parallel p; rest = rest p }
 
 unfoldable pub measured : Outcome Read → Outcome Measures
 unfolding measuresOf
@@ -94,3 +107,13 @@ measures s = measured (readPlan s)
 abbrev pub told : Measured → Outcome Measures
 told (Refused cause) = refused (numberOf cause)
 told (Of m) = accepted m
+
+pub record Quotient (work longest parallel rest : ℕ) : Type 0 where
+  -- "so that quotient × T∞ + remainder = T1 and the remainder is below T∞"
+  pub whole : parallel * longest + rest ≡ work
+  pub rest-below : rest < longest
+  -- "T∞ is never 0"
+  pub some : 1 ≤ longest
+
+abbrev pub Divided : Measured → Type 0
+Divided r = (m : Measures) → r ≡ Of m → Quotient (m .work) (m .longest) (m .parallel) (m .rest)

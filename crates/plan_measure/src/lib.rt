@@ -1,10 +1,10 @@
-// The measures of a plan (document 01, "Plan"; document 02, L5): its number of actions, T1, T∞ and S1.
+// The measures of a plan (document 01, "Plan"; document 02, L5 and L7): its number of actions, T1, T∞, S1, and T1 divided by T∞.
 ghost use Prim.Native.Nat.{suc};
 ghost use mathlib.Core.Path.{_≡_};
 ghost use lib.ListN.{length};
 ghost use Rattle.plan.specs.Contract.{Some, _⇒_, before, after};
 ghost use Rattle.plan.specs.Sheet.{targetAt, PlanIn};
-ghost use Rattle.plan_measure.specs.Measure.{measuresOf, measures, told};
+ghost use Rattle.plan_measure.specs.Measure.{measuresOf, measures, told, Divided};
 ghost use Rattle.plan_measure.specs.Measure.{work as workOf, longest as longestOf, heaviest as heaviestOf};
 ghost use Rattle.plan_measure.specs.Times.{at, PlanOf, ActionsOf, JobGiven, JobTimed, SendGiven, Sent, PassGiven, Passed};
 use numbers::larger;
@@ -23,12 +23,14 @@ use plan::sheet::frame_of;
 use plan::sheet::parent_of;
 use plan::sheet::target_at;
 
-// The number of actions, T1, T∞ and S1.
+// The number of actions, T1, T∞, S1, and T1 divided by T∞: the quotient and what remains.
 pub struct Measures {
     pub total: u32,
     pub work: u32,
     pub longest: u32,
     pub path: u32,
+    pub parallel: u32,
+    pub rest: u32,
 }
 
 pub enum Measured {
@@ -186,22 +188,27 @@ fn longest(jobs: usize, plan: &Sheet) -> u32
     units16(most)
 }
 
-// The number of actions, T1, T∞ and S1 of the plan that the array holds.
+// The measures of the plan that the array holds. T∞ is at least 1.
 pub fn measure_read(jobs: usize, actions: usize, plan: &Sheet) -> Measures
     requires { ⌜ Some (PlanIn jobs actions (now plan)) ⌝ }
     ensures { λ r. ⌜ PlanIn jobs actions (before plan) ⇒ (λ p. r ≡ measuresOf p) ⌝ }
 {
+    let sum = work(actions, plan);
+    let most = longest(jobs, plan);
     Measures {
         total: actions as u32,
-        work: work(actions, plan),
-        longest: longest(jobs, plan),
+        work: sum,
+        longest: most,
         path: heaviest(jobs, plan),
+        parallel: sum / most,
+        rest: sum % most,
     }
 }
 
-// The number of actions, T1, T∞ and S1 of the plan that the bytes hold, or why they are turned down.
+// The measures of the plan that the bytes hold, or why they are turned down.
 pub fn measure(bytes: &[u8]) -> Measured
     ensures { λ r. ⌜ told r ≡ measures (now (bytes .entry)) ⌝ }
+    ensures { λ r. ⌜ Divided r ⌝ }
 {
     let mut plan = [0u16; PLACES];
     let mut entering = [0u8; 2048];

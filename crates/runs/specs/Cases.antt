@@ -10,21 +10,23 @@ use Rattle.plan.specs.Refusal.{Outcome, refused, accepted}
 use Rattle.plan.specs.Test.{both, all}
 use Rattle.plan.specs.Plan.{Plan}
 use Rattle.plan.specs.Reader.{Read, readPlan}
-use Rattle.plan_measure.specs.Measure.{longest, heaviest}
+use Rattle.plan_measure.specs.Measure.{longest, heaviest, parallel, rest}
 use Rattle.courses.specs.Row.{Row}
 use Rattle.runs.specs.State.{State}
 use Rattle.runs.specs.Run.{runOf}
 use Rattle.courses.specs.Schedule.{checked}
 
 pub data Count : Type 0 where
-  rounds actions longest′ path peak idle requests steals misses bare idle-victim : Count
+  rounds actions longest′ path parallel′ rest′ peak idle requests steals misses bare idle-victim : Count
 
 unfoldable pub valueOf : Count → Plan → State → ℕ
-unfolding longest heaviest
+unfolding longest heaviest parallel rest
 valueOf rounds p s = s .tally .rounds
 valueOf actions p s = s .tally .actions
 valueOf longest′ p s = longest p
 valueOf path p s = heaviest p
+valueOf parallel′ p s = parallel p
+valueOf rest′ p s = rest p
 valueOf peak p s = s .tally .peak
 valueOf idle p s = s .tally .idle
 valueOf requests p s = s .tally .requests
@@ -146,12 +148,22 @@ starred =
     ∷ []
 
 -- document 02, L2: the misses of cases 4, 5 and 6 by their kind. In case 4 worker 0 asks worker 1, which holds job 0, and then itself;
--- in the others worker 0, whom all ask, holds a job to the end
+-- in the others worker 0, whom all ask, holds a job to the end. L7: 8 divided by 5, and 7 by 6
 unfoldable pub worked : List Case
 unfolding E F
 worked =
-    record { plan = E; workers = 2; choices = 0 ∷ 1 ∷ []; answer = counts (is steals 1 ∷ is bare 1 ∷ is idle-victim 1 ∷ []) }
-    ∷ record { plan = F; workers = 2; choices = 0 ∷ []; answer = counts (is steals 1 ∷ is bare 3 ∷ is idle-victim 0 ∷ []) }
+    record {
+      plan = E;
+      workers = 2;
+      choices = 0 ∷ 1 ∷ [];
+      answer = counts (is parallel′ 1 ∷ is rest′ 3 ∷ is steals 1 ∷ is bare 1 ∷ is idle-victim 1 ∷ []);
+    }
+    ∷ record {
+      plan = F;
+      workers = 2;
+      choices = 0 ∷ [];
+      answer = counts (is parallel′ 1 ∷ is rest′ 1 ∷ is steals 1 ∷ is bare 3 ∷ is idle-victim 0 ∷ []);
+    }
     ∷ record { plan = F; workers = 3; choices = 0 ∷ []; answer = counts (is steals 1 ∷ is bare 4 ∷ is idle-victim 0 ∷ []) }
     ∷ []
 
@@ -172,12 +184,18 @@ E2-schedule-clash =
 unfoldable pub costed : List Case
 unfolding E2 one-of-3 E2-schedule-clash
 costed =
-    record { plan = one-of-3; workers = 1; choices = []; answer = counts (is rounds 3 ∷ is actions 3 ∷ is longest′ 3 ∷ is idle 0 ∷ []) }
+    record {
+      plan = one-of-3;
+      workers = 1;
+      choices = [];
+      answer = counts (is rounds 3 ∷ is actions 3 ∷ is longest′ 3 ∷ is parallel′ 1 ∷ is rest′ 0 ∷ is idle 0 ∷ []);
+    }
     ∷ record {
       plan = E2;
       workers = 1;
       choices = [];
-      answer = counts (is rounds 19 ∷ is actions 19 ∷ is longest′ 13 ∷ is path 7 ∷ is peak 7 ∷ is idle 0 ∷ []);
+      answer =
+          counts (is rounds 19 ∷ is actions 19 ∷ is longest′ 13 ∷ is path 7 ∷ is parallel′ 1 ∷ is rest′ 6 ∷ is peak 7 ∷ is idle 0 ∷ []);
     }
     ∷ record {
       plan = E2;
@@ -189,6 +207,8 @@ costed =
           ∷ is actions 19
           ∷ is longest′ 13
           ∷ is path 7
+          ∷ is parallel′ 1
+          ∷ is rest′ 6
           ∷ is peak 7
           ∷ is idle 9
           ∷ is requests 8

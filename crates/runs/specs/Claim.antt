@@ -1,4 +1,5 @@
--- What demand 3 says: one claim about a whole run, from its start to its end, and with it the sums that the run's counts keep.
+-- What demand 3 says: one claim about a whole run, from its start to its end, and with it the sums that the run's counts keep and
+-- what T1 divided by T∞ says of idle turns.
 --   Bounds S rows t      == the claim, said of any rows and any tally for the setting S, and of the last state of its run
 --   Bounded S form schedule t == the same of the rows that are read off the bytes of a schedule of that form, and a tally
 --   Claim S              == it holds of the rows and the tally of the run of S
@@ -13,7 +14,7 @@ use Rattle.plan.specs.Refusal.{accepted}
 use Rattle.plan.specs.Test.{all}
 use Rattle.plan.specs.Plan.{size, total}
 use Rattle.plan.specs.Reader.{Read, readPlan}
-use Rattle.plan_measure.specs.Measure.{work, longest, heaviest}
+use Rattle.plan_measure.specs.Measure.{work, longest, heaviest, parallel, rest}
 use Rattle.runs.specs.declared.tally.Tally.{Tally}
 use Rattle.courses.specs.Row.{Row, noRow, place}
 use Rattle.runs.specs.Setting.{Setting, setting}
@@ -49,6 +50,8 @@ module _ (S : Setting) where
     -- in T1 turns an action was worked on, and "P × rounds = actions + idle turns"
     pub actions : t .actions ≡ work plan
     pub turns : workers * t .rounds ≡ t .actions + t .idle
+    -- document 02, L7: more workers than the quotient of T1 and T∞ cannot all be kept busy. P − quotient is 0 where P is not above it
+    pub spare : (workers - parallel plan) * longest plan ≤ t .idle + rest plan
     -- "requests = steals + misses + requests still waiting", as the run ends; document 02, L2, of bare and idle-victim: "Their sum is the
     -- old count."
     pub requests : t .requests ≡ t .steals + t .bare + t .«idle_victim» + waiting workers (run S .workers)

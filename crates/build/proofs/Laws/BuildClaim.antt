@@ -1,4 +1,4 @@
--- Demand 3's claim and the sums, of the counts that a build answers.
+-- The claim of a run and the quotient, of the counts that a build answers.
 --   counts-bounded == they hold of the counts of a run
 --   build-claimed  == so of what `build` answers, whatever its input
 use Prim.Native.Nat.{ℕ, _+_}
@@ -10,12 +10,11 @@ use native.Mathlib.Omega.{arith}
 use lib.ListN.{length, getD}
 use lib.Dec.{ltb}
 use Rattle.plan.specs.Refusal.{Outcome, refused, accepted}
-use Rattle.plan.specs.Plan.{Plan}
 use Rattle.plan.specs.Reader.{readPlan, Read}
 use Rattle.plan.proofs.Laws.Accepted.{accepted-kept}
 use Rattle.plan.proofs.Laws.Outcomes.{refused-accepted}
-use Rattle.plan_measure.specs.declared.Measures.{Measures}
-use Rattle.plan_measure.specs.Measure.{work, longest, heaviest, measuresOf}
+use Rattle.plan_measure.specs.Measure.{measuresOf}
+use Rattle.plan_measure.proofs.Laws.Parallel.{quotient}
 use Rattle.runs.specs.Setting.{Setting, setting}
 use Rattle.runs.specs.Run.{run, admitted, runOf}
 use Rattle.runs.proofs.Laws.Fit.{Fit}
@@ -47,6 +46,8 @@ counts-bounded {S} fit =
       turns = b .turns;
       requests = b .requests;
       misses-split = b .misses-split;
+      quotient = rw (b .actions) (quotient (S .plan) (fit .plan));
+      spare = b .spare;
     }
 
 module _ (plan : List ℕ) (n : ℕ) (choices : List ℕ) (c : Counts) where

@@ -11,7 +11,7 @@ use Rattle.plan.specs.Refusal.{Outcome, refused, accepted, numberOf}
 use Rattle.plan_measure.specs.declared.Measures.{Measures}
 use Rattle.plan_measure.specs.declared.Measured.{Measured}
 use Rattle.plan_measure.specs.declared.Measured.the-variants.{Refused as NotMeasured, Of}
-use Rattle.plan_measure.specs.Measure.{told}
+use Rattle.plan_measure.specs.Measure.{told, Divided as MeasuresDivided}
 use Rattle.plan_writer.specs.declared.Answer.{Answer}
 use Rattle.plan_writer.specs.declared.Answer.the-variants.{Refused as NotWritten, Count}
 use Rattle.plan_writer.specs.Written.{Written, answerOf}
@@ -25,7 +25,7 @@ use Rattle.checker.specs.declared.Judged.the-variants.{Refused as NotKept, Acce
 use Rattle.checker.specs.Answer.{judgedOf}
 use Rattle.cabi.specs.declared.DwCount.{DwCount}
 use Rattle.cabi.specs.Few.{Few}
-use Rattle.cabi.specs.Plain.{countOf, measuresOf, tallyOf, checkOf, Converted, Claimed}
+use Rattle.cabi.specs.Plain.{countOf, measuresOf, tallyOf, checkOf, Converted, Divided, Claimed}
 
 pub number-some : (cause : Refusal) → numberOf cause ≡ 0 → ⊥
 number-some RanOut e = omega arith
@@ -71,13 +71,13 @@ pub converted-count : (from to : ℕ) (s : List ℕ) (a : Answer) (l : List ℕ)
 converted-count from to s (NotWritten cause) l claim r e z = absurd (number-some cause (sym (ap (λ (r : DwCount). r .refused) e) ∙ z))
 converted-count from to s (Count n) l claim r e z = rw (ap (λ (r : DwCount). r .count) e) (claim n refl)
 
-module _ (o : Outcome Measures) (r : Measured) (ensures : told r ≡ o) where
+module _ (o : Outcome Measures) (r : Measured) (ensures : told r ≡ o) (divided : MeasuresDivided r) where
   pub measures-refused : (cause : Refusal) (k : ℕ) → r ≡ NotMeasured cause → k ≡ numberOf cause
-      → measuresOf (refused k) ≡ measuresOf o
-  measures-refused cause k e f = rw (← ensures, e, f)
+      → (measuresOf (refused k) ≡ measuresOf o) × Divided (measuresOf (refused k))
+  measures-refused cause k e f = (rw (← ensures, e, f), λ z. absurd (number-some cause (omega arith)))
 
-  pub measures-accepted : (m : Measures) → r ≡ Of m → measuresOf (accepted m) ≡ measuresOf o
-  measures-accepted m e = rw (← ensures, e)
+  pub measures-accepted : (m : Measures) → r ≡ Of m → (measuresOf (accepted m) ≡ measuresOf o) × Divided (measuresOf (accepted m))
+  measures-accepted m e = (rw (← ensures, e), λ z. divided m e)
 
 module _
     (bytes : List ℕ)

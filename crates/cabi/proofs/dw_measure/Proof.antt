@@ -19,10 +19,13 @@ enum-known-m c = search needs
 returns : tie.Need-returns
 returns c =
     let b = c .before .before in
-    measures-refused _ _ (b .before .before .measure .ensures) _ _ (b .cause .given .1) (c .cause-number .ensures)
+    let (e, d) = b .before .before .measure .ensures in
+    measures-refused _ _ e d _ _ (b .cause .given .1) (c .cause-number .ensures)
 
 returns-2 : tie.Need-returns-2
-returns-2 c = measures-accepted _ _ (c .before .before .before .measure .ensures) _ (c .before .m .given .1)
+returns-2 c =
+    let (e, d) = c .before .before .before .measure .ensures in
+    measures-accepted _ _ e d _ (c .before .m .given .1)
 
 pub dw-measure-spec : {M : Type 1} → statement M
 dw-measure-spec =

@@ -1,12 +1,21 @@
 -- `measure::measure` meets its contract.
-use mathlib.Core.Path.{refl, sym}
+use Prim.Native.Nat.{ℕ}
+use mathlib.Core.Path.{_≡_, refl, sym}
+use mathlib.Core.List.{List}
 use denote.Ref.{now}
 use Rattle.plan.specs.Found.{ReadPlan}
 use Rattle.plan.proofs.Laws.Found.{found-plan, found-none}
+use Rattle.plan_measure.specs.declared.Measured.{Measured}
+use Rattle.plan_measure.specs.Measure.{measures, told, Divided}
 use Rattle.plan_measure.proofs.Laws.Measuring.{measures-read, measures-refused}
+use Rattle.plan_measure.proofs.Laws.Parallel.{measures-divided}
 use borrow.Author.Needs.{needs}
 use Rattle.plan_measure.proofs.measure.Statement.{statement}
 use Rattle.plan_measure.proofs.measure.Tie as tie
+
+-- what was answered are the measures, and so T1 is divided in them
+with-quotient : (s : List ℕ) (r : Measured) → told r ≡ measures s → (told r ≡ measures s) × Divided r
+with-quotient s r e = (e, measures-divided s r e)
 
 read-into-requires : tie.Need-read-into-requires
 read-into-requires c κs = (refl, refl)
@@ -29,12 +38,12 @@ measure-read-requires c κs = let g = plan-read (c .before .before) in (g .is, g
 returns : tie.Need-returns
 returns c =
     let z = c .before in
-    sym (measures-refused _ _ (found-none _ _ _ _ (z .before .before .read-into .ensures) _ (z .cause .given .1)))
+    with-quotient _ _ (sym (measures-refused _ _ (found-none _ _ _ _ (z .before .before .read-into .ensures) _ (z .cause .given .1))))
 
 returns-2 : tie.Need-returns-2
 returns-2 c =
     let g = plan-read (c .before .before .before) in
-    measures-read _ _ _ (g .read) (c .measure-read .ensures (g .is) (g .held))
+    with-quotient _ _ (measures-read _ _ _ (g .read) (c .measure-read .ensures (g .is) (g .held)))
 
 pub measure-spec : {M : Type 1} → statement M
 measure-spec =

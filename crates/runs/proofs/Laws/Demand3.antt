@@ -17,9 +17,11 @@ use Rattle.runs.specs.State.{nextOf}
 use Rattle.runs.specs.Run.{run, choicesFit}
 use Rattle.courses.specs.Schedule.{scheduleBytes, readSchedule, roundBits, scheduleLength}
 use Rattle.runs.specs.Claim.{Bounded, Claim, Demand3, EveryOrder}
+use Rattle.plan_measure.specs.Measure.{longest}
 use Rattle.plan.proofs.Laws.Accepted.{accepted-kept}
 use Rattle.plan.proofs.Laws.Lists.{both-left, of-true}
 use Rattle.plan_measure.proofs.Laws.Work.{work-range}
+use Rattle.plan_measure.proofs.Laws.Parallel.{quotient, spare-turns}
 use Rattle.runs.proofs.Laws.Fit.{Fit}
 use Rattle.runs.proofs.Laws.Admitted.{workers-range}
 use Rattle.runs.proofs.Laws.Whole.{run-trace, rounds-most, run-actions, run-turns, run-requests, lone-rounds}
@@ -34,13 +36,14 @@ use Rattle.courses.proofs.Laws.Price.{work-fits}
 pub run-bounds : {S : Setting} → Fit S → Claim S
 run-bounds {S} fit =
     let (r, b, t, e, q) = run-trace fit in
+    let least : longest (S .plan) ≤ run S .tally .rounds = omega (arith, least-rounds fit t e) in
     record {
       done = λ k h. let d = run-row fit t e k h in (d .first, omega (arith, d .latest), d .known);
       over = leb→le (size (S .plan) 0) (nextOf (run S) 0) (of-true _ e);
       ends = job-0-ends fit t e ∙ sym q;
       space = run-space fit t e;
       most-rounds = rounds-most fit;
-      least-rounds = omega (arith, least-rounds fit t e);
+      least-rounds = least;
       lone-peak = lone-peak fit t e;
       lone-rounds = lone-rounds fit;
       peak = run-peak fit t e;
@@ -48,6 +51,7 @@ run-bounds {S} fit =
       rounds = q ∙ sym (last-round fit t e);
       actions = run-actions fit;
       turns = run-turns fit;
+      spare = spare-turns (S .workers) _ (quotient (S .plan) (fit .plan)) least (rw (run-actions fit) at (run-turns fit));
       requests = run-requests fit;
       misses-split = run-misses S;
     }

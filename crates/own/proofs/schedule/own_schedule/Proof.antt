@@ -61,7 +61,7 @@ schedule-length-requires c κs =
     let m = c .before .before .before .before in
     let d = measured m .before in
     let (x, q) = left-read _ _ _ _ _ _ _ (ran d .run .ensures .0) (d .enum-told2 .given .1) in
-    measured-few _ _ _ (measured m .measure .ensures) (m .m .given .1) x q
+    measured-few _ _ _ (measured m .measure .ensures .0) (m .m .given .1) x q
 
 -- the bytes that are taken are as long as the schedule
 sized : (c : tie.After-schedule-length)
@@ -69,7 +69,7 @@ sized : (c : tie.After-schedule-length)
 sized c =
     let u = c .before .before in
     let m = u .before .before .before in
-    length-told _ _ _ (measured m .measure .ensures) (m .m .given .1) (bytes (ran (measured m .before))) _ (u .units8 .ensures .0) _
+    length-told _ _ _ (measured m .measure .ensures .0) (m .m .given .1) (bytes (ran (measured m .before))) _ (u .units8 .ensures .0) _
     (c .schedule-length .ensures .0)
 
 sub-check : tie.Need-sub-check
@@ -106,7 +106,8 @@ returns-2 : tie.Need-returns-2
 returns-2 c =
     let k = c .before .before in
     let d = k .before in
-    absurd (left-measured _ _ _ _ _ _ _ (ran d .run .ensures .0) (d .enum-told2 .given .1) _ _ (k .measure .ensures) (c .enum-told3 .given .1))
+    absurd
+    (left-measured _ _ _ _ _ _ _ (ran d .run .ensures .0) (d .enum-told2 .given .1) _ _ (k .measure .ensures .0) (c .enum-told3 .given .1))
 
 same-length-3 : tie.Need-same-length-3
 same-length-3 c = search needs
