@@ -45,6 +45,8 @@
  *     11  schedule length, form (another than the plan's), worker count, action count, zero bits or a round of 0
  *     12  a schedule rule is broken
  *     15  a plan of form 2 that is to be turned into form 1 has a cost other than 1
+ *     17  of two plans that are to be built together: the new root's frame is 0 or above 65,535, or the result would have
+ *         more than 256 jobs or 2,048 actions
  *
  * From Rust, declare the functions in an `extern "C"` block and the structs with `#[repr(C)]`: `const uint8_t *` is
  * `*const u8`, `size_t` is `usize`, and `as_ptr()`, `as_mut_ptr()` and `len()` of a slice meet what is asked above.
@@ -123,6 +125,18 @@ dw_count dw_to_form_2(const uint8_t *plan, size_t plan_len, uint8_t *bytes, size
    count: the bytes written.
    Refusals, in this order: 1, 2 and 3 as the fields are read, where any form but 2 is 2; 6, 4, 5, 15, 9. */
 dw_count dw_to_form_1(const uint8_t *plan, size_t plan_len, uint8_t *bytes, size_t bytes_len);
+
+/* Puts two plans under a new root, to be built together, as a roman and its italic are: writes the bytes of that plan.
+   `first` and `second` are whole plans and nothing more; they may be the same bytes. The new root, job 0, has the frame
+   `frame` and five actions of cost 1: it spawns the first plan's root at position 0 and the second's at 2, and waits for
+   both at 4, to which the last action of each old root now sends a join. Job numbers of the first plan rise by 1, of the
+   second by 1 plus the first's number of jobs; all else stays. Two plans of form 1 give form 1, otherwise the result is
+   of form 2. What is written is accepted, and of its measures work is the sum of both and 5, path is frame plus the
+   greater one, and longest is the greater of the first's + 2 and the second's + 4.
+   count: the bytes written.
+   Refusals, in this order: 1, 2 and 3 as the fields are read, 6, 4, 5 of the first plan; the same of the second; 17, 9. */
+dw_count dw_pair(const uint8_t *first, size_t first_len, const uint8_t *second, size_t second_len, uint32_t frame,
+                 uint8_t *plan, size_t plan_len);
 
 /* Measures a plan. `plan` is the whole plan and nothing more.
    Refusals, in this order: 1, 2 and 3 as the fields are read, 6, 4, 5. */

@@ -7,6 +7,7 @@
 //! It writes CRATE/data anew, CRATE/stdin, and CRATE/stdout.
 mod check_cases;
 mod form_cases;
+mod pair_cases;
 mod plan_cases;
 mod plans;
 mod run_cases;
@@ -61,6 +62,7 @@ fn main() -> std::io::Result<()> {
     let mut cases = Cases::default();
     plan_cases::all(&mut cases);
     form_cases::all(&mut cases);
+    pair_cases::all(&mut cases);
     run_cases::all(&mut cases);
     check_cases::all(&mut cases);
     println!("{} cases of {} files", cases.list.lines().count(), cases.files.len());

@@ -67,6 +67,29 @@ impl Sketch {
         self
     }
 
+    /// This plan and another under a new root with a frame. Its numbers must
+    /// fit, and each plan's root have an action.
+    pub fn paired(&self, other: &Sketch, frame: u16) -> Sketch {
+        let mut jobs = vec![Job {
+            frame,
+            actions: vec![Action::default(); 5],
+        }];
+        for (position, plan) in [(0, self), (2, other)] {
+            let root = jobs.len();
+            jobs[0].actions[position].child = Some(root as u8);
+            jobs.extend(plan.jobs.iter().cloned());
+            for action in jobs[root..].iter_mut().flat_map(|job| &mut job.actions) {
+                action.child = action.child.map(|child| child + root as u8);
+            }
+            let last = jobs[root].actions.last_mut();
+            last.expect("a root has an action").target = Some(4);
+        }
+        Sketch {
+            form: self.form.max(other.form),
+            jobs,
+        }
+    }
+
     /// The plan's bytes, with numbers too large for their field cut.
     pub fn bytes(&self) -> Vec<u8> {
         let mut bits = Bits::default();

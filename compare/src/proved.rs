@@ -51,6 +51,15 @@ extern "C" {
         -> RawCount;
     fn dw_to_form_1(plan: *const u8, plan_len: usize, bytes: *mut u8, bytes_len: usize)
         -> RawCount;
+    fn dw_pair(
+        first: *const u8,
+        first_len: usize,
+        second: *const u8,
+        second_len: usize,
+        frame: u32,
+        plan: *mut u8,
+        plan_len: usize,
+    ) -> RawCount;
     fn dw_measure(plan: *const u8, plan_len: usize) -> RawMeasures;
     fn dw_run(
         plan: *const u8,
@@ -102,6 +111,22 @@ pub fn to_form_2(plan: &[u8], bytes: &mut [u8]) -> Result<usize, u32> {
 pub fn to_form_1(plan: &[u8], bytes: &mut [u8]) -> Result<usize, u32> {
     // SAFETY: each pointer goes with the length of its own slice.
     let raw = unsafe { dw_to_form_1(plan.as_ptr(), plan.len(), bytes.as_mut_ptr(), bytes.len()) };
+    answer(raw.refused, raw.count as usize, 0)
+}
+
+pub fn pair(first: &[u8], second: &[u8], frame: u32, plan: &mut [u8]) -> Result<usize, u32> {
+    // SAFETY: each pointer goes with the length of its own slice.
+    let raw = unsafe {
+        dw_pair(
+            first.as_ptr(),
+            first.len(),
+            second.as_ptr(),
+            second.len(),
+            frame,
+            plan.as_mut_ptr(),
+            plan.len(),
+        )
+    };
     answer(raw.refused, raw.count as usize, 0)
 }
 

@@ -4,9 +4,9 @@ use crate::bits::{Reader, Writer};
 use crate::refusal;
 use std::ops::Range;
 
-const MAX_JOBS: usize = 256;
+pub const MAX_JOBS: usize = 256;
 const MAX_JOB_ACTIONS: usize = 255;
-const MAX_ACTIONS: usize = 2048;
+pub const MAX_ACTIONS: usize = 2048;
 const MAX_JOINS: u8 = 8;
 const MAX_COST: u16 = 15;
 

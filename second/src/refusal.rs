@@ -27,3 +27,6 @@ pub const SCHEDULE: u32 = 11;
 pub const RULE: u32 = 12;
 /// A plan that is to be turned into form 1 has a cost other than 1.
 pub const COST: u32 = 15;
+/// Of two plans that are to be built together, the new root's frame is outside
+/// its range, or the result has too many jobs or actions.
+pub const PAIR: u32 = 17;

@@ -1,8 +1,9 @@
 //! The twelve starred cases, misses by their kind, actions that take longer,
-//! plans turned into the other form, and how many workers are worth renting.
+//! plans turned into the other form, how many workers are worth renting, and two
+//! families in one build.
 
 use second::{build, check, measure, plan_to_table, run, table_to_plan, Counts, Measures, Tally};
-use second::{to_form_1, to_form_2};
+use second::{pair, to_form_1, to_form_2};
 
 const E: [u8; 18] = [
     0x01, 0x01, 0x80, 0x02, 0x02, 0xC0, 0x44, 0x08, 0x00, 0x00, 0x60, 0x42, 0x08, 0x00, 0x04, 0x02,
@@ -686,12 +687,19 @@ type Turn = fn(&[u8], &mut [u8]) -> Result<usize, u32>;
 
 /// What a call writes into a buffer of this length. All that is not its answer
 /// must be kept, so on a refusal the whole buffer.
-fn turned_into(turn: Turn, plan: &[u8], length: usize) -> Result<Vec<u8>, u32> {
+fn written(
+    length: usize,
+    call: impl FnOnce(&mut [u8]) -> Result<usize, u32>,
+) -> Result<Vec<u8>, u32> {
     let mut bytes = vec![0xA5; length];
-    let answer = turn(plan, &mut bytes);
+    let answer = call(&mut bytes);
     let kept = bytes.split_off(answer.unwrap_or(0));
     assert!(kept.iter().all(|&byte| byte == 0xA5));
     answer.map(|_| bytes)
+}
+
+fn turned_into(turn: Turn, plan: &[u8], length: usize) -> Result<Vec<u8>, u32> {
+    written(length, |bytes| turn(plan, bytes))
 }
 
 fn turned(turn: Turn, plan: &[u8]) -> Result<Vec<u8>, u32> {
@@ -759,8 +767,18 @@ fn the_form_not_expected() {
     }
 }
 
-/// In both plans the end of the first child's number begins byte 6, and job 2's
-/// join has its target in the last bytes, where it can name position 3.
+/// E, or E with costs, with more and more rules broken, and with what number each
+/// is refused. In these plans the end of the first child's number begins byte 6,
+/// and job 2's join has its target in the last two bytes, which this tail lets
+/// name position 3.
+fn broken(plan: &[u8], tail: [u8; 2]) -> [(Vec<u8>, u32); 4] {
+    let join = with(plan, plan.len() - 2, tail);
+    let spawn = with(&join, 6, [plan[6] | 0x80]);
+    let fill = with(&spawn, plan.len() - 1, [tail[1] | 1]);
+    let longer = [&spawn[..], &[0]].concat();
+    [(join, 5), (spawn, 4), (fill, 6), (longer, 6)]
+}
+
 #[test]
 fn refusals_of_reading_come_as_ever() {
     for (turn, plan, tail) in [
@@ -774,11 +792,7 @@ fn refusals_of_reading_come_as_ever() {
         assert_eq!(turned(turn, &[plan[0], 0, 0]), Err(3));
         assert_eq!(turned(turn, &[plan[0], 0, 0x80, 0, 0]), Err(3));
 
-        let join = with(plan, plan.len() - 2, tail);
-        let spawn = with(&join, 6, [plan[6] | 0x80]);
-        let fill = with(&spawn, plan.len() - 1, [tail[1] | 1]);
-        let longer = [&spawn[..], &[0]].concat();
-        for (broken, number) in [(fill, 6), (longer, 6), (spawn, 4), (join, 5)] {
+        for (broken, number) in broken(plan, tail) {
             assert_eq!(turned(turn, &broken), Err(number));
             assert_eq!(turned_into(turn, &broken, 0), Err(number));
         }
@@ -1028,4 +1042,554 @@ fn f_idles_as_little_as_it_can() {
         let least = (u32::from(workers) - c.parallel) * c.longest;
         assert_eq!(c.idle + c.rest, least);
     }
+}
+
+/// E and F under a new root of frame 2.
+const E_AND_F: [u8; 36] = [
+    0x01, 0x03, 0x00, 0x01, 0x02, 0xC0, 0x44, 0x10, 0x00, 0x00, 0x80, 0xB0, 0x21, 0x03, 0x08, 0x20,
+    0x00, 0x18, 0x10, 0x82, 0x00, 0x01, 0x00, 0xA0, 0x80, 0x00, 0x20, 0x70, 0x50, 0x82, 0x00, 0x00,
+    0x82, 0x00, 0x81, 0x00,
+];
+
+/// One job of one action, in form 1, and E2 under a new root of frame 3.
+const ONE_AND_E2: [u8; 36] = [
+    0x02, 0x02, 0x80, 0x01, 0x82, 0xC0, 0x42, 0x0C, 0x08, 0x20, 0x82, 0x00, 0x02, 0x02, 0x82, 0x08,
+    0x00, 0x20, 0x2C, 0x0C, 0x40, 0xC1, 0x06, 0x0A, 0x08, 0x40, 0x00, 0x60, 0x42, 0x20, 0x82, 0x00,
+    0x04, 0x02, 0x82, 0x28,
+];
+
+/// One job of one action twice, under a new root of frame 1.
+const ONE_AND_ONE: [u8; 17] = [
+    0x01, 0x01, 0x80, 0x00, 0x82, 0xC0, 0x44, 0x08, 0x00, 0x00, 0x20, 0x28, 0x20, 0x00, 0x08, 0x0A,
+    0x08,
+];
+
+fn paired_into(first: &[u8], second: &[u8], frame: u32, length: usize) -> Result<Vec<u8>, u32> {
+    written(length, |bytes| pair(first, second, frame, bytes))
+}
+
+fn paired(first: &[u8], second: &[u8], frame: u32) -> Result<Vec<u8>, u32> {
+    paired_into(first, second, frame, 6403)
+}
+
+/// T1, T∞ and S1.
+fn measured(plan: &[u8]) -> [u32; 3] {
+    let m = measure(plan).unwrap();
+    [m.work, m.longest, m.path]
+}
+
+fn rows_of(plan: &[u8]) -> Result<Vec<u16>, u32> {
+    let mut rows = vec![0; 5 * 2048];
+    let count = plan_to_table(plan, &mut rows)?;
+    rows.truncate(5 * count);
+    Ok(rows)
+}
+
+#[test]
+fn e_and_f_in_one_build() {
+    let both = paired(&E, &plan_of(&F_ROWS), 2).unwrap();
+    assert_eq!(both, E_AND_F);
+    assert_eq!(measured(&both), [20, 10, 9]);
+    let rows = [
+        [0, 2, 2, 0, 1],
+        [0, 2, 0, 0, 1],
+        [0, 2, 5, 0, 1],
+        [0, 2, 0, 0, 1],
+        [0, 2, 0, 0, 1],
+        [1, 4, 3, 0, 1],
+        [1, 4, 0, 0, 1],
+        [1, 4, 4, 0, 1],
+        [1, 4, 0, 0, 1],
+        [1, 4, 0, 5, 1],
+        [2, 3, 0, 0, 1],
+        [2, 3, 0, 5, 1],
+        [3, 2, 0, 5, 1],
+        [4, 1, 6, 0, 1],
+        [4, 1, 0, 0, 1],
+        [4, 1, 0, 5, 1],
+        [5, 1, 0, 0, 1],
+        [5, 1, 0, 0, 1],
+        [5, 1, 0, 0, 1],
+        [5, 1, 0, 3, 1],
+    ];
+    assert_eq!(rows_of(&both).unwrap(), rows.concat());
+}
+
+#[test]
+fn one_and_e2_in_one_build() {
+    let both = paired(&one_job(), &E2, 3).unwrap();
+    assert_eq!(both, ONE_AND_E2);
+    assert_eq!(measured(&both), [25, 17, 10]);
+}
+
+#[test]
+fn one_twice_in_one_build() {
+    let both = paired(&one_job(), &one_job(), 1).unwrap();
+    assert_eq!(both, ONE_AND_ONE);
+    assert_eq!(measured(&both), [7, 5, 2]);
+}
+
+/// The longest chain goes by way of the second plan, which is spawned two actions
+/// later, unless the first one's T∞ is greater by more than 2.
+#[test]
+fn the_longest_chain_of_either() {
+    let of = |cost| plan_in(2, &[0, 1, 0, 0, cost]);
+    for (first, second, longest) in [
+        (1, 1, 5),
+        (2, 1, 5),
+        (3, 1, 5),
+        (4, 1, 6),
+        (15, 1, 17),
+        (1, 2, 6),
+        (15, 13, 17),
+        (15, 12, 17),
+        (15, 14, 18),
+        (15, 15, 19),
+    ] {
+        let both = paired(&of(first), &of(second), 1).unwrap();
+        let work = u32::from(first + second) + 5;
+        assert_eq!(measured(&both), [work, longest, 2]);
+    }
+}
+
+/// The form of the result hangs on those of the plans alone, not on costs.
+#[test]
+fn forms_of_two_plans() {
+    let wanted = rows_of(&paired(&E, &E, 2).unwrap()).unwrap();
+    for (first, second, form) in [
+        (&E[..], &E[..], 1),
+        (&E, &E_IN_2, 2),
+        (&E_IN_2, &E, 2),
+        (&E_IN_2, &E_IN_2, 2),
+    ] {
+        let both = paired(first, second, 2).unwrap();
+        assert_eq!(both, plan_in(form, &wanted));
+        assert_eq!(measured(&both), [21, 9, 9]);
+    }
+    assert_eq!(paired(&E2, &one_job(), 2).unwrap()[0], 2);
+    assert_eq!(paired(&E2, &E2, 2).unwrap()[0], 2);
+}
+
+#[test]
+fn frames_of_the_new_root() {
+    for frame in [1, 2, 255, 256, 65_534, 65_535] {
+        let both = paired(&E, &E2, frame).unwrap();
+        assert_eq!(measured(&both)[2], frame + 7);
+        assert_eq!(u32::from(rows_of(&both).unwrap()[1]), frame);
+    }
+    // 65,537 and 2^31 + 1 end as 1 does.
+    for frame in [0, 65_536, 65_537, 131_071, 1 << 31 | 1, u32::MAX] {
+        assert_eq!(paired(&E, &E2, frame), Err(17));
+        assert_eq!(paired(&one_job(), &one_job(), frame), Err(17));
+    }
+}
+
+/// Just as many jobs as a plan may have, and one more, wherever they are.
+#[test]
+fn the_limit_of_jobs() {
+    for first in [1, 2, 127, 128, 253, 254] {
+        let [one, other] = [first, 255 - first].map(|jobs| plan_of(&tree_rows(jobs, 2, 1)));
+        let both = paired(&one, &other, 1).unwrap();
+        assert_eq!(rows_of(&both).unwrap().chunks(5).last().unwrap()[0], 255);
+        let more = plan_of(&tree_rows(256 - first, 2, 1));
+        assert_eq!(paired(&one, &more, 1), Err(17));
+    }
+    // The second root's number would not fit its 8 bits.
+    for (first, second) in [(255, 1), (256, 1), (1, 256), (256, 256)] {
+        assert_eq!(paired(&tree(first, 2, 1), &tree(second, 2, 1), 1), Err(17));
+    }
+}
+
+/// A plan of so many actions, in jobs of 255 and a last one of the rest. Each
+/// spawns the next one at 0 and waits for it in its last action.
+fn long_rows(actions: u16) -> Vec<u16> {
+    (0..actions)
+        .flat_map(|place| {
+            let (job, position) = (place / 255, place % 255);
+            let spawns = position == 0 && (job + 1) * 255 < actions;
+            let child = if spawns { job + 2 } else { 0 };
+            let last = position == 254 || place + 1 == actions;
+            let target = if last && job > 0 { 255 } else { 0 };
+            [job, 1, child, target, 1]
+        })
+        .collect()
+}
+
+/// Just as many actions as a plan may have, and one more, wherever they are.
+#[test]
+fn the_limit_of_actions() {
+    for first in [1, 255, 256, 1021, 1022, 2041, 2042] {
+        let [one, other] = [first, 2043 - first].map(|actions| plan_of(&long_rows(actions)));
+        let both = paired(&one, &other, 1).unwrap();
+        assert_eq!(measure(&both).unwrap().total, 2048);
+        let more = plan_of(&long_rows(2044 - first));
+        assert_eq!(paired(&one, &more, 1), Err(17));
+    }
+    for (first, second) in [(2043, 1), (2048, 1), (1, 2048), (2048, 2048)] {
+        let [one, other] = [first, second].map(|actions| plan_in(2, &long_rows(actions)));
+        assert_eq!(paired(&one, &other, 1), Err(17));
+    }
+}
+
+/// 254 jobs of eight actions each and one of eleven: with the new root both
+/// limits are met at once. Passing one of them is enough.
+#[test]
+fn both_limits_at_once() {
+    let mut rows = largest_rows(15);
+    rows.truncate(5 * 8 * 254);
+    // The last job has no next one to spawn.
+    rows[5 * 8 * 253 + 2] = 0;
+    let most = plan_in(2, &rows);
+    let last = |actions| plan_of(&long_rows(actions));
+    for [one, other] in [[most.clone(), last(11)], [last(11), most.clone()]] {
+        let both = paired(&one, &other, 65_535).unwrap();
+        let m = measure(&both).unwrap();
+        assert_eq!((m.total, m.work), (2048, 15 * 2032 + 11 + 5));
+        assert_eq!(m.path, 65_535 + 254);
+        assert_eq!(rows_of(&both).unwrap()[5 * 2047], 255);
+        assert_eq!(tally_in(&both, 1, &[]).0.rounds, m.work);
+    }
+    // 2,049 actions in 256 jobs, and 257 jobs with 2,041 actions.
+    assert_eq!(paired(&most, &last(12), 1), Err(17));
+    let two = plan_of(&tree_rows(2, 1, 1));
+    assert_eq!(paired(&two, &most, 1), Err(17));
+    // 256 jobs with 2,038 actions.
+    assert!(paired(&one_job(), &most, 1).is_ok());
+}
+
+/// Plans that are refused, in both forms and with each number that a plan can be
+/// refused with.
+fn broken_plans() -> Vec<(Vec<u8>, u32)> {
+    let mut plans = vec![(vec![], 1), (vec![0], 2), (with(&E, 0, [3]), 2)];
+    // A cost of 0.
+    plans.push((with(&ONE_OF_3, 5, [0x80]), 3));
+    for (plan, tail) in [(&E[..], [0x81, 0x80]), (&E2, [0x1A, 0x80])] {
+        plans.push((plan[..1].to_vec(), 1));
+        plans.push((plan[..plan.len() - 1].to_vec(), 1));
+        plans.push((with(plan, 1, [0, 0]), 3));
+        plans.extend(broken(plan, tail));
+    }
+    plans
+}
+
+/// All that the first plan is refused with goes before all that the second is,
+/// and that before 17 and 9.
+#[test]
+fn refusals_of_two_plans_in_their_order() {
+    let largest = plan_of(&largest_rows(1));
+    for (plan, number) in broken_plans() {
+        assert_eq!(measure(&plan), Err(number));
+        let refused = |first: &[u8], second: &[u8], wanted| {
+            for frame in [0, 1, 65_535, 65_536, u32::MAX] {
+                for length in [0, 1, 64] {
+                    assert_eq!(paired_into(first, second, frame, length), Err(wanted));
+                }
+            }
+        };
+        for kept in [&E[..], &E2, &largest] {
+            refused(&plan, kept, number);
+            refused(kept, &plan, number);
+        }
+        for (other, _) in broken_plans() {
+            refused(&plan, &other, number);
+        }
+    }
+}
+
+#[test]
+fn a_frame_and_limits_come_before_a_buffer_too_short() {
+    let largest = plan_of(&largest_rows(1));
+    for length in [0, 1, 16, 17, 6403] {
+        for frame in [0, 65_536, u32::MAX] {
+            assert_eq!(paired_into(&E, &E2, frame, length), Err(17));
+        }
+        assert_eq!(paired_into(&largest, &E, 1, length), Err(17));
+        assert_eq!(paired_into(&E, &largest, 1, length), Err(17));
+    }
+}
+
+#[test]
+fn a_buffer_too_short_for_both() {
+    let f = plan_of(&F_ROWS);
+    for (first, second, frame, both) in [
+        (&E[..], &f[..], 2, &E_AND_F[..]),
+        (&one_job(), &E2, 3, &ONE_AND_E2),
+        (&one_job(), &one_job(), 1, &ONE_AND_ONE),
+    ] {
+        for length in 0..both.len() {
+            assert_eq!(paired_into(first, second, frame, length), Err(9));
+        }
+        for length in both.len()..both.len() + 10 {
+            assert_eq!(paired_into(first, second, frame, length).unwrap(), both);
+        }
+    }
+}
+
+/// The same by way of the open table. A frame outside its range stands there as
+/// 0, which is refused with 3. So are too many jobs or actions, but with 10 if a
+/// child's number is above 255.
+fn paired_by_table(first: &[u8], second: &[u8], frame: u32) -> Result<Vec<u8>, u32> {
+    let plans = [rows_of(first)?, rows_of(second)?];
+    let behind = plans[0][plans[0].len() - 5] + 2;
+    let frame = u16::try_from(frame).unwrap_or(0);
+    let mut rows = [2, 0, behind + 1, 0, 0]
+        .map(|child| [0, frame, child, 0, 1])
+        .concat();
+    for (number, plan) in [1, behind].into_iter().zip(&plans) {
+        let ends = plan.chunks(5).take_while(|row| row[0] == 0).count();
+        for (place, row) in plan.chunks(5).enumerate() {
+            let child = if row[2] > 0 { row[2] + number } else { 0 };
+            let target = if place + 1 == ends { 5 } else { row[3] };
+            rows.extend([row[0] + number, row[1], child, target, row[4]]);
+        }
+    }
+    let form = first[0].max(second[0]);
+    let mut bytes = vec![0; 6403];
+    match table_to_plan(u32::from(form), &rows, &mut bytes) {
+        Ok(length) => Ok(bytes[..length].to_vec()),
+        Err(3 | 10) => Err(17),
+        Err(number) => panic!("the result is refused with {number}"),
+    }
+}
+
+#[test]
+fn one_of_two_plans_differs_in_a_byte() {
+    for plan in [&E[..], &E2, &ONE_OF_3, &ONE_AND_ONE] {
+        for at in 0..plan.len() {
+            for byte in 0..=255 {
+                let plan = with(plan, at, [byte]);
+                for kept in [&E[..], &E2] {
+                    for [first, second] in [[&plan[..], kept], [kept, &plan]] {
+                        let both = paired_into(first, second, 7, 128);
+                        assert_eq!(both, paired_by_table(first, second, 7));
+                    }
+                }
+            }
+        }
+    }
+}
+
+/// Numbers that fall as dice do, but the same at every test.
+struct Dice(u64);
+
+impl Dice {
+    /// A number from 1 up to this one.
+    fn roll(&mut self, most: u16) -> u16 {
+        self.0 = self.0.wrapping_mul(0x5851_F42D_4C95_7F2D).wrapping_add(1);
+        (self.0 >> 33) as u16 % most + 1
+    }
+}
+
+/// A plan of so many jobs, each spawned by any one of smaller number. A job spawns
+/// up to three children one right after the other, then waits for these, then
+/// goes on with the next. Some children send two joins, some of them from an
+/// action that spawns.
+fn random_plan(dice: &mut Dice, form: u32, jobs: u16) -> Vec<u8> {
+    let parents: Vec<u16> = (1..jobs).map(|job| dice.roll(job) - 1).collect();
+    // The join that each job sends, plus 1.
+    let mut targets = vec![0; usize::from(jobs)];
+    let mut rows = vec![];
+    for job in 0..jobs {
+        let mut children: Vec<u16> = (1..jobs)
+            .filter(|&child| parents[usize::from(child) - 1] == job)
+            .collect();
+        let mut spawns = vec![0; usize::from(dice.roll(3))];
+        while !children.is_empty() {
+            let few = children.len().min(usize::from(dice.roll(3)));
+            let wait = spawns.len() + few + 1;
+            for child in children.drain(..few) {
+                targets[usize::from(child)] = wait as u16 + 1;
+                spawns.push(child + 1);
+            }
+            spawns.extend([0, 0]);
+        }
+        let frame = dice.roll(65_535);
+        let twice = dice.roll(2) == 2;
+        let last = spawns.len() - 1;
+        for (position, spawn) in spawns.into_iter().enumerate() {
+            let sends = position == last || twice && position == last / 2;
+            let target = if sends { targets[usize::from(job)] } else { 0 };
+            let cost = if form == 1 { 1 } else { dice.roll(15) };
+            rows.extend([job, frame, spawn, target, cost]);
+        }
+    }
+    plan_in(form, &rows)
+}
+
+fn random_plans() -> Vec<Vec<u8>> {
+    let mut dice = Dice(9);
+    [1, 2, 3, 5, 8, 13, 21, 34, 55, 89, 120, 144]
+        .into_iter()
+        .flat_map(|jobs| [1, 2].map(|form| random_plan(&mut dice, form, jobs)))
+        .collect()
+}
+
+/// Puts two plans together and holds the result against what request L9 promises
+/// of it.
+fn together(first: &[u8], second: &[u8], frame: u32) -> Vec<u8> {
+    let both = paired(first, second, frame).unwrap();
+    let [one, other, all] = [first, second, &both].map(|plan| measure(plan).unwrap());
+    assert_eq!(all.total, one.total + other.total + 5);
+    assert_eq!(all.work, one.work + other.work + 5);
+    assert_eq!(all.longest, (one.longest + 2).max(other.longest + 4));
+    assert_eq!(all.path, frame + one.path.max(other.path));
+    both
+}
+
+/// Every two plans of many shapes, both ways round and each with itself.
+#[test]
+fn measures_of_two_plans_in_one_build() {
+    let plans = [plans(), random_plans()].concat();
+    let (mut written, mut refused) = (0, 0);
+    for first in &plans {
+        for second in &plans {
+            for frame in [0, 1, 4711, 65_535, 65_536] {
+                let wanted = paired_by_table(first, second, frame);
+                assert_eq!(paired(first, second, frame), wanted);
+                match wanted {
+                    Ok(_) => {
+                        together(first, second, frame);
+                        written += 1;
+                    }
+                    Err(_) => refused += 1,
+                }
+            }
+        }
+    }
+    assert!(written > 1000 && refused > 1000);
+}
+
+#[test]
+fn pairs_of_pairs() {
+    for plans in random_plans().windows(4) {
+        let [one, two, three, four] = plans else {
+            panic!("four plans");
+        };
+        let jobs = |plan: &[u8]| rows_of(plan).unwrap().chunks(5).last().unwrap()[0] + 1;
+        let sum: u16 = plans.iter().map(|plan| jobs(plan)).sum();
+        if sum + 3 > 256 {
+            continue;
+        }
+        let (left, right) = (together(one, two, 5), together(three, four, 6));
+        let all = together(&left, &right, 7);
+        assert_eq!(jobs(&all), sum + 3);
+        assert_eq!(paired_by_table(&left, &right, 7), Ok(all));
+    }
+    let form_1 = together(&ONE_AND_ONE, &E_AND_F, 1);
+    assert_eq!((form_1[0], measured(&form_1)), (1, [32, 14, 10]));
+    let form_2 = together(&E_AND_F, &ONE_AND_E2, 1);
+    assert_eq!((form_2[0], measured(&form_2)), (2, [50, 21, 11]));
+}
+
+/// Each pair has two more jobs and six more actions. The old roots stand one
+/// below the other, on the left or on the right, until the jobs are too many.
+#[test]
+fn pairs_as_deep_as_they_go() {
+    let one = one_job();
+    let (mut left, mut right) = (one.clone(), one.clone());
+    for depth in 1..=127 {
+        left = together(&left, &one, 2);
+        right = together(&one, &right, 2);
+        assert_eq!(
+            measured(&left),
+            [6 * depth + 1, 2 * depth + 3, 2 * depth + 1]
+        );
+        assert_eq!(
+            measured(&right),
+            [6 * depth + 1, 4 * depth + 1, 2 * depth + 1]
+        );
+    }
+    for plan in [left, right] {
+        assert_eq!(rows_of(&plan).unwrap().chunks(5).last().unwrap()[0], 254);
+        let (t, _) = tally_in(&plan, 1, &[]);
+        assert_eq!((t.rounds, t.peak), (763, 255));
+        assert_eq!(paired(&plan, &one, 2), Err(17));
+        assert_eq!(paired(&one, &plan, 2), Err(17));
+    }
+}
+
+/// Runs a plan of any size, has its schedule checked and gives both.
+fn tally_in(plan: &[u8], workers: u32, choices: &[u8]) -> (Tally, Vec<u8>) {
+    let total = measure(plan).unwrap().total as usize;
+    let width = if plan[0] == 1 { 16 } else { 20 };
+    let mut schedule = vec![0; 4 + (width * total).div_ceil(8)];
+    let tally = run(plan, workers, choices, &mut schedule).unwrap();
+    assert_eq!(check(plan, &schedule), Ok(()));
+    (tally, schedule)
+}
+
+/// Alone, a worker builds the first plan just as it would without the other, from
+/// round 2 on, and then the second.
+#[test]
+fn one_worker_builds_one_after_the_other() {
+    let plans = plain_tables().map(|rows| plan_of(&rows));
+    let alone = |plan: &[u8], before: u16| {
+        let rows = short_rows(&tally_in(plan, 1, &[]).1).into_iter();
+        rows.map(move |(round, worker)| (before + round, worker))
+    };
+    // All but the largest.
+    for first in &plans[..5] {
+        for second in &plans[..5] {
+            let both = together(first, second, 3);
+            let (t, schedule) = tally_in(&both, 1, &[]);
+            let [one, other] = [first, second].map(|plan| measured(plan)[0] as u16);
+            assert_eq!(t.rounds, u32::from(one + other) + 5);
+            let root = [1, one + 2, one + 3, one + other + 4, one + other + 5];
+            let mut rows: Vec<_> = root.iter().map(|&round| (round, 0)).collect();
+            rows.extend(alone(first, 1));
+            rows.extend(alone(second, one + 3));
+            assert_eq!(short_rows(&schedule), rows);
+        }
+    }
+}
+
+/// Round 1: worker 0 spawns job 1, and worker 1 steals the new root. Round 2: job 1
+/// ends, and worker 1 does 0.1. Round 3: worker 1 spawns job 2, and worker 0
+/// steals the new root from it. Round 4: 0.3 stalls the new root; then 2.0
+/// enables it and ends job 2, so worker 1 takes it. Round 5: 0.4.
+#[test]
+fn one_twice_by_two() {
+    let (t, schedule) = tally_in(&ONE_AND_ONE, 2, &[0, 1]);
+    assert_eq!(counts_of(t), [5, 7, 3, 2, 2, 0, 0, 2]);
+    let rows = [(1, 0), (2, 1), (3, 1), (4, 0), (5, 1), (2, 0), (4, 1)];
+    assert_eq!(short_rows(&schedule), rows);
+}
+
+/// Whoever runs it and whatever the choices, a result keeps the bounds of any
+/// accepted plan.
+#[test]
+fn two_plans_run_in_one_build() {
+    let mut plans = random_plans();
+    plans.truncate(14);
+    plans.extend([E.to_vec(), E2.to_vec(), tree(9, 8, 3), ONE_AND_E2.to_vec()]);
+    for first in &plans {
+        for second in &plans {
+            let both = together(first, second, 4711);
+            let [work, longest, path] = measured(&both);
+            for workers in [1, 2, 3, 16] {
+                for choices in &CHOICES[1..] {
+                    let choices: Vec<u8> = choices.iter().map(|choice| choice % workers).collect();
+                    let workers = u32::from(workers);
+                    let (t, _) = tally_in(&both, workers, &choices);
+                    assert_eq!(t.actions, work);
+                    assert!((longest..=work).contains(&t.rounds));
+                    assert!(t.peak <= workers * path);
+                    if workers == 1 {
+                        assert_eq!((t.rounds, t.peak), (work, path));
+                    }
+                }
+            }
+        }
+    }
+}
+
+#[test]
+fn e_and_f_printed() {
+    prints(
+        1,
+        &[],
+        &E_AND_F,
+        "rounds 20\nactions 20\nlongest 10\npath 9\nparallel 2\nrest 0\npeak 9\nidle 0\n\
+         requests 0\nsteals 0\nbare 0\nidle-victim 0\n",
+    );
 }

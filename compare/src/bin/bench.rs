@@ -149,6 +149,24 @@ fn forms(plans: &[Vec<u8>]) -> Vec<Vec<u8>> {
     turned
 }
 
+/// Puts two plans, each with half of what the limits leave, under a new root.
+fn pairs(random: &mut Random, costs: [Option<Costs>; 2], which: &str) {
+    let half = |costs| Wish {
+        jobs: (MAX_JOBS - 1) / 2,
+        actions: (MAX_ACTIONS - 5) / 2,
+        costs,
+        ..LARGEST
+    };
+    let [one, two] = costs.map(|costs| plans_of(random, half(costs)));
+    let mut bytes = (vec![0; 8 * MAX_ACTIONS], vec![0; 8 * MAX_ACTIONS]);
+    let times = medians(
+        |k| proved::pair(&one[k], &two[k], 1, &mut bytes.0),
+        |k| second::pair(&one[k], &two[k], 1, &mut bytes.1),
+    );
+    assert!(bytes.0 == bytes.1, "the plans differ");
+    line(&format!("pair of two halves{which}"), times);
+}
+
 /// Runs with mixed choices, and checks of the schedules that they write.
 fn runs(random: &mut Random, plans: &[Vec<u8>], counts: &[u32], which: &str) {
     for &workers in counts {
@@ -201,6 +219,12 @@ fn main() {
     line("run of a chain of jobs, P 16, all choose worker 0", times);
     let times = run(&chains, 16, &any_list(&mut random, 16));
     line("run of a chain of jobs, P 16, mixed choices", times);
+
+    let mut own = Random(0x5EED_000F);
+    pairs(&mut own, [None, None], "");
+    let any = Some(Costs::Any);
+    pairs(&mut own, [None, any], ", the second in form 2, mixed costs");
+    pairs(&mut own, [any, any], ", form 2, mixed costs");
 
     // The same plans in the other form, with other choices.
     let plans = forms(&plans);

@@ -290,6 +290,26 @@ impl Both {
         )
     }
 
+    /// Puts two plans under a new root in `room` bytes and gives the bytes back.
+    pub fn pair(&mut self, plans: [&[u8]; 2], frame: u32, room: usize) -> Result<Vec<u8>, u32> {
+        let [one, two] = plans;
+        self.written(
+            "pair",
+            &pattern(room),
+            1,
+            |bytes| proved::pair(one, two, frame, bytes),
+            |bytes| second::pair(one, two, frame, bytes),
+            &|| {
+                vec![
+                    ("first", hex(one, 2)),
+                    ("second", hex(two, 2)),
+                    ("frame", frame.to_string()),
+                    ("room", room.to_string()),
+                ]
+            },
+        )
+    }
+
     /// Everything there is to say of plan bytes that may be turned down.
     pub fn all_of_plan(&mut self, plan: &[u8], schedule: &[u8]) {
         let answers = [

@@ -6,6 +6,7 @@ mod damaged;
 mod extreme;
 mod forms;
 mod generated;
+mod pairs;
 mod small;
 
 use both::Both;
@@ -13,13 +14,17 @@ use both::Both;
 type Part = fn(&mut Both);
 
 fn main() {
-    let parts: [(&str, Part); 11] = [
+    let parts: [(&str, Part); 15] = [
         ("small plans, all lists", small::plans),
         ("small plans with costs, all lists", small::costed_plans),
         ("small plans, any numbers", small::any_numbers),
         ("generated runs", generated::runs),
         ("runs in both forms", forms::runs),
         ("runs turned down", generated::turned_down),
+        ("small plans in pairs", pairs::small),
+        ("generated pairs and their runs", pairs::generated),
+        ("pairs at the limits", pairs::limits),
+        ("pairs turned down", pairs::turned_down),
         ("extremes", extreme::all),
         ("damaged plans", damaged::plans),
         ("damaged tables", damaged::tables),

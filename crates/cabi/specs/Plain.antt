@@ -2,6 +2,7 @@
 --   countOf, measuresOf, tallyOf      == the numbers of an outcome
 --   checkOf                           == the number of a judgement
 --   Converted from to plan r bytes    == what was written holds the plan that was given, in the other form
+--   Paired frame first second r bytes == what was written is accepted, and has the T1, S1 and T∞ that document 02, L9, says
 --   Divided r                         == T1 divided by T∞ is `parallel`, and `rest` remains
 --   Claimed plan n choices r schedule == demand 3's claim and the sums, of what was returned and written
 use Prim.Native.Nat.{ℕ}
@@ -13,6 +14,7 @@ use Rattle.plan.specs.Plan.{Plan}
 use Rattle.plan.specs.Reader.{Read, readPlan}
 use Rattle.plan_measure.specs.declared.Measures.{Measures}
 use Rattle.plan_measure.specs.Measure.{Quotient}
+use Rattle.plan_pair.specs.Pair.{Result}
 use Rattle.runs.specs.declared.tally.Tally.{Tally}
 use Rattle.runs.specs.Setting.{setting}
 use Rattle.runs.specs.Claim.{Bounded}
@@ -63,6 +65,9 @@ Converted from to plan r bytes =
     r .refused ≡ 0
     → (p : Plan) × (readPlan plan ≡ accepted (record { form = from; plan = p }))
     × (readPlan (take (r .count) bytes) ≡ accepted (record { form = to; plan = p }))
+
+abbrev pub Paired : ℕ → List ℕ → List ℕ → DwCount → List ℕ → Type 0
+Paired frame first second r bytes = r .refused ≡ 0 → Result frame first second (take (r .count) bytes)
 
 abbrev pub Divided : DwMeasures → Type 0
 Divided r = r .refused ≡ 0 → Quotient (r .work) (r .longest) (r .parallel) (r .rest)

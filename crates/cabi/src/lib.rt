@@ -8,7 +8,8 @@ ghost use Rattle.plan_table.specs.Table.{toTable, toPlan};
 ghost use Rattle.courses.specs.Schedule.{checked};
 ghost use Rattle.scheduler.specs.Entry.{runInto};
 ghost use Rattle.plan_forms.specs.Forms.{toForm2, toForm1};
-ghost use Rattle.cabi.specs.Plain.{countOf, measuresOf, tallyOf, checkOf, Converted, Divided, Claimed};
+ghost use Rattle.plan_pair.specs.Pair.{pairInto};
+ghost use Rattle.cabi.specs.Plain.{countOf, measuresOf, tallyOf, checkOf, Converted, Paired, Divided, Claimed};
 ghost use Rattle.cabi.specs.Few.{Few};
 use checker::Judged;
 use checker::check;
@@ -19,6 +20,7 @@ use plan_forms::to_form_1;
 use plan_forms::to_form_2;
 use plan_measure::Measured;
 use plan_measure::measure;
+use plan_pair::pair;
 use plan_table::plan_to_table;
 use plan_table::table_to_plan;
 use plan_writer::Answer;
@@ -110,6 +112,15 @@ pub extern "C" fn dw_to_form_1(plan: &[u8], bytes: &mut [u8]) -> DwCount
     ensures { λ r. ⌜ Converted 2 1 (now (plan .entry)) r (now (bytes .exit)) ⌝ }
 {
     counted(to_form_1(plan, bytes))
+}
+
+#[no_mangle]
+pub extern "C" fn dw_pair(first: &[u8], second: &[u8], frame: u32, plan: &mut [u8]) -> DwCount
+    ensures { λ r. ⌜ (r ≡ countOf (pairInto frame (now (first .entry)) (now (second .entry)) (now (plan .entry)) .answer))
+        × (now (plan .exit) ≡ pairInto frame (now (first .entry)) (now (second .entry)) (now (plan .entry)) .buffer) ⌝ }
+    ensures { λ r. ⌜ Paired frame (now (first .entry)) (now (second .entry)) r (now (plan .exit)) ⌝ }
+{
+    counted(pair(first, second, frame, plan))
 }
 
 #[no_mangle]

@@ -25,7 +25,7 @@ pub fn case(form: u32, plan: &[u8], rest: &[u8]) {
 }
 
 // The room may stand in `rest`, behind a space.
-fn room(rest: &[u8]) -> usize {
+pub fn room(rest: &[u8]) -> usize {
     if rest.len() == 0 {
         return 8192;
     }

@@ -1,9 +1,11 @@
 // Runs the cases that standard input lists, a line for each, and prints a line of what comes of each: document 01's cases, each
 // refusal by itself and in its order, inputs on each side of each limit, and runs that tell the tempting errors apart. A line of
-// the list is a kind, the name of a file of data/, for a table the form that it is to be closed in, for a room two numbers, and
-// for `into1` and `into2` the room, where not the whole buffer is lent. Files, list and answers are written by tools/cases.rs.
+// the list is a kind, the name of a file of data/, for a table the form that it is to be closed in, for a room two numbers, for a
+// pair the frame, and for `into1`, `into2` and a pair the room, where not the whole buffer is lent. Files, list and answers are
+// written by tools/cases.rs.
 mod builds;
 mod forms;
+mod pairs;
 mod plans;
 mod rooms;
 mod rows;
@@ -83,6 +85,8 @@ fn of_kind(kind: &[u8], input: &[u8], rest: &[u8]) {
         forms::case(1, input, rest);
     } else if same(kind, b"into2") {
         forms::case(2, input, rest);
+    } else if same(kind, b"pair") {
+        pairs::case(input, rest);
     } else if same(kind, b"run") {
         builds::case(input);
     } else if same(kind, b"check") {

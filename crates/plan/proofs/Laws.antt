@@ -6,6 +6,7 @@ pub mod Enters
 pub mod Laid
 pub mod Spawning
 pub mod Valid
+pub mod Ruling
 pub mod Listing
 pub mod Noting
 pub mod Recording

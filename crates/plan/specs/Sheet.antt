@@ -16,6 +16,7 @@
 --   Planned plan p    == it holds the plan p: it has all that, and the plan keeps all rules
 --   LaidIn jobs actions plan p    == the plan p has so many jobs and actions; the array has them, and no spawn is noted
 --   SpawnedIn jobs actions plan p == so many, and the array has the parents too, and the plan keeps the spawn rules
+--   RuledIn jobs actions plan p   == so many, the array has them, and the plan keeps all rules; parents need not be noted
 --   PlanIn jobs actions plan p    == so many, and the array holds the plan
 use Prim.Native.Nat.{ℕ, suc, _+_, _≤_, _<_}
 use mathlib.Core.Path.{_≡_}
@@ -98,6 +99,12 @@ pub record SpawnedIn (jobs actions : ℕ) (plan : List ℕ) (p : Plan) : Type 0 
   pub count : jobs ≡ length p
   pub all : actions ≡ total p
   pub parented : Parented plan p
+
+pub record RuledIn (jobs actions : ℕ) (plan : List ℕ) (p : Plan) : Type 0 where
+  pub count : jobs ≡ length p
+  pub all : actions ≡ total p
+  pub rules : Accepted p
+  pub laid : Laid plan p
 
 pub record PlanIn (jobs actions : ℕ) (plan : List ℕ) (p : Plan) : Type 0 where
   pub count : jobs ≡ length p

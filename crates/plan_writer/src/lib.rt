@@ -6,7 +6,7 @@ ghost use lib.ListN.{length, drop};
 ghost use Rattle.fields.specs.Field.{bitsOf, number};
 ghost use Rattle.fields.specs.Sink.{Sound, Room, Put};
 ghost use Rattle.plan.specs.Contract.{Some, _⇒_, before, after};
-ghost use Rattle.plan.specs.Sheet.{PlanIn};
+ghost use Rattle.plan.specs.Sheet.{RuledIn};
 ghost use Rattle.plan_writer.specs.Writer.{numberBits, planBits, planBytes};
 ghost use Rattle.plan_writer.specs.ActionBits.{Writable, fieldsOf, actionBits};
 ghost use Rattle.plan_writer.specs.Given.{WritesInto};
@@ -75,8 +75,8 @@ fn action_field(form: u32, child: usize, target: usize, cost: usize) -> u64
 
 // How many bits the plan's fields take in a form.
 fn plan_bits(form: u32, jobs: usize, actions: usize, plan: &Sheet) -> usize
-    requires { ⌜ Some (PlanIn jobs actions (now plan)) ⌝ }
-    ensures { λ r. ⌜ (r < 65536) × (PlanIn jobs actions (before plan) ⇒ (λ p. r ≡ length (planBits form p))) ⌝ }
+    requires { ⌜ Some (RuledIn jobs actions (now plan)) ⌝ }
+    ensures { λ r. ⌜ (r < 65536) × (RuledIn jobs actions (before plan) ⇒ (λ p. r ≡ length (planBits form p))) ⌝ }
 {
     let mut bits = 17 + 24 * jobs;
     let mut k = 0;
@@ -142,7 +142,7 @@ fn put_action(out: &mut [u8], sink: Sink, form: u32, k: usize, plan: &Sheet) -> 
 // Writes the plan's bytes in a form, and tells how many they are.
 fn write_plan(out: &mut [u8], form: u32, jobs: usize, actions: usize, plan: &Sheet) -> usize
     requires { ⌜ Some (WritesInto (length (now out)) form jobs actions (now plan)) ⌝ }
-    ensures { λ r. ⌜ PlanIn jobs actions (before plan)
+    ensures { λ r. ⌜ RuledIn jobs actions (before plan)
         ⇒ (λ p. (r ≡ length (planBytes form p)) × (after out ≡ planBytes form p ++ drop (length (planBytes form p)) (before out))) ⌝ }
 {
     let mut sink = put(
@@ -164,10 +164,11 @@ fn write_plan(out: &mut [u8], form: u32, jobs: usize, actions: usize, plan: &She
     finish(out, sink)
 }
 
-// Writes the bytes, in a form, of the plan that the array holds, where there is room, and tells their number.
+// Writes the bytes, in a form, of the plan that the array has, where there is room, and tells their number. It looks at no parent, so
+// none need be noted.
 pub fn encode(form: u32, jobs: usize, actions: usize, plan: &Sheet, bytes: &mut [u8]) -> Answer
-    requires { ⌜ Some (PlanIn jobs actions (now plan)) × (form < 256) ⌝ }
-    ensures { λ r. ⌜ PlanIn jobs actions (before plan)
+    requires { ⌜ Some (RuledIn jobs actions (now plan)) × (form < 256) ⌝ }
+    ensures { λ r. ⌜ RuledIn jobs actions (before plan)
         ⇒ (λ p. record { answer = answerOf r; buffer = after bytes } ≡ encoded form (accepted p) (before bytes)) ⌝ }
 {
     if bytes.len() < (plan_bits(form, jobs, actions, plan) + 7) / 8 {

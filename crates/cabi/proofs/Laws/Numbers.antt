@@ -4,10 +4,13 @@ use Prim.Native.Nat.{ℕ, _≤_}
 use native.Mathlib.Omega.{arith}
 use mathlib.Core.Path.{_≡_, refl, sym, ap, _∙_}
 use mathlib.Core.List.{List}
+use lib.ListN.{take}
 use Rattle.plan.specs.declared.refusal.Refusal.{Refusal}
 use Rattle.plan.specs.declared.refusal.Refusal.the-variants.{RanOut, Form, Range, Spawn, Join, Fill, Workers, Choices, Short, Table, Schedule, Rule}
 use Rattle.plan.specs.declared.refusal.Refusal.the-variants.{Name, Round, Cost, Changes, Pair, Deadline, Windows, Clock}
 use Rattle.plan.specs.Refusal.{Outcome, refused, accepted, numberOf}
+use Rattle.plan.specs.Plan.{Plan}
+use Rattle.plan.specs.Reader.{readPlan}
 use Rattle.plan_measure.specs.declared.Measures.{Measures}
 use Rattle.plan_measure.specs.declared.Measured.{Measured}
 use Rattle.plan_measure.specs.declared.Measured.the-variants.{Refused as NotMeasured, Of}
@@ -16,6 +19,7 @@ use Rattle.plan_writer.specs.declared.Answer.{Answer}
 use Rattle.plan_writer.specs.declared.Answer.the-variants.{Refused as NotWritten, Count}
 use Rattle.plan_writer.specs.Written.{Written, answerOf}
 use Rattle.plan_forms.specs.Forms.{Converted as FormConverted}
+use Rattle.plan_pair.specs.Pair.{Result, Paired as PlansPaired}
 use Rattle.runs.specs.declared.tally.Tally.{Tally}
 use Rattle.scheduler.specs.declared.run.Ran.{Ran}
 use Rattle.scheduler.specs.declared.run.Ran.the-variants.{Refused as NotRun, Done}
@@ -25,7 +29,7 @@ use Rattle.checker.specs.declared.Judged.the-variants.{Refused as NotKept, Acce
 use Rattle.checker.specs.Answer.{judgedOf}
 use Rattle.cabi.specs.declared.DwCount.{DwCount}
 use Rattle.cabi.specs.Few.{Few}
-use Rattle.cabi.specs.Plain.{countOf, measuresOf, tallyOf, checkOf, Converted, Divided, Claimed}
+use Rattle.cabi.specs.Plain.{countOf, measuresOf, tallyOf, checkOf, Converted, Paired, Divided, Claimed}
 
 pub number-some : (cause : Refusal) → numberOf cause ≡ 0 → ⊥
 number-some RanOut e = omega arith
@@ -65,11 +69,21 @@ module _ (w : Written) (a : Answer) (l : List ℕ) (ensures : record { answer = 
   pub counts-fit : ((n : ℕ) → w .answer ≡ accepted n → n ≤ 6403) → Few a
   counts-fit few n e = omega (arith, few n (sym (ap (λ (w : Written). w .answer) ensures) ∙ ap answerOf e))
 
--- of plans turned into the other form
+-- what an entry promises of what it wrote, by the number that it answered
+count-claim : (P : ℕ → Type 0) (a : Answer) → ((n : ℕ) → a ≡ Count n → P n) → (r : DwCount) → r ≡ countOf (answerOf a) → r .refused ≡ 0 → P (r .count)
+count-claim P (NotWritten cause) claim r e z = absurd (number-some cause (sym (ap (λ (r : DwCount). r .refused) e) ∙ z))
+count-claim P (Count n) claim r e z = rw (ap (λ (r : DwCount). r .count) e) (claim n refl)
+
 pub converted-count : (from to : ℕ) (s : List ℕ) (a : Answer) (l : List ℕ) → FormConverted from to s a l → (r : DwCount) → r ≡ countOf (answerOf a)
     → Converted from to s r l
-converted-count from to s (NotWritten cause) l claim r e z = absurd (number-some cause (sym (ap (λ (r : DwCount). r .refused) e) ∙ z))
-converted-count from to s (Count n) l claim r e z = rw (ap (λ (r : DwCount). r .count) e) (claim n refl)
+converted-count from to s a l claim r e =
+    count-claim
+    (λ n. (p : Plan) × (readPlan s ≡ accepted (record { form = from; plan = p })) × (readPlan (take n l) ≡ accepted (record { form = to; plan = p })))
+    a claim r e
+
+pub paired-count : (frame : ℕ) (s t : List ℕ) (a : Answer) (l : List ℕ) → PlansPaired frame s t a l → (r : DwCount) → r ≡ countOf (answerOf a)
+    → Paired frame s t r l
+paired-count frame s t a l claim r e = count-claim (λ n. Result frame s t (take n l)) a claim r e
 
 module _ (o : Outcome Measures) (r : Measured) (ensures : told r ≡ o) (divided : MeasuresDivided r) where
   pub measures-refused : (cause : Refusal) (k : ℕ) → r ≡ NotMeasured cause → k ≡ numberOf cause

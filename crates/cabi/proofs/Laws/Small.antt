@@ -2,16 +2,18 @@
 --   planBytes-few == the longest that the format allows: 256 jobs and 2,048 actions, each with a child, a target and a cost
 use Prim.Native.Nat.{ℕ, _+_, _*_, _≤_}
 use native.Mathlib.Omega.{arith}
-use mathlib.Core.Path.{_≡_}
+use mathlib.Core.Path.{_≡_, refl}
 use mathlib.Core.List.{List, [], _∷_, _++_}
 use lib.ListN.{length, length-append}
 use lib.Dec.{T}
-use Rattle.plan.specs.Refusal.{Outcome, accepted}
+use Rattle.plan.specs.Refusal.{Outcome, refused, accepted}
 use Rattle.plan.specs.Plan.{Action, Plan, total}
+use Rattle.plan.specs.Reader.{Read, readPlan}
 use Rattle.plan.specs.Rules.{inRange}
 use Rattle.fields.specs.Field.{bitsOf}
 use Rattle.plan_writer.specs.Writer.{numberBits, costBits, actionsBits, jobsBits, planBits, planBytes}
 use Rattle.plan.proofs.Laws.Accepted.{accepted-kept}
+use Rattle.plan.proofs.Laws.Outcomes.{refused-accepted, accepted-same}
 use Rattle.fields.proofs.Laws.Bits.{bitsOf-length}
 use Rattle.plan_writer.proofs.Laws.PlanBytes.{planBytes-length}
 use Rattle.plan.proofs.Laws.Spawning.{jobs-in-range, total-in-range}
@@ -24,6 +26,8 @@ use Rattle.plan_writer.proofs.Laws.Answers.{encoded-told}
 use Rattle.plan_forms.specs.Forms.{readAs, plain, toForm2, toForm1}
 use Rattle.plan_forms.proofs.Laws.Reading.{as-known}
 use Rattle.plan_forms.proofs.Laws.RoundTrip.{plain-told}
+use Rattle.plan_pair.specs.Pair.{pairOf, writtenOut, pairInto}
+use Rattle.plan_pair.proofs.Laws.Answers.{pair-range}
 
 module _ (form : ℕ) where
   actions-few : (l : List Action) → length (actionsBits form l) ≤ 22 * length l
@@ -89,3 +93,12 @@ toForm2-few s bytes n e = encoded-few 2 (readAs 1 s) bytes n (as-range 1 s) e
 pub toForm1-few : (s bytes : List ℕ) (n : ℕ) → toForm1 s bytes .answer ≡ accepted n → n ≤ 6403
 unfolding toForm1
 toForm1-few s bytes n e = encoded-few 1 (plain (readAs 2 s)) bytes n (λ p q. as-range 2 s p (plain-told (readAs 2 s) p q .0)) e
+
+pub pairInto-few : (frame : ℕ) (s t bytes : List ℕ) (n : ℕ) → pairInto frame s t bytes .answer ≡ accepted n → n ≤ 6403
+unfolding pairInto writtenOut
+pairInto-few frame s t bytes n e = go (pairOf frame (readPlan s) (readPlan t)) refl e
+  where
+    go : (o : Outcome Read) → pairOf frame (readPlan s) (readPlan t) ≡ o → writtenOut o bytes .answer ≡ accepted n → n ≤ 6403
+    go (refused k) f e = refused-accepted e
+    go (accepted x) f e =
+        encoded-few (x .form) (accepted (x .plan)) bytes n (λ p q. rw (← accepted-same (x .plan) p q) (pair-range frame s t x f)) e

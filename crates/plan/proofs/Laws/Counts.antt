@@ -93,6 +93,44 @@ module _ {A : Type 0} (f : A → Bool) where
       go (yes u) r = absurd (count-none l (omega (arith, count-hit x l u)) d i (le-of-suc-le-suc h) s)
       go (no n) r = ap suc (r (sym (count-miss x l n) ∙ e))
 
+  -- where no place passes, none is counted; where at most one does, at most one is
+  pub count-zero : (l : List A) (d : A) → ((i : ℕ) → i < length l → T (f (getD l i d)) → ⊥) → count f l ≡ 0
+  count-zero [] d h = refl
+  count-zero (x ∷ l) d h = count-miss x l (h 0 (omega arith)) ∙ count-zero l d (λ i b. h (suc i) (omega arith))
+
+  pub count-once : (l : List A) (d : A)
+      → ((i k : ℕ) → i < length l → k < length l → T (f (getD l i d)) → T (f (getD l k d)) → i ≡ k) → count f l ≤ 1
+  count-once [] d h = omega arith
+  count-once (x ∷ l) d h = go (decT (f x)) (count-once l d (λ i k a b s t. omega (arith, h (suc i) (suc k) (omega arith) (omega arith) s t)))
+    where
+      go : Dec (T (f x)) → count f l ≤ 1 → count f (x ∷ l) ≤ 1
+      go (yes t) r =
+          omega (arith, count-hit x l t, count-zero l d (λ i b s. omega (arith, h 0 (suc i) (omega arith) (omega arith) t s)))
+      go (no n) r = omega (arith, count-miss x l n)
+
+  -- where one place passes and no other
+  pub count-only : (l : List A) (d : A) (i : ℕ) → i < length l → T (f (getD l i d))
+      → ((k : ℕ) → k < length l → T (f (getD l k d)) → k ≡ i) → count f l ≡ 1
+  count-only l d i b t h = go (decLt 0 (count f l))
+    where
+      go : Dec (0 < count f l) → count f l ≡ 1
+      go (yes some) = omega (arith, count-once l d (λ j k a c s u. h j a s ∙ sym (h k c u)))
+      go (no none) = absurd (count-none l (omega arith) d i b t)
+
+-- where each place of one list that passes its test stands for one of another that passes its own
+module _ {A B : Type 0} (f : A → Bool) (g : B → Bool) (d : A) (e : B) where
+  pub count-within : (l : List A) (m : List B) → length l ≡ length m → ((i : ℕ) → i < length l → T (f (getD l i d)) → T (g (getD m i e)))
+      → count f l ≤ count g m
+  count-within [] m h s = omega arith
+  count-within (x ∷ l) [] h s = absurd (omega arith)
+  count-within (x ∷ l) (y ∷ m) h s = go (decT (f x)) (decT (g y)) (count-within l m (omega arith) (λ i b. s (suc i) (omega arith)))
+    where
+      go : Dec (T (f x)) → Dec (T (g y)) → count f l ≤ count g m → count f (x ∷ l) ≤ count g (y ∷ m)
+      go (yes t) (yes u) r = omega (arith, count-hit f x l t, count-hit g y m u)
+      go (yes t) (no n) r = absurd (n (s 0 (omega arith) t))
+      go (no n) (yes u) r = omega (arith, count-miss f x l n, count-hit g y m u)
+      go (no n) (no k) r = omega (arith, count-miss f x l n, count-miss g y m k)
+
 -- an array that holds f of a list's members, place by place
 module _ {A : Type 0} (f : A → ℕ) (d : A) where
   holds-members : (l : List ℕ) (m : List A) → length m ≤ length l → ((k : ℕ) → k < length m → getD l k 0 ≡ f (getD m k d))

@@ -42,7 +42,7 @@ placedIn-at j o (a ∷ l) zero n h e =
     let e′ : o ≡ n = omega arith in rw e′
 placedIn-at j o (a ∷ l) (suc i) n h e = placedIn-at j (suc o) l i n (le-of-suc-le-suc h) (omega arith)
 
-placedFrom-at : (o : ℕ) (p : List Job) (j i n : ℕ) → j < length p → i < size p j → o + j ≡ n
+pub placedFrom-at : (o : ℕ) (p : List Job) (j i n : ℕ) → j < length p → i < size p j → o + j ≡ n
     → getD (placedFrom o p) (start p j + i) noPlaced ≡ record { job = n; position = i; spawn = action p j i .spawn; join = action p j i .join; cost = action p j i .cost }
 placedFrom-at o [] j i n h b e = absurd (not-suc-le-zero h)
 placedFrom-at o (b ∷ bs) zero i n h l e =

@@ -16,7 +16,7 @@ use Rattle.plan.specs.Progress.{withActions, withJob, withJobs}
 use Rattle.plan.proofs.Laws.Spawning.{jobs-in-range, total-in-range}
 use Rattle.plan.proofs.Laws.Placed.{placed-length, placedIn-at, placedFrom-append, total-append}
 
--- one action or job more
+-- one action or job more, and jobs behind others
 pub actions-one-more : (plan : List ℕ) (k j : ℕ) (l : List Action) (x : Action)
     → withActions plan k j (l ++ (x ∷ [])) ≡ withAction (withActions plan k j l) (k + length l) j (x .spawn) (x .join) (x .cost)
 actions-one-more plan k j [] x = rw add-zero
@@ -24,16 +24,20 @@ actions-one-more plan k j (y ∷ l) x =
     let e : suc k + length l ≡ k + length (y ∷ l) = omega arith in
     rw (actions-one-more (withAction plan k j (y .spawn) (y .join) (y .cost)) (suc k) j l x, e)
 
-pub jobs-one-more : (plan : List ℕ) (k j : ℕ) (l : List Job) (x : Job)
-    → withJobs plan k j (l ++ (x ∷ [])) ≡ withJob (withJobs plan k j l) (k + total l) (j + length l) x
-jobs-one-more plan k j [] x =
+pub jobs-append : (plan : List ℕ) (k j : ℕ) (l m : List Job)
+    → withJobs plan k j (l ++ m) ≡ withJobs (withJobs plan k j l) (k + total l) (j + length l) m
+jobs-append plan k j [] m =
     let e : k + 0 ≡ k = omega arith in
     let f : j + 0 ≡ j = omega arith in
     rw (e, f)
-jobs-one-more plan k j (y ∷ l) x =
+jobs-append plan k j (y ∷ l) m =
     let e : suc j + length l ≡ j + length (y ∷ l) = omega arith in
     let f : k + length (y .actions) + total l ≡ k + total (y ∷ l) = omega arith in
-    rw (jobs-one-more (withJob plan k j y) (k + length (y .actions)) (suc j) l x, e, f)
+    rw (jobs-append (withJob plan k j y) (k + length (y .actions)) (suc j) l m, e, f)
+
+pub jobs-one-more : (plan : List ℕ) (k j : ℕ) (l : List Job) (x : Job)
+    → withJobs plan k j (l ++ (x ∷ [])) ≡ withJob (withJobs plan k j l) (k + total l) (j + length l) x
+jobs-one-more plan k j l x = jobs-append plan k j l (x ∷ [])
 
 -- the array stays as long
 actions-long : (plan : List ℕ) (k j : ℕ) (l : List Action) → length (withActions plan k j l) ≡ length plan

@@ -7,6 +7,7 @@ use borrow.Author.Needs.{needs}
 use borrow.Author.Tests.{not-true, not-false}
 use Rattle.plan.specs.Rules.{costsFit}
 use Rattle.plan.proofs.Laws.Lists.{of-true}
+use Rattle.plan.proofs.Laws.Found.{ruled-in}
 use Rattle.plan_forms.specs.Given.{PlanAs}
 use Rattle.plan_forms.proofs.Laws.Reading.{found-as, none-as}
 use Rattle.plan_forms.proofs.Laws.Turned.{no-count, turns-back-down, costs-down, turned-back, converted}
@@ -41,7 +42,7 @@ plain : (c : tie.Else1) → let r = read (c .before .before .before .before) in 
 plain c = let k = c .before in let r = read (k .before .before .before) in sym (k .costs-one .ensures (r .is) (r .held)) ∙ not-false _ (c .if1 .left)
 
 encode-requires : tie.Need-encode-requires
-encode-requires c κs = let r = read (c .before .before .before .before .before .before) in ((r .is, r .held), omega arith)
+encode-requires c κs = let r = read (c .before .before .before .before .before .before) in ((r .is, ruled-in (r .held)), omega arith)
 
 returns-2 : tie.Need-returns-2
 returns-2 c =
@@ -56,7 +57,7 @@ returns-3 c =
     let k = c .before .before in
     let o = k .before .before .before in
     let r = read (o .before .before .before .before) in
-    let e = k .encode .ensures (r .is) (r .held) in
+    let e = k .encode .ensures (r .is) (ruled-in (r .held)) in
     (e ∙ turned-back _ _ _ (r .told) (plain o), converted _ _ _ (r .is) (r .read) tt (of-true _ (plain o)) _ _ _ e)
 
 pub to-form-1-spec : {M : Type 1} → statement M

@@ -4,6 +4,7 @@ use native.Mathlib.Omega.{arith}
 use denote.Ref.{now}
 use borrow.Author.Needs.{needs}
 use Rattle.plan.specs.Rules.{costsFit}
+use Rattle.plan.proofs.Laws.Found.{ruled-in}
 use Rattle.plan_forms.specs.Given.{PlanAs}
 use Rattle.plan_forms.proofs.Laws.Reading.{found-as, none-as}
 use Rattle.plan_forms.proofs.Laws.Turned.{no-count, turns-down, turned, converted}
@@ -25,7 +26,7 @@ read : (c : tie.After-jobs) → let r = c .before .before in
 read c = found-as _ _ _ _ (c .before .before .read-as .ensures) _ _ _ (c .jobs .given .1)
 
 encode-requires : tie.Need-encode-requires
-encode-requires c κs = let r = read (c .before .before .before) in ((r .is, r .held), omega arith)
+encode-requires c κs = let r = read (c .before .before .before) in ((r .is, ruled-in (r .held)), omega arith)
 
 returns : tie.Need-returns
 returns c =
@@ -40,7 +41,7 @@ unfolding costsFit
 returns-2 c =
     let k = c .before .before in
     let r = read (k .before .before .before .before) in
-    let e = k .encode .ensures (r .is) (r .held) in
+    let e = k .encode .ensures (r .is) (ruled-in (r .held)) in
     (e ∙ turned _ _ _ (r .told), converted _ _ _ (r .is) (r .read) tt tt _ _ _ e)
 
 pub to-form-2-spec : {M : Type 1} → statement M

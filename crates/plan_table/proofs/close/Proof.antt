@@ -6,6 +6,7 @@ use borrow.Author.Tests.{not-true, not-false}
 use Rattle.plan.specs.Plan.{Plan}
 use Rattle.plan.specs.Sheet.{SpawnedIn, PlanIn}
 use Rattle.plan_table.specs.GivenRows.{LaidAs}
+use Rattle.plan.proofs.Laws.Found.{ruled-in}
 use Rattle.plan.proofs.Laws.Lists.{of-true}
 use Rattle.plan.proofs.Laws.Sheets.{planned-by}
 use Rattle.plan_table.proofs.Laws.Answers.{encoded-spawns, encoded-joins, encoded-plan}
@@ -61,7 +62,7 @@ encode-requires : tie.Need-encode-requires
 encode-requires c κs =
     let o = c .before .before in
     let q = start (else1 o) .pre in
-    ((q .0, planned o (q .0) (q .1)), q .1 .byte)
+    ((q .0, ruled-in (planned o (q .0) (q .1))), q .1 .byte)
 
 same-length : tie.Need-same-length
 same-length c = search needs
@@ -70,7 +71,7 @@ returns-3 : tie.Need-returns-3
 returns-3 c p g =
     let o = c .before .before .before .before .before in
     let h = planned o p g in
-    c .before .before .encode .ensures p h ∙ encoded-plan _ p _ (h .planned .rules) (g .costs)
+    c .before .before .encode .ensures p (ruled-in h) ∙ encoded-plan _ p _ (h .planned .rules) (g .costs)
 
 pub close-spec : {M : Type 1} → statement M
 close-spec =

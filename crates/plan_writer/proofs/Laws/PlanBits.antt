@@ -18,9 +18,9 @@ use lib.ListN.{length, getD, length-append}
 use Rattle.plan.specs.Plan.{Action, Job, Plan, job, size, action, total, noAction, noPlaced, placed}
 use Rattle.fields.specs.Field.{bitsOf}
 use Rattle.plan_writer.specs.Writer.{numberBits, costBits, actionsBits, jobsBits, planBits}
-use Rattle.plan.specs.Sheet.{childAt, targetAt, frameOf, firstOf, jobAt, costAt, Laid, PlanIn}
+use Rattle.plan.specs.Sheet.{childAt, targetAt, frameOf, firstOf, jobAt, costAt, Laid, RuledIn}
 use Rattle.plan_writer.specs.ActionBits.{openingBits, fieldsOf, fieldsAt, actionBits, Writable}
-use Rattle.plan.proofs.Laws.Found.{counts-few}
+use Rattle.plan.proofs.Laws.Found.{ruled-few}
 use Rattle.plan.proofs.Laws.Laid.{laid-owner, laid-end, laid-child, laid-target, laid-cost}
 use Rattle.plan.proofs.Laws.Placed.{start, placed-of}
 use Rattle.plan.proofs.Laws.Spawning.{cost-in-range}
@@ -138,9 +138,9 @@ module _ (form : ℕ) (plan : List ℕ) where
       let m = rw add-one at (fields-more k) in
       omega (arith, fields-many k, fields-few form (childAt plan k) (targetAt plan k) (costAt plan k))
 
-module _ {p : Plan} {jobs actions : ℕ} {plan : List ℕ} (g : PlanIn jobs actions plan p) where
+module _ {p : Plan} {jobs actions : ℕ} {plan : List ℕ} (g : RuledIn jobs actions plan p) where
   laid : Laid plan p
-  laid = g .planned .laid
+  laid = g .laid
 
   opening-at : (j i : ℕ) → j < length p → openingBits plan j (start p j + i) ≡ opening (job p j) i
   opening-at j zero h =
@@ -157,9 +157,9 @@ module _ {p : Plan} {jobs actions : ℕ} {plan : List ℕ} (g : PlanIn jobs acti
       let j = getD (placed p) k noPlaced .job in
       let a = laid .firsts j (omega (arith, s .known)) in
       let b = laid-end plan p laid j (s .known) in
-      let z = size-range p (g .planned .rules) j (s .known) in
-      let c = counts-few jobs actions plan p g in
-      let n = small-numbers p (g .planned .rules) j (getD (placed p) k noPlaced .position) (s .known) (s .within) in
+      let z = size-range p (g .rules) j (s .known) in
+      let c = ruled-few jobs actions plan p g in
+      let n = small-numbers p (g .rules) j (getD (placed p) k noPlaced .position) (s .known) (s .within) in
       record {
         place = omega arith;
         owner = omega (arith, o, s .known, g .count);
@@ -189,7 +189,7 @@ module _ {p : Plan} {jobs actions : ℕ} {plan : List ℕ} (g : PlanIn jobs acti
     pub plan-upTo : planBits form p ≡ bitsOf 8 form ++ (bitsOf 9 jobs ++ upTo (actionBits form plan) actions)
     unfolding planBits
     plan-upTo =
-        let u = jobs-upTo form (actionBits form plan) 0 p (λ j h. size-range p (g .planned .rules) j h .0) (λ j i h b. rw zero-add (action-at j i h b)) in
+        let u = jobs-upTo form (actionBits form plan) 0 p (λ j h. size-range p (g .rules) j h .0) (λ j i h b. rw zero-add (action-at j i h b)) in
         rw (g .all, g .count, rw zero-add at u)
 
     pub plan-room : (n : ℕ) → (length (planBits form p) + 7) / 8 ≤ n → 17 + length (upTo (actionBits form plan) actions) ≤ 8 * n

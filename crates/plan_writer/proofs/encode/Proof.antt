@@ -4,7 +4,7 @@ use mathlib.Core.Path.{_≡_, ap, sym, _∙_}
 use native.Mathlib.Omega.{arith}
 use lib.ListN.{length}
 use Rattle.plan.specs.Plan.{Plan}
-use Rattle.plan.specs.Sheet.{PlanIn}
+use Rattle.plan.specs.Sheet.{RuledIn}
 use Rattle.plan_writer.specs.Writer.{planBytes}
 use Rattle.plan_writer.proofs.Laws.PlanBytes.{planBytes-length}
 use Rattle.plan_writer.proofs.Laws.Answers.{encoded-short, encoded-whole}
@@ -20,7 +20,7 @@ add-if1 c = omega arith
 
 -- what the bytes take
 bits : (c : tie.After-plan-bits) (p : Plan) → let a = c .before .before .args in
-    PlanIn (a .jobs) (a .actions) (a .plan .now) p → (c .plan-bits .result + 7) / 8 ≡ length (planBytes (a .form) p)
+    RuledIn (a .jobs) (a .actions) (a .plan .now) p → (c .plan-bits .result + 7) / 8 ≡ length (planBytes (a .form) p)
 bits c p g = ap (λ n. (n + 7) / 8) (c .plan-bits .ensures .1 p g) ∙ sym (planBytes-length _ p)
 
 returns : tie.Need-returns

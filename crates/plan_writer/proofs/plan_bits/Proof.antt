@@ -6,7 +6,7 @@ use borrow.Author.Needs.{needs}
 use lib.ListN.{length}
 use Rattle.plan.specs.Sheet.{costAt}
 use Rattle.plan_writer.specs.ActionBits.{fieldsOf, fieldsAt}
-use Rattle.plan.proofs.Laws.Found.{counts-few}
+use Rattle.plan.proofs.Laws.Found.{ruled-few}
 use Rattle.plan_writer.proofs.Laws.PlanBits.{upTo, fields-many, fields-more, plan-count}
 use Rattle.plan_writer.proofs.plan_bits.Statement.{statement}
 use Rattle.plan_writer.proofs.plan_bits.Tie as tie
@@ -19,13 +19,13 @@ abbrev μ-loop : tie.MeasureT-loop
 μ-loop form jobs actions plan bits₀ k₀ bits k = actions - k
 
 mul-bits : tie.Need-mul-bits Inv-loop μ-loop
-mul-bits c = omega (arith, counts-few _ _ _ _ (c .pre .1))
+mul-bits c = omega (arith, ruled-few _ _ _ _ (c .pre .1))
 
 add-bits : tie.Need-add-bits Inv-loop μ-loop
-add-bits c = omega (arith, counts-few _ _ _ _ (c .pre .1))
+add-bits c = omega (arith, ruled-few _ _ _ _ (c .pre .1))
 
 loop-holds : tie.Need-loop-holds Inv-loop μ-loop
-loop-holds c = omega (arith, counts-few _ _ _ _ (c .pre .1))
+loop-holds c = omega (arith, ruled-few _ _ _ _ (c .pre .1))
 
 child-at-requires : tie.Need-child-at-requires Inv-loop μ-loop
 child-at-requires c κs = omega arith

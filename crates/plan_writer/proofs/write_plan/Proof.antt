@@ -9,7 +9,7 @@ use Rattle.fields.specs.Field.{bitsOf}
 use Rattle.fields.specs.Sink.{Put}
 use Rattle.plan_writer.specs.ActionBits.{actionBits}
 use Rattle.fields.proofs.Laws.Puts.{empty, empty-sound, put-none, put-length, put-both}
-use Rattle.plan.proofs.Laws.Found.{counts-few}
+use Rattle.plan.proofs.Laws.Found.{ruled-few}
 use Rattle.plan_writer.proofs.Laws.Numbers.{plan-written}
 use Rattle.plan_writer.proofs.Laws.PlanBits.{upTo, upTo-rises, plan-upTo, plan-room, place-writable}
 use Rattle.plan_writer.proofs.write_plan.Statement.{statement}
@@ -46,7 +46,7 @@ put-requires-2 c κs =
     let p = c .before .before .before in
     let s = p .before .before .before in
     let w = p .put .ensures in
-    (w .sound, (omega arith, omega (arith, counts-few _ _ _ _ (s .pre .1 .given)), omega (arith, room s, put-length (empty-sound _) w, w .same)))
+    (w .sound, (omega arith, omega (arith, ruled-few _ _ _ _ (s .pre .1 .given)), omega (arith, room s, put-length (empty-sound _) w, w .same)))
 
 loop-holds : tie.Need-loop-holds Inv-loop μ-loop
 loop-holds c = (omega arith, put-none _ _ (c .before .before .put2 .ensures .sound))
