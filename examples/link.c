@@ -1,5 +1,5 @@
-/* A plan of eight actions run on two workers through the library for C, as it stands and then with costs, and turned
-   into form 2 and back:
+/* A plan of eight actions run on two workers through the library for C, as it stands and then with costs, turned into
+   form 2 and back, and put under one root with the plan that has costs:
      rt staticlib cabi && gcc examples/link.c -Iinclude target/staticlib/libcabi.a -o link && ./link */
 #include "dorewhanga.h"
 #include <stdio.h>
@@ -15,6 +15,7 @@ static uint16_t rows[DW_ROWS_LENGTH];
 static uint8_t with_costs[DW_PLAN_LENGTH];
 static uint8_t in_form_2[DW_PLAN_LENGTH];
 static uint8_t in_form_1[DW_PLAN_LENGTH];
+static uint8_t together[DW_PLAN_LENGTH];
 static uint8_t schedule[DW_SCHEDULE_LENGTH];
 
 /* the number in so many bits from place `at` on, the most significant first */
@@ -80,14 +81,30 @@ static uint32_t convert(void) {
     return 0;
 }
 
+/* puts the plan and the one with costs under a new root with frame 6, to be built together: 0, or the number of the
+   refusal */
+static uint32_t pair(size_t with_costs_len) {
+    dw_count both = dw_pair(plan, sizeof plan, with_costs, with_costs_len, 6, together, sizeof together);
+    if (both.refused)
+        return both.refused;
+    print(together, both.count);
+    dw_measures m = dw_measure(together, both.count);
+    printf("total %u, work %u, longest %u, path %u\n", (unsigned)m.total, (unsigned)m.work, (unsigned)m.longest,
+           (unsigned)m.path);
+    return m.refused;
+}
+
 int main(void) {
     uint32_t refused = build(plan, sizeof plan);
+    dw_count closed = {0, 0};
     if (!refused) {
-        dw_count closed = add_costs();
+        closed = add_costs();
         refused = closed.refused ? closed.refused : build(with_costs, closed.count);
     }
     if (!refused)
         refused = convert();
+    if (!refused)
+        refused = pair(closed.count);
     if (refused) {
         printf("refused %u\n", (unsigned)refused);
         return 1;

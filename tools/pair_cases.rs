@@ -1,4 +1,4 @@
-//! Two plans in one build (document 02, L9): the examples of docs/RULES.md, each two of some plans in each form, the limits of jobs and
+//! Two plans in one build (document 02, L9): the examples of docs/RULES.md, some plans with each other, in each form, the limits of jobs and
 //! actions on both sides, frames, and the order of the refusals. What is to be written is put together here, job by job, and T1, S1 and
 //! T∞ are told from those of the parts.
 use crate::plan_cases::{never, third};
@@ -100,8 +100,8 @@ fn examples(c: &mut Cases) {
     example(c, "example_one_twice", 1, [&one, &one]);
 }
 
-/// Each two of some plans.
-fn each_two(c: &mut Cases) {
+/// Each of some plans with every third of them.
+fn some_two(c: &mut Cases) {
     let parts = [
         ("one", part(1, one(), 1, 1, 1)),
         ("one_of_3", part(2, costed(one(), &[3]), 3, 3, 1)),
@@ -159,7 +159,13 @@ fn limits(c: &mut Cases) {
     };
     paired(c, "jobs_128_and_127", 7, [&fanned(128), &fanned(127)]);
     paired(c, "jobs_200_and_55", 7, [&fanned(200), &fanned(55)]);
-    paired(c, "jobs_1_and_200", 7, [&fanned(1), &fanned(200)]);
+    // a chain of n jobs has 3 actions a job, its last one 1; of the second actions, which spawn and wait for nothing, none is on
+    // the longest chain
+    let chained = |n: u32| part(1, chain(n), 3 * n - 2, 2 * n - 1, n);
+    paired(c, "jobs_254_and_1", 7, [&chained(254), &chained(1)]);
+    paired(c, "jobs_1_and_254", 7, [&chained(1), &chained(254)]);
+    turned_down(c, "jobs_255_and_1", 7, [&plan(&chain(255)), &plan(&one())], 17);
+    turned_down(c, "jobs_1_and_255", 7, [&plan(&one()), &plan(&chain(255))], 17);
     turned_down(c, "jobs_128_and_128", 7, [&plan(&fan(128)), &plan(&fan(128))], 17);
     turned_down(c, "jobs_200_and_56", 7, [&plan(&fan(200)), &plan(&fan(56))], 17);
     turned_down(c, "jobs_256_and_1", 7, [&plan(&chain(256)), &plan(&one())], 17);
@@ -194,7 +200,7 @@ fn frames(c: &mut Cases) {
 /// The first plan's number, the second's, 17, and then 9.
 fn order(c: &mut Cases) {
     let (good, empty) = (plan(&e()), vec![]);
-    let (unspawned, late) = (plan(&never()), plan(&third()));
+    let (unspawned, after_spawn) = (plan(&never()), plan(&third()));
     let mut over = good.clone();
     over.push(0);
     let form_3 = [&[3], &good[1..]].concat();
@@ -206,7 +212,7 @@ fn order(c: &mut Cases) {
         ("form_3", &form_3, 2),
         ("no_frame", &no_frame, 3),
         ("unspawned", &unspawned, 4),
-        ("late", &late, 5),
+        ("after_spawn", &after_spawn, 5),
         ("over", &over, 6),
     ];
     for (i, (name, plan, number)) in bad.iter().enumerate() {
@@ -216,11 +222,13 @@ fn order(c: &mut Cases) {
         let (other, after, _) = bad[(i + 3) % bad.len()];
         turned_down(c, &format!("first_{name}_second_{other}"), 1, [plan, after], *number);
     }
+    // a first plan that leaves no room for another
+    turned_down(c, "first_full_second_empty", 1, [&plan(&chain(256)), &empty], 1);
 }
 
 pub fn all(c: &mut Cases) {
     examples(c);
-    each_two(c);
+    some_two(c);
     limits(c);
     frames(c);
     order(c);

@@ -56,6 +56,24 @@ fn examples_print_what_they_say() {
             seen += 1;
         }
     }
-    assert!(seen >= 23, "only {seen} examples");
-    assert!(whole >= 19, "only {whole} examples with a whole header");
+    assert!(seen >= 26, "only {seen} examples");
+    assert!(whole >= 22, "only {whole} examples with a whole header");
+}
+
+/// The plan of an example.
+fn plan_of(name: &str) -> Vec<u8> {
+    let folder = Path::new(env!("CARGO_MANIFEST_DIR")).join("../examples");
+    let input = fs::read(folder.join(name).with_extension("in")).expect("an input");
+    parts(&input).expect("a whole header").2.to_vec()
+}
+
+#[test]
+fn roman_and_italic_are_a_pair() {
+    let [roman, italic] = [plan_of("roman"), plan_of("italic")];
+    let wanted = plan_of("roman-and-italic");
+    for pair in [proved::pair, second::pair] {
+        let mut bytes = vec![0; wanted.len()];
+        assert_eq!(pair(&roman, &italic, 6, &mut bytes), Ok(wanted.len()));
+        assert_eq!(bytes, wanted);
+    }
 }

@@ -40,8 +40,8 @@ fn accepted(both: &mut Both, one: &Sketch, two: &Sketch, frame: u16) -> Sketch {
     sketch
 }
 
-/// Every two of the plans of at most seven actions, in both forms, the second
-/// with costs from 1 to 3.
+/// Every two of the plans of at most three jobs and seven actions, in form 1,
+/// and in form 2 with all costs 1 and with costs from 1 to 3.
 pub fn small(both: &mut Both) {
     let mut plans = Vec::new();
     small_plans(7, |sketch| {
@@ -91,10 +91,8 @@ pub fn limits(both: &mut Both) {
     let mut random = Random(0x5EED_000D);
     for jobs in [1, 2, 100, 127, 128, 200, 253, 254] {
         for (more, refused) in [(255 - jobs, None), (256 - jobs, Some(17))] {
-            if more >= 1 {
-                let plans = [jobs, more].map(|jobs| sized(&mut random, jobs, 3 * jobs));
-                at_limit(both, &mut random, &plans, refused);
-            }
+            let plans = [jobs, more].map(|jobs| sized(&mut random, jobs, 3 * jobs));
+            at_limit(both, &mut random, &plans, refused);
         }
     }
     for actions in [1, 5, 255, 1000, 1021, 1022, 2000, 2038, 2042] {
@@ -113,6 +111,10 @@ pub fn limits(both: &mut Both) {
         at_limit(both, &mut random, &[large.clone(), large], Some(17));
     }
     nested(both, &small);
+    // The same bytes lent twice.
+    let plan = small.bytes();
+    let twice = both.pair([&plan, &plan], 9, PLAN_ROOM);
+    assert_eq!(twice, Ok(small.paired(&small, 9).bytes()));
     for frame in [1, 2, 65_534, 65_535] {
         accepted(both, &small, &small, frame);
     }

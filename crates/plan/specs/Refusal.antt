@@ -51,7 +51,7 @@ numberOf Table = 10
 numberOf Schedule = 11
 -- a schedule rule is broken
 numberOf Rule = 12
--- document 02, of which 15 is given so far: "name unset, malformed or a ninth" (L3)
+-- document 02, of which 15 and 17 are given so far: "name unset, malformed or a ninth" (L3)
 numberOf Name = 13
 -- "the round is after the run's end" (L3)
 numberOf Round = 14

@@ -1,6 +1,6 @@
 // Why an input is turned down: one case for each row of document 01's table "Turned down" and for each number of document 02, in
-// their order, so that a number is its case's place and one more, and no table is laid out for it. No entry gives 13, 14 or 16 to
-// 20 yet.
+// their order, so that a number is its case's place and one more, and no table is laid out for it. No entry gives 13, 14, 16 or 18
+// to 20 yet.
 ghost use mathlib.Core.Path.{_≡_};
 ghost use Rattle.plan.specs.Refusal.{numberOf};
 

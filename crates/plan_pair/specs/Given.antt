@@ -1,5 +1,4 @@
 -- What private functions of this crate are given and leave. No public entry cites these.
---   inLimits frame jobs actions == 17 does not apply to a result with so many jobs and actions
 --   targetUnder plan k   == where the action at place k of the array `plan` sends its join, plus 1, once its plan stands below the new
 --                           root: the old root's last action, which stands before job 1, to position 4
 --   Lays d from plan p   == the array has the plan p, which keeps the rules; from job d and place `from` on there is room for it
@@ -10,24 +9,20 @@
 --   SecondLaid frame d from sheet sheet′ p == the same of the plan p alone, from job d and place `from` on
 --   Took s form jobs actions Left == the bytes s hold a plan of that form, so many jobs and actions, of which `Left` holds
 --   Taken s r Left       == the answer r is the refusal, or that this is so
-use Prim.Native.Nat.{ℕ, suc, _+_, _≤_, _<_}
+use Prim.Native.Nat.{ℕ, _+_, _≤_, _<_}
 use mathlib.Core.Path.{_≡_}
-use mathlib.Core.Bool.{Bool, true, false}
+use mathlib.Core.Bool.{true, false}
 use mathlib.Core.List.{List, _∷_}
 use lib.ListN.{length}
-use lib.Dec.{T, eqb, leb}
+use lib.Dec.{T, eqb}
 use Rattle.plan.specs.declared.reader.Found.{Found}
-use Rattle.plan.specs.Test.{both}
 use Rattle.plan.specs.Refusal.{refused, accepted, numberOf}
 use Rattle.plan.specs.Plan.{Plan, total}
 use Rattle.plan.specs.Progress.{withJobs}
 use Rattle.plan.specs.Rules.{Accepted}
 use Rattle.plan.specs.Reader.{readPlan}
 use Rattle.plan.specs.Sheet.{childAt, targetAt, firstOf, Laid}
-use Rattle.plan_pair.specs.Pair.{under, newRoot}
-
-unfoldable pub inLimits : (frame jobs actions : ℕ) → Bool
-inLimits frame jobs actions = both (both (leb 1 frame) (leb frame 65535)) (both (leb jobs 256) (leb actions 2048))
+use Rattle.plan_pair.specs.Pair.{under, newRoot, inLimits}
 
 unfoldable pub targetUnder : List ℕ → ℕ → ℕ
 targetUnder plan k = elim (eqb (k + 1) (firstOf plan 1)) [ true ↦ 5 | false ↦ targetAt plan k ]

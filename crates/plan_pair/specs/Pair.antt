@@ -1,19 +1,20 @@
 -- Two families in one build (document 02, L9).
 --   raisedChild d n  == the number plus 1, or 0 for none, of a child whose number rises by d
---   raised d a       == the action a, so it is with its child
---   raisedJob d b    == the job b, so it is with its actions
+--   raised d a       == the action a, its child's number raised by d
+--   raisedJob d b    == the job b, its actions so raised
 --   joining l        == the row of actions l, the last of which sends a join to position 4
 --   under d p        == the jobs of the plan p below the new root, their numbers plus d
---   plainly spawn    == an action of cost 1 that sends no join; it spawns a job whose number plus 1 is told, or none
+--   plainAction n    == an action of cost 1 that sends no join; n is the number plus 1 of the job that it spawns, or 0
 --   newRoot frame m  == the new root, where the first plan has m jobs
 --   paired frame p q == the plans p and q under the new root
 --   pairForm a b     == the form of the result of two plans of the forms a and b
+--   inLimits frame jobs actions == the frame is in its range, and so many jobs and actions pass no limit
 --   pairFits frame r == 17 does not apply to the result r
---   pairOf frame a b == what two plan bytes give that hold a and b, or the refusal
+--   pairOf frame a b == what comes of reading the two plans, a and b: the result with its form, or the refusal
 --   writtenOut o buffer       == the bytes of the plan o, in its form, or its refusal
 --   pairInto frame s t buffer == what the entry answers and leaves in the lent buffer
 --   Together frame p q r      == what is proved of the result r
---   Result frame s t written  == the bytes s, t and `written` hold two plans and a result, of which that is so
+--   Result frame s t written  == the bytes `written` hold the result of the plans that s and t hold, of which that is so
 --   Paired frame s t r bytes  == so it is with the first of those bytes, as many as the answer r tells
 use Prim.Native.Nat.{ℕ, zero, suc, _+_, max}
 use mathlib.Core.Path.{_≡_}
@@ -50,14 +51,14 @@ abbrev pub under : ℕ → Plan → Plan
 under d [] = []
 under d (b ∷ bs) = record { frame = b .frame; actions = joining (map (raised d) (b .actions)) } ∷ map (raisedJob d) bs
 
-abbrev pub plainly : ℕ → Action
-plainly spawn = record { spawn = spawn; join = 0; cost = 1 }
+abbrev pub plainAction : ℕ → Action
+plainAction n = record { spawn = n; join = 0; cost = 1 }
 
 -- "A new root with a given frame W has five actions of cost 1, spawns the first plan's root at 0 and the second's at 2, and waits for
 -- both at 4"
 abbrev pub newRoot : ℕ → ℕ → Job
 newRoot frame m =
-    record { frame = frame; actions = plainly (suc 1) ∷ plainly 0 ∷ plainly (suc (1 + m)) ∷ plainly 0 ∷ plainly 0 ∷ [] }
+    record { frame = frame; actions = plainAction (suc 1) ∷ plainAction 0 ∷ plainAction (suc (1 + m)) ∷ plainAction 0 ∷ plainAction 0 ∷ [] }
 
 -- "Numbers of the first plan rise by 1, of the second by 1 plus the first's job count."
 unfoldable pub paired : ℕ → Plan → Plan → Plan
@@ -68,8 +69,12 @@ unfoldable pub pairForm : ℕ → ℕ → ℕ
 pairForm a b = elim (both (eqb a 1) (eqb b 1)) [ true ↦ 1 | false ↦ 2 ]
 
 -- "17: W is outside 1 to 65,535, or the result passes a limit of jobs or actions"
+unfoldable pub inLimits : (frame jobs actions : ℕ) → Bool
+inLimits frame jobs actions = both (both (leb 1 frame) (leb frame 65535)) (both (leb jobs 256) (leb actions 2048))
+
 unfoldable pub pairFits : ℕ → Plan → Bool
-pairFits frame r = both (both (leb 1 frame) (leb frame 65535)) (both (leb (length r) 256) (leb (total r) 2048))
+unfolding inLimits
+pairFits frame r = inLimits frame (length r) (total r)
 
 -- "after both plans are read, the first plan's number going before the second's, and before 9"
 unfoldable pub pairOf : ℕ → Outcome Read → Outcome Read → Outcome Read
@@ -102,11 +107,11 @@ pub record Together (frame : ℕ) (p q r : Plan) : Type 0 where
 pub record Result (frame : ℕ) (s t written : List ℕ) : Type 0 where
   pub first : Read
   pub second : Read
-  pub result : Read
   pub first-read : readPlan s ≡ accepted first
   pub second-read : readPlan t ≡ accepted second
-  pub accepted-too : readPlan written ≡ accepted result
-  pub together : Together frame (first .plan) (second .plan) (result .plan)
+  pub accepted-too : readPlan written
+      ≡ accepted (record { form = pairForm (first .form) (second .form); plan = paired frame (first .plan) (second .plan) })
+  pub together : Together frame (first .plan) (second .plan) (paired frame (first .plan) (second .plan))
 
 abbrev pub Paired : ℕ → List ℕ → List ℕ → Answer → List ℕ → Type 0
 Paired frame s t r bytes = (n : ℕ) → r ≡ Count n → Result frame s t (take n bytes)

@@ -4,3 +4,4 @@ pub mod Numbers
 pub mod Costs
 pub mod PlanBits
 pub mod Answers
+pub mod ReadBack

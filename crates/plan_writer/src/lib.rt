@@ -1,4 +1,4 @@
-// Writing plan bytes from a plan that was read or taken over (document 01, "Plan"; document 02, L5).
+// Writing plan bytes from a plan that was read, taken over or put together (document 01, "Plan"; document 02, L5).
 ghost use mathlib.Core.Path.{_≡_};
 ghost use Prim.Native.Nat.{ℕ, _^_, _≤_, _<_};
 ghost use mathlib.Core.List.{_++_};

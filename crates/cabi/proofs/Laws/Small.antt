@@ -27,7 +27,7 @@ use Rattle.plan_forms.specs.Forms.{readAs, plain, toForm2, toForm1}
 use Rattle.plan_forms.proofs.Laws.Reading.{as-known}
 use Rattle.plan_forms.proofs.Laws.RoundTrip.{plain-told}
 use Rattle.plan_pair.specs.Pair.{pairOf, writtenOut, pairInto}
-use Rattle.plan_pair.proofs.Laws.Answers.{pair-range}
+use Rattle.plan_pair.proofs.Laws.Answers.{result-range}
 
 module _ (form : ℕ) where
   actions-few : (l : List Action) → length (actionsBits form l) ≤ 22 * length l
@@ -101,4 +101,4 @@ pairInto-few frame s t bytes n e = go (pairOf frame (readPlan s) (readPlan t)) r
     go : (o : Outcome Read) → pairOf frame (readPlan s) (readPlan t) ≡ o → writtenOut o bytes .answer ≡ accepted n → n ≤ 6403
     go (refused k) f e = refused-accepted e
     go (accepted x) f e =
-        encoded-few (x .form) (accepted (x .plan)) bytes n (λ p q. rw (← accepted-same (x .plan) p q) (pair-range frame s t x f)) e
+        encoded-few (x .form) (accepted (x .plan)) bytes n (λ p q. rw (← accepted-same (x .plan) p q) (result-range frame s t x f)) e

@@ -14,7 +14,7 @@ use Rattle.plan_writer.specs.Writer.{planBytes}
 use Rattle.plan_writer.proofs.Laws.Answers.{encoded-front}
 use Rattle.plan_forms.specs.Forms.{readAs, plain, toForm2, toForm1}
 use Rattle.plan_forms.proofs.Laws.Reading.{as-known}
-use Rattle.plan_forms.proofs.Laws.Turned.{again}
+use Rattle.plan_forms.proofs.Laws.Turned.{again-as}
 use Rattle.plan_forms.proofs.Laws.RoundTrip.{plain-told}
 use Rattle.plan_measure.specs.Measure.{measured, measures}
 use Rattle.runs.specs.Setting.{setting}
@@ -67,7 +67,7 @@ module _ (s t : List ℕ) (from to : ℕ) (p : Plan) (read : readPlan s ≡ acce
 turned-run : (s : List ℕ) (from to : ℕ) (p : Plan) → readPlan s ≡ accepted (record { form = from; plan = p }) → T (isForm to) → T (costsFit to p)
     → (t : List ℕ) → t ≡ planBytes to p → (n : ℕ) (choices : List ℕ) → SameRun s t n choices
 turned-run s from to p read known costs t e n choices =
-    same-run s t from to p read (ap readPlan e ∙ again s from to p read known costs) n choices
+    same-run s t from to p read (ap readPlan e ∙ again-as s from to p read known costs) n choices
 
 pub equal-runs : EqualRuns
 unfolding toForm2 toForm1 costsFit

@@ -19,7 +19,7 @@ module _ (s : List ℕ) (r : Found) (plan entering : List ℕ) (h : ReadInto s r
   pub found-none : (cause : Refusal) → r ≡ Found.Refused cause → readPlan s ≡ refused (numberOf cause)
   found-none cause e = rw e at h
 
--- who needs no parents
+-- an array that holds a plan has it, parents left out
 pub ruled-in : {jobs actions : ℕ} {plan : List ℕ} {p : Plan} → PlanIn jobs actions plan p → RuledIn jobs actions plan p
 ruled-in h = record { count = h .count; all = h .all; rules = h .planned .rules; laid = h .planned .laid }
 

@@ -9,6 +9,10 @@ use lib.ListN.{length, getD, take, length-append, List·getD-append}
 use lib.Seq.{getD-append-add}
 use Rattle.plan.specs.Plan.{Action, Job, Plan, Placed, job, size, action, total, placed, placedIn, placedFrom, noAction, noPlaced}
 
+-- action i of job j with its job and position
+abbrev pub act : Plan → ℕ → ℕ → Placed
+act p j i = record { job = j; position = i; spawn = action p j i .spawn; join = action p j i .join; cost = action p j i .cost }
+
 -- the place of job j's first action
 abbrev pub start : Plan → ℕ → ℕ
 start p j = total (take j p)
@@ -57,7 +61,7 @@ placedFrom-at o (b ∷ bs) (suc j) i n h l e =
 
 -- what stands at the place of action i of job j
 pub placed-at : (p : Plan) (j i : ℕ) → j < length p → i < size p j
-    → getD (placed p) (start p j + i) noPlaced ≡ record { job = j; position = i; spawn = action p j i .spawn; join = action p j i .join; cost = action p j i .cost }
+    → getD (placed p) (start p j + i) noPlaced ≡ act p j i
 placed-at p j i h b = placedFrom-at 0 p j i j h b (zero-add j)
 
 pub start-suc : (p : Plan) (j : ℕ) → j < length p → start p (suc j) ≡ start p j + size p j
@@ -123,7 +127,7 @@ placed-of p k h = found (locate p k h)
   where
     found : Located p k → Stands p k (getD (placed p) k noPlaced)
     found r =
-        let e : getD (placed p) k noPlaced ≡ record { job = r .job; position = r .position; spawn = action p (r .job) (r .position) .spawn; join = action p (r .job) (r .position) .join; cost = action p (r .job) (r .position) .cost }
+        let e : getD (placed p) k noPlaced ≡ act p (r .job) (r .position)
         = ap (λ n. getD (placed p) n noPlaced) (r .place) ∙ placed-at p (r .job) (r .position) (r .known) (r .within) in
         rw e (record { known = r .known; within = r .within; place = r .place; spawn = refl; join = refl; cost = refl })
 

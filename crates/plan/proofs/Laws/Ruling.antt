@@ -6,26 +6,41 @@
 --   joining-by   == the join rules
 use Prim.Native.Nat.{ℕ, zero, suc, _+_, _-_, _≤_, _<_}
 use mathlib.Core.Path.{_≡_, refl, sym, _∙_}
-use mathlib.Core.Bool.{Bool, true, false}
+use mathlib.Core.Bool.{Bool, true}
 use native.Mathlib.Omega.{arith}
 use native.Mathlib.Decide.{decLt}
 use lib.Dec.{T, leb, ltb, eqb, le→leb, lt→ltb, eqb→eq, eqb-refl}
 use lib.ListN.{length, getD}
-use Rattle.plan.specs.Test.{both, either, all, below}
-use Rattle.plan.specs.Plan.{Plan, Placed, job, size, action, total, placed, noJob, noPlaced, parent, spawnAt, entering}
-use Rattle.plan.specs.Rules.{jobInRange, inRange, spawnFits, spawnedOnce, spawnRules, joinFits, fewEnter, lastSends, joinRules}
+use Rattle.plan.specs.Test.{both, either, all}
+use Rattle.plan.specs.Plan.{Job, Plan, Placed, job, size, action, total, placed, noAction, noJob, noPlaced, parent, spawnAt, entering}
+use Rattle.plan.specs.Rules.{costInRange, jobInRange, inRange, spawnFits, spawnedOnce, spawnRules, joinFits, fewEnter, lastSends, joinRules}
 use Rattle.plan.specs.Kept.{spawning}
 use Rattle.plan.proofs.Laws.Lists.{both-intro, all-by}
 use Rattle.plan.proofs.Laws.Counts.{count-only, below-by, either-left, either-right}
-use Rattle.plan.proofs.Laws.Placed.{start, placed-length, placed-at, place-below, placed-of}
+use Rattle.plan.proofs.Laws.Placed.{act, start, placed-length, placed-at, place-below, placed-of}
 
-pub ranged-by : (p : Plan) → 1 ≤ length p → length p ≤ 256 → ((j : ℕ) → j < length p → T (jobInRange (job p j))) → total p ≤ 2048
-    → T (inRange p)
+pub ranged-by : (p : Plan) → 1 ≤ length p → length p ≤ 256
+    → ((j : ℕ) → j < length p → (1 ≤ job p j .frame) × (job p j .frame ≤ 65535) × (1 ≤ size p j) × (size p j ≤ 255))
+    → ((j i : ℕ) → j < length p → i < size p j → (1 ≤ action p j i .cost) × (action p j i .cost ≤ 15)) → total p ≤ 2048 → T (inRange p)
 unfolding inRange
-ranged-by p some few each most =
-    both-intro (both (leb 1 (length p)) (leb (length p) 256)) _
-    (both-intro (leb 1 (length p)) _ (le→leb 1 (length p) some) (le→leb (length p) 256 few))
-    (both-intro (all jobInRange p) _ (all-by jobInRange p noJob each) (le→leb (total p) 2048 most))
+ranged-by p some jobs each costs actions =
+    both-intro (both (leb 1 (length p)) (leb (length p) 256)) (both (all jobInRange p) (leb (total p) 2048))
+    (both-intro (leb 1 (length p)) (leb (length p) 256) (le→leb 1 (length p) some) (le→leb (length p) 256 jobs))
+    (both-intro (all jobInRange p) (leb (total p) 2048) (all-by jobInRange p noJob (λ j h. one (job p j) (each j h) (λ i b. costs j i h b))) (le→leb (total p) 2048 actions))
+  where
+    one : (b : Job) → (1 ≤ b .frame) × (b .frame ≤ 65535) × (1 ≤ length (b .actions)) × (length (b .actions) ≤ 255)
+        → ((i : ℕ) → i < length (b .actions) → (1 ≤ getD (b .actions) i noAction .cost) × (getD (b .actions) i noAction .cost ≤ 15)) → T (jobInRange b)
+    one b t costs =
+        let n = length (b .actions) in
+        let frames = both (leb 1 (b .frame)) (leb (b .frame) 65535) in
+        let sizes = both (leb 1 n) (leb n 255) in
+        both-intro (both frames sizes) (all costInRange (b .actions))
+        (both-intro frames sizes
+        (both-intro (leb 1 (b .frame)) (leb (b .frame) 65535) (le→leb 1 (b .frame) (t .0)) (le→leb (b .frame) 65535 (t .1)))
+        (both-intro (leb 1 n) (leb n 255) (le→leb 1 n (t .2)) (le→leb n 255 (t .3))))
+        (all-by costInRange (b .actions) noAction (λ i h.
+        let c = getD (b .actions) i noAction .cost in
+        both-intro (leb 1 c) (leb c 15) (le→leb 1 c (costs i h .0)) (le→leb c 15 (costs i h .1))))
 
 pub record Spawner (p : Plan) (c : ℕ) : Type 0 where
   pub job : ℕ
@@ -37,7 +52,7 @@ pub record Spawner (p : Plan) (c : ℕ) : Type 0 where
 
 module _ (p : Plan) where
   pub each-by : (f : Placed → Bool)
-      → ((j i : ℕ) → j < length p → i < size p j → T (f (record { job = j; position = i; spawn = action p j i .spawn; join = action p j i .join; cost = action p j i .cost })))
+      → ((j i : ℕ) → j < length p → i < size p j → T (f (act p j i)))
       → T (all f (placed p))
   each-by f h = all-by f (placed p) noPlaced (λ k b. at k (omega (arith, placed-length p)))
     where
@@ -45,7 +60,7 @@ module _ (p : Plan) where
       at k b =
           let s = placed-of p k b in
           let a = getD (placed p) k noPlaced in
-          let e : getD (placed p) k noPlaced ≡ record { job = a .job; position = a .position; spawn = action p (a .job) (a .position) .spawn; join = action p (a .job) (a .position) .join; cost = action p (a .job) (a .position) .cost }
+          let e : getD (placed p) k noPlaced ≡ act p (a .job) (a .position)
           = λ i. record { job = a .job; position = a .position; spawn = s .spawn i; join = s .join i; cost = s .cost i } in
           rw e (h (a .job) (a .position) (s .known) (s .within))
 
@@ -113,10 +128,8 @@ module _ (p : Plan) where
           (either-right (ltb (suc i) (size p (suc j))) _ (le→leb 1 (action p (suc j) i .join) (rw e (last (suc j) (omega arith) h))))
 
       at : (j i : ℕ) → j < length p → i < size p j
-          → let a : Placed = record { job = j; position = i; spawn = action p j i .spawn; join = action p j i .join; cost = action p j i .cost } in
-          T (both (joinFits p a) (both (fewEnter p a) (lastSends p a)))
+          → T (both (joinFits p (act p j i)) (both (fewEnter p (act p j i)) (lastSends p (act p j i))))
       at j i h b =
-          let a : Placed = record { job = j; position = i; spawn = action p j i .spawn; join = action p j i .join; cost = action p j i .cost } in
-          both-intro (joinFits p a) _ (allowed j i h b (action p j i .join) refl)
-          (both-intro (fewEnter p a) _ (le→leb (entering p j i) 8 (few j i h b))
+          both-intro (joinFits p (act p j i)) _ (allowed j i h b (action p j i .join) refl)
+          (both-intro (fewEnter p (act p j i)) _ (le→leb (entering p j i) 8 (few j i h b))
           (sends j i h b (decLt (suc i) (size p j))))

@@ -21,7 +21,7 @@ use Rattle.plan_writer.proofs.Laws.Answers.{encoded-front}
 use Rattle.plan_writer.proofs.Laws.PlanBytes.{read-write}
 use Rattle.plan_forms.specs.Forms.{readAs, plain, toForm2, toForm1}
 use Rattle.plan_forms.proofs.Laws.Reading.{as-accepted, as-known}
-use Rattle.plan_forms.proofs.Laws.Turned.{turned, turned-back, again}
+use Rattle.plan_forms.proofs.Laws.Turned.{turned, turned-back, again-as}
 
 pub plain-told : (o : Outcome Plan) (p : Plan) → plain o ≡ accepted p → (o ≡ accepted p) × T (costsFit 1 p)
 unfolding plain
@@ -43,7 +43,7 @@ there-and-back s bytes lent n h e =
     let r = as-known 1 s p q in
     let costs = accepted-costs s (record { form = 1; plan = p }) r in
     ap (λ t. toForm1 t lent) out
-    ∙ sym (turned-back (planBytes 2 p) lent p (as-accepted 2 (planBytes 2 p) p (again s 1 2 p r tt tt)) (true-of (costsFit 1 p) costs))
+    ∙ sym (turned-back (planBytes 2 p) lent p (as-accepted 2 (planBytes 2 p) p (again-as s 1 2 p r tt tt)) (true-of (costsFit 1 p) costs))
     ∙ ap (λ t. written t (length t) lent) (read-write s (record { form = 1; plan = p }) h r)
 
 pub back-and-there : (s bytes lent : List ℕ) (n : ℕ) → Bytes s → toForm1 s bytes .answer ≡ accepted n
@@ -54,5 +54,5 @@ back-and-there s bytes lent n h e =
     let (o, costs) = plain-told (readAs 2 s) p q in
     let r = as-known 2 s p o in
     ap (λ t. toForm2 t lent) out
-    ∙ sym (turned (planBytes 1 p) lent p (as-accepted 1 (planBytes 1 p) p (again s 2 1 p r tt costs)))
+    ∙ sym (turned (planBytes 1 p) lent p (as-accepted 1 (planBytes 1 p) p (again-as s 2 1 p r tt costs)))
     ∙ ap (λ t. written t (length t) lent) (read-write s (record { form = 2; plan = p }) h r)

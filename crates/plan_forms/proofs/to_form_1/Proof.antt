@@ -8,9 +8,10 @@ use borrow.Author.Tests.{not-true, not-false}
 use Rattle.plan.specs.Rules.{costsFit}
 use Rattle.plan.proofs.Laws.Lists.{of-true}
 use Rattle.plan.proofs.Laws.Found.{ruled-in}
+use Rattle.plan_writer.proofs.Laws.ReadBack.{no-count}
 use Rattle.plan_forms.specs.Given.{PlanAs}
 use Rattle.plan_forms.proofs.Laws.Reading.{found-as, none-as}
-use Rattle.plan_forms.proofs.Laws.Turned.{no-count, turns-back-down, costs-down, turned-back, converted}
+use Rattle.plan_forms.proofs.Laws.Turned.{turns-back-down, costs-down, turned-back, converted}
 use Rattle.plan_forms.proofs.to_form_1.Statement.{statement}
 use Rattle.plan_forms.proofs.to_form_1.Tie as tie
 
@@ -35,7 +36,7 @@ returns : tie.Need-returns
 returns c =
     let k = c .before in
     let r = read (k .before .before .before) in
-    (costs-down _ _ _ (r .told) (sym (k .costs-one .ensures (r .is) (r .held)) ∙ not-true _ (c .if1 .taken)), no-count _ _ _ _ _)
+    (costs-down _ _ _ (r .told) (sym (k .costs-one .ensures (r .is) (r .held)) ∙ not-true _ (c .if1 .taken)), no-count _ _)
 
 -- all costs are 1
 plain : (c : tie.Else1) → let r = read (c .before .before .before .before) in costsFit 1 (r .is) ≡ true
@@ -47,7 +48,7 @@ encode-requires c κs = let r = read (c .before .before .before .before .before 
 returns-2 : tie.Need-returns-2
 returns-2 c =
     let d = c .before in
-    (turns-back-down _ _ _ (none-as _ _ _ _ (d .before .before .read-as .ensures) _ (d .cause .given .1)), no-count _ _ _ _ _)
+    (turns-back-down _ _ _ (none-as _ _ _ _ (d .before .before .read-as .ensures) _ (d .cause .given .1)), no-count _ _)
 
 same-length : tie.Need-same-length
 same-length c = search needs

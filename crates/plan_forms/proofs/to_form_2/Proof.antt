@@ -5,9 +5,10 @@ use denote.Ref.{now}
 use borrow.Author.Needs.{needs}
 use Rattle.plan.specs.Rules.{costsFit}
 use Rattle.plan.proofs.Laws.Found.{ruled-in}
+use Rattle.plan_writer.proofs.Laws.ReadBack.{no-count}
 use Rattle.plan_forms.specs.Given.{PlanAs}
 use Rattle.plan_forms.proofs.Laws.Reading.{found-as, none-as}
-use Rattle.plan_forms.proofs.Laws.Turned.{no-count, turns-down, turned, converted}
+use Rattle.plan_forms.proofs.Laws.Turned.{turns-down, turned, converted}
 use Rattle.plan_forms.proofs.to_form_2.Statement.{statement}
 use Rattle.plan_forms.proofs.to_form_2.Tie as tie
 
@@ -31,7 +32,7 @@ encode-requires c κs = let r = read (c .before .before .before) in ((r .is, rul
 returns : tie.Need-returns
 returns c =
     let d = c .before in
-    (turns-down _ _ _ (none-as _ _ _ _ (d .before .before .read-as .ensures) _ (d .cause .given .1)), no-count _ _ _ _ _)
+    (turns-down _ _ _ (none-as _ _ _ _ (d .before .before .read-as .ensures) _ (d .cause .given .1)), no-count _ _)
 
 same-length : tie.Need-same-length
 same-length c = search needs

@@ -8,19 +8,16 @@ use native.Mathlib.Nat.{suc-mul, one-mul, mul-le-mul-right, pow-le-pow-right, po
 use lib.Dec.{T, eqb, leb, eqb→eq, eqb-refl, leb→le, le→leb}
 use lib.ListN.{length}
 use Rattle.plan.specs.Test.{both, either}
-use Rattle.plan.specs.Plan.{Plan, Placed, noPlaced, size, action, placed, parent, spawnAt, enters}
+use Rattle.plan.specs.Plan.{Plan, Placed, noPlaced, size, placed, parent, spawnAt, enters}
 use Rattle.plan_measure.specs.Measure.{mustFollow, Member}
 use Rattle.plan.proofs.Laws.Lists.{both-intro, both-left, both-right}
 use Rattle.plan.proofs.Laws.Counts.{either-left, either-right}
+pub use Rattle.plan.proofs.Laws.Placed.{act}
 use Rattle.plan.proofs.Laws.Placed.{Stands, placed-at, placed-of, placed-length, place-below, start}
 use Rattle.plan_measure.proofs.Laws.Largest.{member-at, member-place}
 use Rattle.plan.specs.Rules.{Accepted}
 use Rattle.plan.proofs.Laws.Valid.{older, spawned-once, join-target, size-range}
 use Rattle.plan_measure.proofs.Laws.Paths.{along, along-parent}
-
--- action i of job j with its job and position
-abbrev pub act : Plan → ℕ → ℕ → Placed
-act p j i = record { job = j; position = i; spawn = action p j i .spawn; join = action p j i .join; cost = action p j i .cost }
 
 pub act-member : (p : Plan) (j i : ℕ) → j < length p → i < size p j → Member (act p j i) (placed p)
 act-member p j i h b =

@@ -3,7 +3,7 @@
 --   row-zero     == none of a job's actions, where the job alone tells
 --   from-zero, from-once == none, at most one
 --   from-within  == no more than in another plan whose actions stand at the same places
-use Prim.Native.Nat.{ℕ, zero, suc, _+_, _≤_, _<_}
+use Prim.Native.Nat.{ℕ, suc, _+_, _≤_, _<_}
 use mathlib.Core.Path.{_≡_, refl, ap, sym, _∙_}
 use mathlib.Core.Bool.{Bool}
 use mathlib.Core.List.{List, [], _∷_}

@@ -1,20 +1,18 @@
 -- The pair of two plans keeps the join rules.
+--   root-sends == the one join of an old root
 --   sends-in   == what a join of a job of the one plan is
 --   enters-in  == no more joins enter an action of the one plan than before
 --   enters-top == at most one from each old root enters an action of the new root
 --   pair-joins == the join rules
 use Prim.Native.Nat.{ℕ, zero, suc, _+_, _-_, _≤_, _<_}
 use mathlib.Core.Path.{_≡_, refl, ap, sym, _∙_}
-use mathlib.Core.Logic.{_≢_, _⊎_, inl, inr}
-use mathlib.Core.Bool.{Bool}
-use mathlib.Core.List.{List}
 use native.Mathlib.Omega.{arith}
 use native.Mathlib.Nat.{not-suc-le-zero}
 use native.Mathlib.Decide.{decLt}
 use lib.Dec.{T}
-use lib.ListN.{length, getD}
+use lib.ListN.{length}
 use Rattle.plan.specs.Test.{count}
-use Rattle.plan.specs.Plan.{Plan, Placed, job, size, action, total, placed, placedIn, placedFrom, noPlaced, parent, spawnAt, enters, entering}
+use Rattle.plan.specs.Plan.{Plan, Placed, job, size, action, placedFrom, parent, spawnAt, enters, entering}
 use Rattle.plan.specs.Rules.{joinRules, Accepted}
 use Rattle.plan.proofs.Laws.Enters.{enters-by, enters-is}
 use Rattle.plan.proofs.Laws.Ruling.{joining-by}
@@ -26,7 +24,6 @@ use Rattle.plan_pair.proofs.Laws.Counting.{from, row-zero, from-zero, f
 use Rattle.plan_pair.proofs.Laws.Spawns.{root-parent, part-parent}
 use Rattle.plan_measure.proofs.Laws.Follows.{act}
 
--- the one join of an old root
 module _ (d : ℕ) (p : Plan) (ok : Accepted p) where
   pub root-sends : (i t : ℕ) → i < size p 0 → action (under d p) 0 i .join ≡ suc t → (suc i ≡ size p 0) × (t ≡ 4)
   root-sends i t b e = go (decLt (suc i) (size p 0))

@@ -2,19 +2,19 @@
 --   raised-some            == the number of a child that there is
 --   target-last, target-other == where an action then sends its join
 --   job-place, job-room, action-given == where a job stands, that there is room for it, and for an action of it
+--   first-rows, first-jobs == the array with the first so many actions of a job, or jobs of a plan; rows-none, jobs-none == with none
 --   action-more, job-whole == one action more of a job, and a job once all its actions are laid
 --   root-whole             == the new root
 --   job-more, jobs-whole   == one job more of a plan, and all of them
-use Prim.Native.Nat.{ℕ, zero, suc, _+_, _-_, _≤_, _<_}
+use Prim.Native.Nat.{ℕ, zero, suc, _+_, _≤_, _<_}
 use mathlib.Core.Path.{_≡_, refl, ap, sym, _∙_}
-use mathlib.Core.Bool.{true, false}
-use mathlib.Core.List.{List, [], _∷_, _++_}
+use mathlib.Core.List.{List}
 use native.Mathlib.Omega.{arith}
 use native.Mathlib.Decide.{decLt}
-use lib.ListN.{length, getD, take, length-take}
+use lib.ListN.{length, take, length-take}
 use lib.Seq.{take-suc, take-all}
 use borrow.Author.Tests.{eq-eqb, ne-eqb}
-use Rattle.plan.specs.Plan.{Action, Job, Plan, job, size, action, total, noAction, noJob}
+use Rattle.plan.specs.Plan.{Action, Plan, job, size, action, total, noAction, noJob}
 use Rattle.plan.specs.Progress.{withActions, withJob, withJobs}
 use Rattle.plan.specs.Sheet.{childAt, targetAt, costAt, frameOf, firstOf, withAction, withFrame, withFirst}
 use Rattle.plan.proofs.Laws.Laid.{laid-end, laid-child, laid-target, laid-cost}

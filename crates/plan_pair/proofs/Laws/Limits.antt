@@ -12,8 +12,7 @@ use borrow.Author.Tests.{le-leb, lt-leb}
 use Rattle.plan.specs.Test.{both}
 use Rattle.plan.specs.Plan.{Plan, total}
 use Rattle.plan.proofs.Laws.Lists.{both-left, both-right}
-use Rattle.plan_pair.specs.Pair.{paired, pairFits}
-use Rattle.plan_pair.specs.Given.{inLimits}
+use Rattle.plan_pair.specs.Pair.{paired, pairFits, inLimits}
 use Rattle.plan_pair.proofs.Laws.Pairing.{paired-length, paired-total}
 
 module _ (frame jobs actions : ℕ) where

@@ -1,25 +1,26 @@
 -- Two plans below one root: what every law of this crate speaks of. A law is said of the one plan and holds of the other by
 -- `swapped`.
 --   Part d s p r           == the plan p stands in the plan r from job d on, and the action at position s of r's root spawns its root
---   part-size, ..          == what stands there, by job and position
+--   part-size, .., root-last == what stands there, by job and position
 --   Whose d e p q j        == whose job j is: the new root, or a job of p or of q, which stand from jobs d and e on
 --   Pairing d e s u p q r  == the plan r is a root of five actions of cost 1 with p and q below it
---   paired-pairing         == so it is with the pair of two plans
+--   paired-length, paired-total, paired-placed == the pair's counts, and its actions in plan order
+--   paired-pairing         == it is such a plan
 use Prim.Native.Nat.{ℕ, zero, suc, _+_, _-_, _≤_, _<_}
 use mathlib.Core.Path.{_≡_, refl, ap, sym, _∙_}
 use mathlib.Core.Logic.{_≢_}
 use mathlib.Core.Bool.{Bool}
-use mathlib.Core.List.{List, [], _∷_, _++_}
+use mathlib.Core.List.{_++_}
 use native.Mathlib.Omega.{arith}
 use native.Mathlib.Decide.{decLt}
 use lib.ListN.{length, getD, length-append, List·getD-append}
 use lib.Seq.{getD-append-add}
 use Rattle.plan.specs.Test.{count}
-use Rattle.plan.specs.Plan.{Job, Plan, Placed, job, size, action, total, placed, placedIn, placedFrom, noAction, noJob}
+use Rattle.plan.specs.Plan.{Plan, Placed, job, size, action, total, placed, placedIn, placedFrom, noAction, noJob}
 use Rattle.plan.proofs.Laws.Counts.{count-append}
 use Rattle.plan.proofs.Laws.Placed.{placedFrom-append, total-append}
 use Rattle.plan_pair.specs.Pair.{under, newRoot, paired}
-use Rattle.plan_pair.proofs.Laws.Under.{under-length, under-size, under-frame, under-cost, under-none, under-child, under-join, under-other, under-last, under-total}
+use Rattle.plan_pair.proofs.Laws.Under.{under-length, under-size, under-frame, under-cost, under-none, under-child, under-join, under-last, under-total}
 
 pub record Part (d s : ℕ) (p r : Plan) : Type 0 where
   pub some : 1 ≤ d
@@ -52,9 +53,6 @@ module _ {d s : ℕ} {p r : Plan} (t : Part d s p r) (k : ℕ) (h : k < length p
     part-join l = ap (λ a. a .join) part-action ∙ under-join d p k i l
 
 module _ {d s : ℕ} {p r : Plan} (t : Part d s p r) (h : 0 < length p) (i : ℕ) where
-  pub root-other : suc i < size p 0 → action r (d + 0) i .join ≡ action p 0 i .join
-  root-other l = ap (λ a. a .join) (part-action t 0 h i) ∙ under-other d p i l
-
   pub root-last : suc i ≡ size p 0 → action r (d + 0) i .join ≡ 5
   root-last e = ap (λ a. a .join) (part-action t 0 h i) ∙ under-last d p i e
 

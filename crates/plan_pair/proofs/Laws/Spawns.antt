@@ -7,7 +7,7 @@
 --   top-only     == who has the new root as its parent is an old root
 use Prim.Native.Nat.{ℕ, zero, suc, _+_, _≤_, _<_}
 use mathlib.Core.Path.{_≡_, refl, ap, sym, _∙_}
-use mathlib.Core.Logic.{_≢_, _⊎_, inl, inr}
+use mathlib.Core.Logic.{_⊎_, inl, inr}
 use native.Mathlib.Omega.{arith}
 use native.Mathlib.Nat.{not-suc-le-zero}
 use native.Mathlib.Decide.{ℕ-discrete}
@@ -22,7 +22,7 @@ use Rattle.plan_pair.proofs.Laws.Pairing.{Part, part-size, part-none, p
 
 -- a child in the one plan is a job of it, under its new number
 module _ {d s : ℕ} {p r : Plan} (t : Part d s p r) (ok : Accepted p) where
-  pub child-of : (j i c : ℕ) → j < length p → i < size p j → action r (d + j) i .spawn ≡ suc c
+  child-of : (j i c : ℕ) → j < length p → i < size p j → action r (d + j) i .spawn ≡ suc c
       → (n : ℕ) × (c ≡ d + n) × (1 ≤ n) × (n < length p) × (parent p n ≡ j) × (spawnAt p n ≡ i)
   child-of j i c h b e = go (action p j i .spawn) refl
     where
@@ -66,7 +66,7 @@ module _ {d e s u : ℕ} {p q r : Plan} (t : Pairing d e s u p q r) (ok : Accept
             let (c, g, o, c-known, is, at) = child-of (t .two) ok′ n i (d + k) l m (rw x at f) in
             absurd (t .apart k c h c-known g)
 
-  pub spawned-in : (k : ℕ) → k < length p → Spawner r (d + k)
+  spawned-in : (k : ℕ) → k < length p → Spawner r (d + k)
   spawned-in zero h = record {
     job = 0;
     position = s;
@@ -134,7 +134,7 @@ module _ {d e s u : ℕ} {p q r : Plan} (t : Pairing d e s u p q r) (ok : Accept
   part-parent (suc c) o h = parent-of (d + suc c) (spawned-in t ok ok′ (suc c) h)
 
 -- whose child a job is
-pub data Kin (d e : ℕ) (p q r : Plan) (c : ℕ) : Type 0 where
+data Kin (d e : ℕ) (p q r : Plan) (c : ℕ) : Type 0 where
   root-one : c ≡ d + 0 → parent r c ≡ 0 → Kin d e p q r c
   root-two : c ≡ e + 0 → parent r c ≡ 0 → Kin d e p q r c
   in-one : (n : ℕ) → 1 ≤ n → n < length p → c ≡ d + n → parent r c ≡ d + parent p n → Kin d e p q r c

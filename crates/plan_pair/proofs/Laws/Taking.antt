@@ -1,5 +1,5 @@
 -- Reading a plan and laying it below the new root, by what was read.
---   took-by    == what is told of it
+--   took-by    == what is told of it; read-few == it has at most 256 jobs and 2,048 actions
 --   lays-by    == within the limits there is room for it
 --   not-within == beyond them nothing is asked
 --   first-laid == the first plan, behind the new root
@@ -26,8 +26,8 @@ use Rattle.plan.proofs.Laws.Found.{counts-few}
 use Rattle.plan.proofs.Laws.Lists.{of-true}
 use Rattle.plan.proofs.Laws.Sheets.{jobs-append, laid-all}
 use Rattle.plan.proofs.Laws.Valid.{jobs-range, total-range}
-use Rattle.plan_pair.specs.Pair.{under, newRoot, paired, pairFits}
-use Rattle.plan_pair.specs.Given.{inLimits, Lays, FirstLaid, SecondLaid, Took, Taken}
+use Rattle.plan_pair.specs.Pair.{under, newRoot, paired, pairFits, inLimits}
+use Rattle.plan_pair.specs.Given.{Lays, FirstLaid, SecondLaid, Took, Taken}
 use Rattle.plan_pair.proofs.Laws.Accepting.{fits-told, pair-accepted}
 use Rattle.plan_pair.proofs.Laws.Limits.{limits-told, limits-less, fits-limits}
 use Rattle.plan_pair.proofs.Laws.Pairing.{paired-length, paired-total}

@@ -13,12 +13,10 @@ use Rattle.plan.specs.Plan.{Plan, size, action, parent, spawnAt}
 use Rattle.plan.specs.Rules.{Accepted}
 use Rattle.plan_measure.specs.Measure.{longest}
 use Rattle.plan_measure.specs.Times.{ends, begins}
-use Rattle.plan.proofs.Laws.Spawning.{cost-in-range}
-use Rattle.plan.proofs.Laws.Valid.{jobs-range, size-range, older, spawned-there, join-target}
+use Rattle.plan.proofs.Laws.Valid.{jobs-range, size-range, older, spawned-there}
 use Rattle.plan_measure.proofs.Laws.Follows.{act, rank, rank-falls, Acts, Follows, next, born, joined}
 use Rattle.plan_measure.proofs.Laws.Times.{begins-spawn, ends-next, begins-first, begins-before, ends-sent, ends-within, longest-ends}
-use Rattle.plan_measure.proofs.Laws.Parallel.{longest-some}
-use Rattle.plan_pair.proofs.Laws.Pairing.{part-size, part-action, part-cost, part-join, root-last, Whose, top, mine, theirs, Pairing, swapped}
+use Rattle.plan_pair.proofs.Laws.Pairing.{part-size, part-action, part-cost, part-join, root-last, Pairing, swapped}
 use Rattle.plan_pair.proofs.Laws.Spawns.{root-parent, part-parent, part-only, top-only}
 use Rattle.plan_pair.proofs.Laws.Joins.{root-sends}
 

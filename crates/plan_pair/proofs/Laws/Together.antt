@@ -1,12 +1,10 @@
 -- What document 02, L9, asks to be proved of every two accepted plans and every W within the limits.
 --   together == T1, S1 and T∞ of the pair
-use Prim.Native.Nat.{ℕ, _+_, _≤_, max}
-use mathlib.Core.Path.{_≡_, _∙_}
+use Prim.Native.Nat.{ℕ}
+use mathlib.Core.Path.{_∙_}
 use native.Mathlib.Omega.{arith}
-use lib.ListN.{length}
 use Rattle.plan.specs.Plan.{Plan}
 use Rattle.plan.specs.Rules.{Accepted}
-use Rattle.plan_measure.specs.Measure.{heaviest, longest}
 use Rattle.plan_measure.proofs.Laws.Parallel.{longest-some}
 use Rattle.plan_pair.specs.Pair.{paired, Together}
 use Rattle.plan_pair.proofs.Laws.Pairing.{paired-pairing}

@@ -1,21 +1,17 @@
 -- A plan's jobs below the new root, by job and position.
 --   under-length, under-size, under-frame, under-cost == what stays
---   under-none, under-child == what is spawned: nothing where nothing was, and else the same job under its new number
+--   under-spawn, under-none, under-child == what is spawned: nothing where nothing was, and else the same job under its new number
 --   under-join  == a join of a job that is no root stays; of the old root: under-other, under-last
 --   under-total, under-start == the places of the actions stay
 use Prim.Native.Nat.{ℕ, zero, suc, _+_, _≤_, _<_}
-use mathlib.Core.Path.{_≡_, refl, ap, sym, _∙_}
-use mathlib.Core.List.{List, [], _∷_, _++_, map}
+use mathlib.Core.Path.{_≡_, refl, ap, _∙_}
+use mathlib.Core.List.{List, [], _∷_, map}
 use native.Mathlib.Omega.{arith}
 use native.Mathlib.Nat.{not-suc-le-zero, le-of-suc-le-suc}
-use lib.ListN.{length, getD, take, List·getD-map}
+use lib.ListN.{length, getD, length-map, List·getD-map}
 use Rattle.plan.specs.Plan.{Action, Job, Plan, job, size, action, total, noAction, noJob}
 use Rattle.plan.proofs.Laws.Placed.{start}
 use Rattle.plan_pair.specs.Pair.{raised, raisedJob, joining, under}
-
-map-long : {A B : Type 0} (f : A → B) (l : List A) → length (map f l) ≡ length l
-map-long f [] = refl
-map-long f (x ∷ l) = ap suc (map-long f l)
 
 -- the row whose last action joins
 joining-long : (l : List Action) → length (joining l) ≡ length l
@@ -23,19 +19,14 @@ joining-long [] = refl
 joining-long (a ∷ []) = refl
 joining-long (a ∷ (b ∷ l)) = ap suc (joining-long (b ∷ l))
 
-joining-spawn : (l : List Action) (i : ℕ) → getD (joining l) i noAction .spawn ≡ getD l i noAction .spawn
-joining-spawn [] i = refl
-joining-spawn (a ∷ []) zero = refl
-joining-spawn (a ∷ []) (suc i) = refl
-joining-spawn (a ∷ (b ∷ l)) zero = refl
-joining-spawn (a ∷ (b ∷ l)) (suc i) = joining-spawn (b ∷ l) i
-
-joining-cost : (l : List Action) (i : ℕ) → getD (joining l) i noAction .cost ≡ getD l i noAction .cost
-joining-cost [] i = refl
-joining-cost (a ∷ []) zero = refl
-joining-cost (a ∷ []) (suc i) = refl
-joining-cost (a ∷ (b ∷ l)) zero = refl
-joining-cost (a ∷ (b ∷ l)) (suc i) = joining-cost (b ∷ l) i
+-- but for its join an action stays
+module _ (f : Action → ℕ) (same : (a : Action) (t : ℕ) → f (record { spawn = a .spawn; join = t; cost = a .cost }) ≡ f a) where
+  joining-keeps : (l : List Action) (i : ℕ) → f (getD (joining l) i noAction) ≡ f (getD l i noAction)
+  joining-keeps [] i = refl
+  joining-keeps (a ∷ []) zero = same a 5
+  joining-keeps (a ∷ []) (suc i) = refl
+  joining-keeps (a ∷ (b ∷ l)) zero = refl
+  joining-keeps (a ∷ (b ∷ l)) (suc i) = joining-keeps (b ∷ l) i
 
 joining-other : (l : List Action) (i : ℕ) → suc i < length l → getD (joining l) i noAction .join ≡ getD l i noAction .join
 joining-other [] i h = absurd (not-suc-le-zero h)
@@ -59,12 +50,12 @@ module _ (d : ℕ) where
 
   pub under-length : (p : Plan) → length (under d p) ≡ length p
   under-length [] = refl
-  under-length (b ∷ bs) = ap suc (map-long (raisedJob d) bs)
+  under-length (b ∷ bs) = ap suc (length-map bs (raisedJob d))
 
   pub under-size : (p : Plan) (j : ℕ) → size (under d p) j ≡ size p j
   under-size [] j = refl
-  under-size (b ∷ bs) zero = joining-long (map (raised d) (b .actions)) ∙ map-long (raised d) (b .actions)
-  under-size (b ∷ bs) (suc j) = rw raisedJob-at (map-long (raised d) (job bs j .actions))
+  under-size (b ∷ bs) zero = joining-long (map (raised d) (b .actions)) ∙ length-map (b .actions) (raised d)
+  under-size (b ∷ bs) (suc j) = rw raisedJob-at (length-map (job bs j .actions) (raised d))
 
   pub under-frame : (p : Plan) (j : ℕ) → job (under d p) j .frame ≡ job p j .frame
   under-frame [] j = refl
@@ -73,12 +64,12 @@ module _ (d : ℕ) where
 
   pub under-cost : (p : Plan) (j i : ℕ) → action (under d p) j i .cost ≡ action p j i .cost
   under-cost [] j i = refl
-  under-cost (b ∷ bs) zero i = joining-cost (map (raised d) (b .actions)) i ∙ ap (λ a. a .cost) (raised-at (b .actions) i)
+  under-cost (b ∷ bs) zero i = joining-keeps (λ a. a .cost) (λ a t. refl) (map (raised d) (b .actions)) i ∙ ap (λ a. a .cost) (raised-at (b .actions) i)
   under-cost (b ∷ bs) (suc j) i = rw (raisedJob-at, raised-at)
 
   pub under-spawn : (p : Plan) (j i : ℕ) → action (under d p) j i .spawn ≡ raised d (action p j i) .spawn
   under-spawn [] j i = refl
-  under-spawn (b ∷ bs) zero i = joining-spawn (map (raised d) (b .actions)) i ∙ ap (λ a. a .spawn) (raised-at (b .actions) i)
+  under-spawn (b ∷ bs) zero i = joining-keeps (λ a. a .spawn) (λ a t. refl) (map (raised d) (b .actions)) i ∙ ap (λ a. a .spawn) (raised-at (b .actions) i)
   under-spawn (b ∷ bs) (suc j) i = rw (raisedJob-at, raised-at)
 
   pub under-none : (p : Plan) (j i : ℕ) → action p j i .spawn ≡ 0 → action (under d p) j i .spawn ≡ 0
@@ -95,15 +86,15 @@ module _ (d : ℕ) where
   pub under-other : (p : Plan) (i : ℕ) → suc i < size p 0 → action (under d p) 0 i .join ≡ action p 0 i .join
   under-other [] i h = absurd (not-suc-le-zero h)
   under-other (b ∷ bs) i h =
-      joining-other (map (raised d) (b .actions)) i (omega (arith, map-long (raised d) (b .actions))) ∙ ap (λ a. a .join) (raised-at (b .actions) i)
+      joining-other (map (raised d) (b .actions)) i (omega (arith, length-map (b .actions) (raised d))) ∙ ap (λ a. a .join) (raised-at (b .actions) i)
 
   pub under-last : (p : Plan) (i : ℕ) → suc i ≡ size p 0 → action (under d p) 0 i .join ≡ 5
   under-last [] i h = absurd (omega arith)
-  under-last (b ∷ bs) i h = joining-last (map (raised d) (b .actions)) i (omega (arith, map-long (raised d) (b .actions)))
+  under-last (b ∷ bs) i h = joining-last (map (raised d) (b .actions)) i (omega (arith, length-map (b .actions) (raised d)))
 
   raised-total : (p : Plan) → total (map (raisedJob d) p) ≡ total p
   raised-total [] = refl
-  raised-total (b ∷ bs) = omega (arith, map-long (raised d) (b .actions), raised-total bs)
+  raised-total (b ∷ bs) = omega (arith, length-map (b .actions) (raised d), raised-total bs)
 
   pub under-total : (p : Plan) → total (under d p) ≡ total p
   under-total [] = refl
@@ -113,7 +104,7 @@ module _ (d : ℕ) where
   raised-start [] zero = refl
   raised-start [] (suc j) = refl
   raised-start (b ∷ bs) zero = refl
-  raised-start (b ∷ bs) (suc j) = omega (arith, map-long (raised d) (b .actions), raised-start bs j)
+  raised-start (b ∷ bs) (suc j) = omega (arith, length-map (b .actions) (raised d), raised-start bs j)
 
   pub under-start : (p : Plan) (j : ℕ) → start (under d p) j ≡ start p j
   under-start [] j = refl

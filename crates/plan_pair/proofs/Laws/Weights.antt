@@ -2,14 +2,14 @@
 --   part-path  == a job's path weight is what it was and the new root's frame
 --   pair-space == S1
 use Prim.Native.Nat.{ℕ, zero, suc, _+_, _≤_, _<_, max}
-use mathlib.Core.Path.{_≡_, refl, ap, sym, _∙_}
+use mathlib.Core.Path.{_≡_, ap}
 use native.Mathlib.Omega.{arith}
 use native.Mathlib.Nat.{not-suc-le-zero, le-antisymm}
 use lib.ListN.{length}
 use Rattle.plan.specs.Plan.{Plan, job, parent}
 use Rattle.plan.specs.Rules.{Accepted}
 use Rattle.plan_measure.specs.Measure.{path, heaviest}
-use Rattle.plan.proofs.Laws.Valid.{jobs-range, older}
+use Rattle.plan.proofs.Laws.Valid.{older}
 use Rattle.plan_measure.proofs.Laws.Paths.{path-root, path-parent, path-heaviest, heaviest-attained}
 use Rattle.plan_pair.proofs.Laws.Pairing.{part-frame, Whose, top, mine, theirs, Pairing, swapped}
 use Rattle.plan_pair.proofs.Laws.Spawns.{root-parent, part-parent}

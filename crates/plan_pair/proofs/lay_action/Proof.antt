@@ -1,7 +1,6 @@
 -- `plan_pair::lay_action` meets its contract: each number is what its function tells.
-use mathlib.Core.Path.{ap, _∙_}
+use mathlib.Core.Path.{_∙_}
 use borrow.Author.Needs.{needs}
-use Rattle.plan_pair.specs.Pair.{raisedChild}
 use Rattle.plan_pair.proofs.lay_action.Statement.{statement}
 use Rattle.plan_pair.proofs.lay_action.Tie as tie
 

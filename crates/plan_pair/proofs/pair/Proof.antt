@@ -9,11 +9,12 @@ use borrow.Author.Needs.{needs}
 use borrow.Author.Tests.{not-true, not-false}
 use Rattle.plan.specs.Sheet.{RuledIn}
 use Rattle.plan.proofs.Laws.Lists.{of-true}
+use Rattle.plan_writer.proofs.Laws.ReadBack.{no-count}
 use Rattle.plan_pair.specs.Pair.{paired, pairFits}
 use Rattle.plan_pair.specs.Given.{FirstLaid, SecondLaid, Took}
 use Rattle.plan_pair.proofs.Laws.Limits.{fits-limits}
 use Rattle.plan_pair.proofs.Laws.Taking.{taken-plan, taken-none, took-kept, took-few, both-laid}
-use Rattle.plan_pair.proofs.Laws.Answers.{no-result, first-down, second-down, limits-down, pair-written, pair-result}
+use Rattle.plan_pair.proofs.Laws.Answers.{first-down, second-down, limits-down, pair-written, pair-result}
 use Rattle.plan_pair.proofs.pair.Statement.{statement}
 use Rattle.plan_pair.proofs.pair.Tie as tie
 
@@ -89,7 +90,7 @@ returns c =
     let o = c .before .before .before in
     let a = one (form o) in
     let b = two o in
-    (limits-down _ _ _ _ _ (a .read) _ (b .read) (sym (fits (c .before)) ∙ not-true _ (c .if1 .taken)), no-result _ _ _ _ _)
+    (limits-down _ _ _ _ _ (a .read) _ (b .read) (sym (fits (c .before)) ∙ not-true _ (c .if1 .taken)), no-count _ _)
 
 form-of-requires : tie.Need-form-of-requires
 form-of-requires c κs = search needs
@@ -117,14 +118,14 @@ encode-requires c κs =
 returns-2 : tie.Need-returns-2
 returns-2 c =
     let d = c .before in
-    (first-down _ _ _ _ _ (taken-none _ _ _ (d .before .before .lay-first .ensures) _ (d .cause .given .1)), no-result _ _ _ _ _)
+    (first-down _ _ _ _ _ (taken-none _ _ _ (d .before .before .lay-first .ensures) _ (d .cause .given .1)), no-count _ _)
 
 returns-3 : tie.Need-returns-3
 returns-3 c =
     let d = c .before in
     let l = d .before .before in
     let a = one (l .before .before .before) in
-    (second-down _ _ _ _ _ (a .read) _ (taken-none _ _ _ (l .lay-second .ensures) _ (d .cause2 .given .1)), no-result _ _ _ _ _)
+    (second-down _ _ _ _ _ (a .read) _ (taken-none _ _ _ (l .lay-second .ensures) _ (d .cause2 .given .1)), no-count _ _)
 
 same-length : tie.Need-same-length
 same-length c = search needs

@@ -12,28 +12,18 @@ use native.Mathlib.Omega.{arith}
 use lib.ListN.{length, getD}
 use lib.Dec.{T, eqb, leb, leb→le, le→leb, eqb→eq}
 use borrow.Author.Tests.{eqb-true, eqb-false}
-use Rattle.plan.specs.Test.{both, all}
-use Rattle.plan.specs.Plan.{Job, Plan, job, size, action, total, placed, noAction, noJob, noPlaced}
-use Rattle.plan.specs.Rules.{costInRange, jobInRange, inRange, costsFit}
+use Rattle.plan.specs.Test.{both}
+use Rattle.plan.specs.Plan.{Plan, job, size, action, total, placed, noPlaced}
+use Rattle.plan.specs.Rules.{inRange, costsFit}
 use Rattle.plan_table.specs.Table.{Row, rowsOf, rowRules, planOf}
 use Rattle.plan_table.specs.GivenRows.{rowAt, TableKept, costStands, ranged, RowFits}
-use Rattle.plan.proofs.Laws.Lists.{both-intro, both-left, both-right, all-by, false-of}
+use Rattle.plan.proofs.Laws.Lists.{both-intro, both-left, both-right, false-of}
 use Rattle.plan.proofs.Laws.Placed.{start, place-below, placed-at, placed-of}
+use Rattle.plan.proofs.Laws.Ruling.{ranged-by}
 use Rattle.plan.proofs.Laws.Spawning.{jobs-in-range, size-in-range, frame-in-range, cost-in-range, total-in-range}
 use Rattle.plan.proofs.Laws.Steps.{bool-cases}
 use Rattle.plan_writer.proofs.Laws.Costs.{cost-one, costs-at, costs-by}
-use Rattle.plan_table.proofs.Laws.Rows.{
-  noRow,
-  rowsOf-at,
-  rowsOf-length,
-  rowsFrom,
-  rowsFrom-length,
-  rowPlaced,
-  row-placed,
-  Filled,
-  filled-at,
-  plan-rows,
-}
+use Rattle.plan_table.proofs.Laws.Rows.{noRow, rowsOf-at, rowsOf-length, rowsFrom, rowsFrom-length, rowPlaced, row-placed, Filled, filled-at, plan-rows}
 
 -- a cost stands where it is 1 to 15, and in form 1 where it is 1
 
@@ -55,29 +45,6 @@ module _ (form cost : ℕ) where
   stands some few plain =
       bool-cases (eqb form 1) (λ g. rw (costStands, g) (cost-one cost (plain (eqb-true form 1 g)))) (λ g.
       rw (costStands, g) (both-intro (leb 1 cost) (leb cost 15) (le→leb 1 cost some) (le→leb cost 15 few)))
-
-range-in : (p : Plan) → 1 ≤ length p → length p ≤ 256
-    → ((j : ℕ) → j < length p → (1 ≤ job p j .frame) × (job p j .frame ≤ 65535) × (1 ≤ size p j) × (size p j ≤ 255))
-    → ((j i : ℕ) → j < length p → i < size p j → (1 ≤ action p j i .cost) × (action p j i .cost ≤ 15)) → total p ≤ 2048 → T (inRange p)
-unfolding inRange
-range-in p some jobs each costs actions =
-    both-intro (both (leb 1 (length p)) (leb (length p) 256)) (both (all jobInRange p) (leb (total p) 2048))
-    (both-intro (leb 1 (length p)) (leb (length p) 256) (le→leb 1 (length p) some) (le→leb (length p) 256 jobs))
-    (both-intro (all jobInRange p) (leb (total p) 2048) (all-by jobInRange p noJob (λ j h. one (job p j) (each j h) (λ i b. costs j i h b))) (le→leb (total p) 2048 actions))
-  where
-    one : (b : Job) → (1 ≤ b .frame) × (b .frame ≤ 65535) × (1 ≤ length (b .actions)) × (length (b .actions) ≤ 255)
-        → ((i : ℕ) → i < length (b .actions) → (1 ≤ getD (b .actions) i noAction .cost) × (getD (b .actions) i noAction .cost ≤ 15)) → T (jobInRange b)
-    one b t costs =
-        let n = length (b .actions) in
-        let frames = both (leb 1 (b .frame)) (leb (b .frame) 65535) in
-        let sizes = both (leb 1 n) (leb n 255) in
-        both-intro (both frames sizes) (all costInRange (b .actions))
-        (both-intro frames sizes
-        (both-intro (leb 1 (b .frame)) (leb (b .frame) 65535) (le→leb 1 (b .frame) (t .0)) (le→leb (b .frame) 65535 (t .1)))
-        (both-intro (leb 1 n) (leb n 255) (le→leb 1 n (t .2)) (le→leb n 255 (t .3))))
-        (all-by costInRange (b .actions) noAction (λ i h.
-        let c = getD (b .actions) i noAction .cost in
-        both-intro (leb 1 c) (leb c 15) (le→leb 1 c (costs i h .0)) (le→leb c 15 (costs i h .1))))
 
 pub record Sits (p : Plan) (k : ℕ) (a : Row) : Type 0 where
   pub position : ℕ
@@ -102,7 +69,7 @@ row-fits form p a k t u s =
 all-fit : (form : ℕ) (p : Plan) → Filled p → 1 ≤ total p → total p ≤ 2048
     → ((k : ℕ) → k < total p → RowFits form p (rowPlaced p (getD (placed p) k noPlaced)) k) → T (inRange p)
 all-fit form p filled some few fit =
-    range-in p (first p some) (last p (λ j h. at j 0 h (filled-at p filled j h) .few))
+    ranged-by p (first p some) (last p (λ j h. at j 0 h (filled-at p filled j h) .few))
     (λ j h.
     let s = filled-at p filled j h in
     let f = at j 0 h s in
