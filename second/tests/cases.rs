@@ -1369,12 +1369,12 @@ fn one_of_two_plans_differs_in_a_byte() {
     }
 }
 
-/// Numbers that fall as dice do, but the same at every test.
-struct Dice(u64);
+/// Numbers that look drawn by chance and are the same at every test.
+struct Random(u64);
 
-impl Dice {
+impl Random {
     /// A number from 1 up to this one.
-    fn roll(&mut self, most: u16) -> u16 {
+    fn draw(&mut self, most: u16) -> u16 {
         self.0 = self.0.wrapping_mul(0x5851_F42D_4C95_7F2D).wrapping_add(1);
         (self.0 >> 33) as u16 % most + 1
     }
@@ -1384,8 +1384,8 @@ impl Dice {
 /// up to three children one right after the other, then waits for these, then
 /// goes on with the next. Some children send two joins, some of them from an
 /// action that spawns.
-fn random_plan(dice: &mut Dice, form: u32, jobs: u16) -> Vec<u8> {
-    let parents: Vec<u16> = (1..jobs).map(|job| dice.roll(job) - 1).collect();
+fn random_plan(random: &mut Random, form: u32, jobs: u16) -> Vec<u8> {
+    let parents: Vec<u16> = (1..jobs).map(|job| random.draw(job) - 1).collect();
     // The join that each job sends, plus 1.
     let mut targets = vec![0; usize::from(jobs)];
     let mut rows = vec![];
@@ -1393,9 +1393,9 @@ fn random_plan(dice: &mut Dice, form: u32, jobs: u16) -> Vec<u8> {
         let mut children: Vec<u16> = (1..jobs)
             .filter(|&child| parents[usize::from(child) - 1] == job)
             .collect();
-        let mut spawns = vec![0; usize::from(dice.roll(3))];
+        let mut spawns = vec![0; usize::from(random.draw(3))];
         while !children.is_empty() {
-            let few = children.len().min(usize::from(dice.roll(3)));
+            let few = children.len().min(usize::from(random.draw(3)));
             let wait = spawns.len() + few + 1;
             for child in children.drain(..few) {
                 targets[usize::from(child)] = wait as u16 + 1;
@@ -1403,13 +1403,13 @@ fn random_plan(dice: &mut Dice, form: u32, jobs: u16) -> Vec<u8> {
             }
             spawns.extend([0, 0]);
         }
-        let frame = dice.roll(65_535);
-        let twice = dice.roll(2) == 2;
+        let frame = random.draw(65_535);
+        let twice = random.draw(2) == 2;
         let last = spawns.len() - 1;
         for (position, spawn) in spawns.into_iter().enumerate() {
             let sends = position == last || twice && position == last / 2;
             let target = if sends { targets[usize::from(job)] } else { 0 };
-            let cost = if form == 1 { 1 } else { dice.roll(15) };
+            let cost = if form == 1 { 1 } else { random.draw(15) };
             rows.extend([job, frame, spawn, target, cost]);
         }
     }
@@ -1417,10 +1417,10 @@ fn random_plan(dice: &mut Dice, form: u32, jobs: u16) -> Vec<u8> {
 }
 
 fn random_plans() -> Vec<Vec<u8>> {
-    let mut dice = Dice(9);
+    let mut random = Random(9);
     [1, 2, 3, 5, 8, 13, 21, 34, 55, 89, 120, 144]
         .into_iter()
-        .flat_map(|jobs| [1, 2].map(|form| random_plan(&mut dice, form, jobs)))
+        .flat_map(|jobs| [1, 2].map(|form| random_plan(&mut random, form, jobs)))
         .collect()
 }
 

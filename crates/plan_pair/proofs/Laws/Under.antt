@@ -23,7 +23,7 @@ joining-long (a ∷ (b ∷ l)) = ap suc (joining-long (b ∷ l))
 module _ (f : Action → ℕ) (same : (a : Action) (t : ℕ) → f (record { spawn = a .spawn; join = t; cost = a .cost }) ≡ f a) where
   joining-keeps : (l : List Action) (i : ℕ) → f (getD (joining l) i noAction) ≡ f (getD l i noAction)
   joining-keeps [] i = refl
-  joining-keeps (a ∷ []) zero = same a 5
+  joining-keeps (a ∷ []) zero = same a _
   joining-keeps (a ∷ []) (suc i) = refl
   joining-keeps (a ∷ (b ∷ l)) zero = refl
   joining-keeps (a ∷ (b ∷ l)) (suc i) = joining-keeps (b ∷ l) i
