@@ -9,6 +9,7 @@
 --   Pool p n r k b h c == c is the core of a pool's run of n workers in round r when the workers below k have had their turns; b are
 --                             the hands as the round began, and h those by now
 --   Manned p n k b h c == what holds of such a core and such hands
+--   pool-manned, pool-busy == so it is of a pool; while job 0 has not ended, somebody has a job
 --   pool-course            == the run of a pool is a course, steady and with the weight of n heaviest paths as its bound
 use Prim.Native.Nat.{ℕ, zero, suc, _*_, _≤_, _<_}
 use mathlib.Core.Path.{_≡_, refl, ap, sym, _∙_}
@@ -33,7 +34,7 @@ use Rattle.lines.proofs.Laws.Pool.{pool-leaves}
 use Rattle.lines.proofs.Laws.Weight.{filled-most}
 use Rattle.courses.proofs.Laws.PlanShape.{shape, shape-valid}
 use Rattle.courses.proofs.Laws.Course as Course
-use Rattle.courses.proofs.Laws.Course.{Core, cost, nextIn, spentIn, Terms, Begins, Works, Ends, Hands, Paced, Course}
+use Rattle.courses.proofs.Laws.Course.{Core, cost, nextIn, spentIn, Terms, Begins, Works, Ends, Hands, Course}
 use Rattle.courses.proofs.Laws.Kept.{course-kept}
 use Rattle.courses.proofs.Laws.Space.{leaves-space}
 
@@ -254,11 +255,11 @@ module _ (p : Plan) where
           none w l (suc j) e = absurd (omega (arith, o .known w j e))
 
       -- some job is in hand while job 0 lives
-      busy : {k : ℕ} {b h : ℕ → ℕ} {c : Core} → Manned k b h c → nextIn c 0 < size p 0 → Paced 0 0 h
-      busy {h = h} {c = c} o l =
+      pub pool-busy : {k : ℕ} {b h : ℕ → ℕ} {c : Core} → Manned k b h c → nextIn c 0 < size p 0 → (w : ℕ) × (j : ℕ) × (h w ≡ suc j)
+      pool-busy {h = h} {c = c} o l =
           let (w, x, r, e) = Cover.busy (shape p) (shape-valid p ok) (nextIn c) (lineOf h) (o .leaves)
           (record { below = jobs-range p ok .0; begun = λ z. absurd (omega arith); left = l }) in
-          inl (refl, (w, x, line-is (h w) x r e))
+          (w, x, line-is (h w) x r e)
 
       hands : {k : ℕ} {b h : ℕ → ℕ} {c : Core} → Manned 0 h h c → ((w j : ℕ) → b w ≡ suc j → w < k) → nextIn c 0 < size p 0
           → ((w j : ℕ) → h w ≡ suc j → 1 ≤ spentIn c j → b w ≡ suc j) → Hands terms k b h c
@@ -277,7 +278,7 @@ module _ (p : Plan) where
           let o = start-manned s q i in
           let goes : nextIn c 0 < size p 0 = omega (arith, s .none 0, size-range p ok 0 (jobs-range p ok .0)) in
           Course.next-round (Course.begins {b = λ w. 0} (λ w. refl) s (light o))
-          (hands o (λ w j q. absurd (omega arith)) goes (λ w j q l. absurd (omega (arith, s .fresh j)))) (busy o goes)
+          (hands o (λ w j q. absurd (omega arith)) goes (λ w j q l. absurd (omega (arith, s .fresh j)))) (inl (refl, pool-busy o goes))
       pool-course (idles t q) = Course.rests (pool-course t) q
       pool-course (works t q i s) = Course.works (pool-course t) q i s
       pool-course (passes t q i s u) = Course.ends (pool-course t) q i s (light (passes-manned q s u (pool-manned t)))
@@ -286,4 +287,4 @@ module _ (p : Plan) where
           let o′ = takes-manned s o in
           Course.next-round (pool-course t)
           (hands o′ (course-kept terms ok (pool-course t) .known) q
-          (λ w j i l. let (v, y, z) = o .begun j l in rw (← o′ .once v w j (s .keeps v j z) i) y)) (busy o′ q)
+          (λ w j i l. let (v, y, z) = o .begun j l in rw (← o′ .once v w j (s .keeps v j z) i) y)) (inl (refl, pool-busy o′ q))

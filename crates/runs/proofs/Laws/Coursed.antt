@@ -1,6 +1,7 @@
 -- A run is a course of turns, so that all that holds of courses holds of its rows and its peak.
 --   core s       == the state as a course has it
 --   handsOf b    == which job each worker has in a round that begins with the workers b: its number plus 1, or 0
+--   hands-is     == who has a job holds it
 --   terms S      == the plan, the workers and the bounds of a run's course, which is steady
 --   passed S r g == how many workers have had their turns at stage g of round r
 --   trace-course == every state of a run is one of a course
@@ -73,7 +74,7 @@ passed S r (turning k) = k
 passed S r (laying k) = countIn S r
 passed S r (serving k) = countIn S r
 
-hands-is : (x : Worker) (j : ℕ) → handsIn x ≡ suc j → x ≡ Holding j
+pub hands-is : (x : Worker) (j : ℕ) → handsIn x ≡ suc j → x ≡ Holding j
 hands-is Idle j e = absurd (omega arith)
 hands-is (Holding i) j e = ap Holding (omega arith)
 hands-is (Waiting v l) j e = absurd (omega arith)

@@ -1,0 +1,2 @@
+-- The laws of the pool of a run.
+pub mod Laws

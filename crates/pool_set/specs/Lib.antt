@@ -1,0 +1,2 @@
+-- The pool of a run.
+pub mod Pool
