@@ -3,7 +3,8 @@
 use crate::bits::Reader;
 use crate::plan::{Form, Plan};
 use crate::refusal;
-use crate::run::{schedule_length, MAX_WORKERS};
+use crate::schedule;
+use crate::work::MAX_WORKERS;
 
 /// Checks a schedule against a plan.
 pub fn check(plan: &[u8], schedule: &[u8]) -> Result<(), u32> {
@@ -28,7 +29,7 @@ impl Row {
 }
 
 fn read_schedule(form: Form, plan: &Plan, schedule: &[u8]) -> Result<(u16, Vec<Row>), u32> {
-    if schedule.len() != schedule_length(form, plan) {
+    if schedule.len() != schedule::length(form, plan) {
         return Err(refusal::SCHEDULE);
     }
     let [a, b, c, d, ref rows @ ..] = *schedule else {

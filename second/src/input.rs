@@ -2,8 +2,9 @@
 
 use crate::measure::Measures;
 use crate::plan::Plan;
-use crate::run::{check_workers, schedule_length, write_run, Tally, MAX_CHOICES};
-use crate::{measure, refusal};
+use crate::run::{check_choices, write_run, MAX_CHOICES};
+use crate::work::{check_workers, Tally};
+use crate::{measure, refusal, schedule};
 use std::fmt;
 
 const MAX_INPUT: usize = 16_384;
@@ -86,9 +87,10 @@ pub fn build(input: &[u8]) -> Result<Counts, u32> {
 
     let (form, plan) = Plan::read(plan)?;
     let workers = u32::from(workers);
-    check_workers(workers, choices)?;
+    check_workers(workers)?;
+    check_choices(workers, choices)?;
     let measures = measure::of(&plan);
-    let mut schedule = vec![0; schedule_length(form, &plan)];
+    let mut schedule = vec![0; schedule::length(form, &plan)];
     let tally = write_run(form, &plan, workers, choices, &mut schedule);
     Ok(Counts::of(tally, measures))
 }

@@ -1,54 +1,24 @@
-//! Workers, rounds and steals.
+//! Runs by work stealing.
 
 use crate::plan::{Form, Plan};
 use crate::refusal;
+use crate::schedule::{self, Behind, Rows};
+use crate::work::{check_workers, Crew, Progress, Tally, Then, MAX_WORKERS};
 
-pub const MAX_WORKERS: usize = 16;
 pub const MAX_CHOICES: usize = 4096;
 
-/// The counts of a run.
-#[derive(Clone, Copy, Debug, Default, PartialEq, Eq)]
-pub struct Tally {
-    /// Rounds, the last one with them.
-    pub rounds: u32,
-    /// Turns in which a worker worked on an action.
-    pub actions: u32,
-    /// Turns of workers that held nothing when the round began.
-    pub idle: u32,
-    /// Requests laid.
-    pub requests: u32,
-    /// Requests that got a job.
-    pub steals: u32,
-    /// Requests that got none, from a victim that held a job right then.
-    pub bare: u32,
-    /// Requests that got none, from a victim that held none.
-    pub idle_victim: u32,
-    /// The largest weight of living frames at the start or after a turn.
-    pub peak: u32,
-}
-
-/// Runs a plan, writes its schedule and gives the tally.
+/// Runs a plan by work stealing, writes its schedule and gives the tally.
 pub fn run(plan: &[u8], workers: u32, choices: &[u8], schedule: &mut [u8]) -> Result<Tally, u32> {
     let (form, plan) = Plan::read(plan)?;
-    check_workers(workers, choices)?;
+    check_workers(workers)?;
+    check_choices(workers, choices)?;
     let schedule = schedule
-        .get_mut(..schedule_length(form, &plan))
+        .get_mut(..schedule::length(form, &plan))
         .ok_or(refusal::ROOM)?;
     Ok(write_run(form, &plan, workers, choices, schedule))
 }
 
-pub fn schedule_length(form: Form, plan: &Plan) -> usize {
-    let width = match form {
-        Form::One => 16,
-        Form::Two => 20,
-    };
-    4 + (width * plan.actions.len()).div_ceil(8)
-}
-
-pub fn check_workers(workers: u32, choices: &[u8]) -> Result<(), u32> {
-    if !(1..=MAX_WORKERS as u32).contains(&workers) {
-        return Err(refusal::WORKERS);
-    }
+pub fn check_choices(workers: u32, choices: &[u8]) -> Result<(), u32> {
     if choices.len() > MAX_CHOICES
         || choices.is_empty() && workers > 1
         || choices.iter().any(|&choice| u32::from(choice) >= workers)
@@ -66,52 +36,9 @@ pub fn write_run(
     choices: &[u8],
     schedule: &mut [u8],
 ) -> Tally {
-    let (header, rows) = schedule.split_at_mut(4);
-    let fields = (form as u32) << 24 | workers << 19 | (plan.actions.len() as u32) << 7;
-    header.copy_from_slice(&fields.to_be_bytes());
-    match form {
-        Form::One => State::new(plan, workers, Short(rows)).run(choices),
-        Form::Two => {
-            // Rows share bytes with one another and with the fill.
-            rows.fill(0);
-            State::new(plan, workers, Long(rows)).run(choices)
-        }
-    }
-}
-
-/// Worker numbers as bits: a round then costs nothing for those who wait.
-#[derive(Clone, Copy)]
-struct Crew(u32);
-
-impl Crew {
-    fn with(&mut self, worker: usize) {
-        self.0 |= 1 << worker;
-    }
-
-    fn without(&mut self, worker: usize) {
-        self.0 &= !(1 << worker);
-    }
-
-    fn has(self, worker: usize) -> bool {
-        self.0 >> worker & 1 == 1
-    }
-
-    fn len(self) -> u32 {
-        self.0.count_ones()
-    }
-}
-
-impl Iterator for Crew {
-    type Item = usize;
-
-    /// Takes the lowest number.
-    fn next(&mut self) -> Option<usize> {
-        if self.0 == 0 {
-            return None;
-        }
-        let worker = self.0.trailing_zeros() as usize % MAX_WORKERS;
-        self.0 &= self.0 - 1;
-        Some(worker)
+    match schedule::begin(form, plan, workers, schedule) {
+        Behind::Short(rows) => State::new(plan, workers, rows).run(choices),
+        Behind::Long(rows) => State::new(plan, workers, rows).run(choices),
     }
 }
 
@@ -171,42 +98,8 @@ impl Queue {
     }
 }
 
-/// Where the rows of a schedule are written, in its form.
-trait Rows {
-    /// Writes the row of an action that is done, at its place in the plan.
-    fn put(&mut self, action: usize, round: u32, worker: usize);
-}
-
-/// Rows of 16 bits.
-struct Short<'a>(&'a mut [u8]);
-
-impl Rows for Short<'_> {
-    #[inline]
-    fn put(&mut self, action: usize, round: u32, worker: usize) {
-        let row = (round << 4 | worker as u32) as u16;
-        self.0[2 * action..2 * action + 2].copy_from_slice(&row.to_be_bytes());
-    }
-}
-
-/// Rows of 20 bits, over bytes of 0.
-struct Long<'a>(&'a mut [u8]);
-
-impl Rows for Long<'_> {
-    /// Two rows take five bytes, and each has a half of the third.
-    #[inline]
-    fn put(&mut self, action: usize, round: u32, worker: usize) {
-        let at = 5 * action / 2;
-        let shift = if action.is_multiple_of(2) { 4 } else { 0 };
-        let [_, row @ ..] = ((round << 4 | worker as u32) << shift).to_be_bytes();
-        for (byte, bits) in self.0[at..at + 3].iter_mut().zip(row) {
-            *byte |= bits;
-        }
-    }
-}
-
 struct State<'a, R> {
-    plan: &'a Plan,
-    rows: R,
+    progress: Progress<'a, R>,
     workers: u32,
     /// Those who hold a job, and those who neither hold nor wait.
     holding: Crew,
@@ -219,24 +112,13 @@ struct State<'a, R> {
     /// Victims with requests, and the requests.
     asked: Crew,
     queues: [Queue; MAX_WORKERS],
-    /// Each job's next action, as its place in the plan.
-    next: [u16; 256],
-    /// The joins still missing to each action.
-    missing: Vec<u8>,
-    weight: u32,
     tally: Tally,
 }
 
 impl<'a, R: Rows> State<'a, R> {
     fn new(plan: &'a Plan, workers: u32, rows: R) -> Self {
-        let mut next = [0; 256];
-        for (place, job) in next.iter_mut().zip(&plan.jobs) {
-            *place = job.first;
-        }
-        let weight = u32::from(plan.jobs[0].frame);
         State {
-            plan,
-            rows,
+            progress: Progress::new(plan, rows),
             workers,
             holding: Crew(1),
             idle: Crew((1 << workers) - 2),
@@ -253,33 +135,30 @@ impl<'a, R: Rows> State<'a, R> {
                 head: 0,
                 len: 0,
             }; MAX_WORKERS],
-            next,
-            missing: plan.entering.clone(),
-            weight,
-            tally: Tally {
-                peak: weight,
-                ..Tally::default()
-            },
+            tally: Tally::default(),
         }
     }
 
     fn run(mut self, choices: &[u8]) -> Tally {
-        let end = self.plan.jobs[0].range().end;
-        let mut requests = choices.iter().cycle();
+        // Where the next request's choice stands.
+        let mut entry = 0;
         loop {
             self.tally.rounds += 1;
-            self.tally.idle += self.workers - self.holding.len();
             let without = self.idle;
             for worker in self.holding {
                 self.turn(worker);
             }
-            if usize::from(self.next[0]) == end {
-                return self.tally;
+            if self.progress.is_over() {
+                return self.progress.counted(self.workers, self.tally);
             }
             for worker in without {
                 // One worker alone is never without a job, so a list that may
                 // be empty is not read.
-                if let Some(&victim) = requests.next() {
+                if let Some(&victim) = choices.get(entry) {
+                    entry += 1;
+                    if entry == choices.len() {
+                        entry = 0;
+                    }
                     self.lay(worker, usize::from(victim) % MAX_WORKERS);
                 }
             }
@@ -291,51 +170,29 @@ impl<'a, R: Rows> State<'a, R> {
 
     fn turn(&mut self, worker: usize) {
         let number = self.held[worker];
-        let job = &self.plan.jobs[usize::from(number)];
-        let here = usize::from(self.next[usize::from(number)]);
-        let action = self.plan.actions[here];
-        self.tally.actions += 1;
+        let next = self.progress.next(number);
         let spent = &mut self.spent[worker];
         *spent += 1;
-        if *spent < action.cost {
+        if *spent < next.cost() {
             return;
         }
         *spent = 0;
-        self.rows.put(here, self.tally.rounds, worker);
-        self.next[usize::from(number)] += 1;
-
-        if let Some(target) = action.target {
-            let into = self.plan.jobs[usize::from(job.parent)].first + u16::from(target);
-            let missing = &mut self.missing[usize::from(into)];
-            *missing -= 1;
-            // A job whose next action still missed a join was stalled.
-            if *missing == 0 && self.next[usize::from(job.parent)] == into {
-                self.deques[worker].push_bottom(job.parent);
+        let round = self.tally.rounds;
+        let deques = &mut self.deques;
+        let enable = |parent| deques[worker].push_bottom(parent);
+        match self.progress.finish(next, round, worker, enable) {
+            Then::Spawned(child) => {
+                self.deques[worker].push_bottom(number);
+                self.held[worker] = child;
             }
-        }
-
-        if let Some(child) = action.child {
-            // The spawner goes on: its next action exists, and no join enters
-            // it.
-            self.deques[worker].push_bottom(number);
-            self.held[worker] = child;
-            self.weight += u32::from(self.plan.jobs[usize::from(child)].frame);
-            self.tally.peak = self.tally.peak.max(self.weight);
-            return;
-        }
-
-        let ended = here + 1 == job.range().end;
-        if ended {
-            self.weight -= u32::from(job.frame);
-        }
-        if ended || self.missing[here + 1] > 0 {
-            match self.deques[worker].pop_bottom() {
+            Then::Ready => {}
+            Then::Stalled | Then::Ended(_) => match self.deques[worker].pop_bottom() {
                 Some(bottom) => self.held[worker] = bottom,
                 None => {
                     self.holding.without(worker);
                     self.idle.with(worker);
                 }
-            }
+            },
         }
     }
 

@@ -1,9 +1,9 @@
 //! The twelve starred cases, misses by their kind, actions that take longer,
-//! plans turned into the other form, how many workers are worth renting, and two
-//! families in one build.
+//! plans turned into the other form, how many workers are worth renting, two
+//! families in one build, and runs from a central pool.
 
 use second::{build, check, measure, plan_to_table, run, table_to_plan, Counts, Measures, Tally};
-use second::{pair, to_form_1, to_form_2};
+use second::{pair, pool, to_form_1, to_form_2};
 
 const E: [u8; 18] = [
     0x01, 0x01, 0x80, 0x02, 0x02, 0xC0, 0x44, 0x08, 0x00, 0x00, 0x60, 0x42, 0x08, 0x00, 0x04, 0x02,
@@ -1378,6 +1378,11 @@ impl Random {
         self.0 = self.0.wrapping_mul(0x5851_F42D_4C95_7F2D).wrapping_add(1);
         (self.0 >> 33) as u16 % most + 1
     }
+
+    /// A place among so many.
+    fn place(&mut self, count: usize) -> usize {
+        usize::from(self.draw(count as u16)) - 1
+    }
 }
 
 /// A plan of so many jobs, each spawned by any one of smaller number. A job spawns
@@ -1508,11 +1513,15 @@ fn pairs_as_deep_as_they_go() {
     }
 }
 
-/// Runs a plan of any size, has its schedule checked and gives both.
-fn tally_in(plan: &[u8], workers: u32, choices: &[u8]) -> (Tally, Vec<u8>) {
+fn schedule_length(plan: &[u8]) -> usize {
     let total = measure(plan).unwrap().total as usize;
     let width = if plan[0] == 1 { 16 } else { 20 };
-    let mut schedule = vec![0; 4 + (width * total).div_ceil(8)];
+    4 + (width * total).div_ceil(8)
+}
+
+/// Runs a plan of any size, has its schedule checked and gives both.
+fn tally_in(plan: &[u8], workers: u32, choices: &[u8]) -> (Tally, Vec<u8>) {
+    let mut schedule = vec![0; schedule_length(plan)];
     let tally = run(plan, workers, choices, &mut schedule).unwrap();
     assert_eq!(check(plan, &schedule), Ok(()));
     (tally, schedule)
@@ -1592,4 +1601,594 @@ fn e_and_f_printed() {
         "rounds 20\nactions 20\nlongest 10\npath 9\nparallel 2\nrest 0\npeak 9\nidle 0\n\
          requests 0\nsteals 0\nbare 0\nidle-victim 0\n",
     );
+}
+
+/// The last round and the worker of each action, in a schedule of either form.
+fn rows_in(schedule: &[u8]) -> Vec<(u16, u16)> {
+    if schedule[0] == 1 {
+        return short_rows(schedule);
+    }
+    let halves: Vec<u16> = schedule[4..]
+        .iter()
+        .flat_map(|&byte| [byte >> 4, byte & 15].map(u16::from))
+        .collect();
+    halves
+        .chunks_exact(5)
+        .map(|row| {
+            (
+                row[..4].iter().fold(0, |round, half| round << 4 | half),
+                row[4],
+            )
+        })
+        .collect()
+}
+
+/// Runs a plan from a pool into a buffer of this length, and gives the tally and
+/// the schedule.
+fn pooled_into(plan: &[u8], workers: u32, length: usize) -> Result<(Tally, Vec<u8>), u32> {
+    let mut tally = Tally::default();
+    let schedule = written(length, |bytes| {
+        tally = pool(plan, workers, bytes)?;
+        Ok(schedule_length(plan))
+    })?;
+    Ok((tally, schedule))
+}
+
+/// The same into a buffer that is long enough, and with the rows alone.
+fn pooled(plan: &[u8], workers: u32) -> (Tally, Vec<(u16, u16)>) {
+    let (tally, schedule) = pooled_into(plan, workers, 5124).unwrap();
+    (tally, rows_in(&schedule))
+}
+
+/// Compares rounds, actions, idle turns and the peak of a run from a pool, in
+/// which the other counts are 0, and its rows.
+fn pools(plan: &[u8], workers: u32, counts: [u32; 4], rows: &[(u16, u16)]) {
+    let (tally, found) = pooled(plan, workers);
+    let [rounds, actions, idle, peak] = counts;
+    assert_eq!(counts_of(tally), [rounds, actions, idle, 0, 0, 0, 0, peak]);
+    assert_eq!(found, rows);
+}
+
+/// Alone, a worker goes down to the first child, and from every child that ends
+/// back to its parent.
+#[test]
+fn e_from_a_pool_alone() {
+    let rounds = [1, 4, 5, 7, 8, 2, 3, 6];
+    pools(&E, 1, [8, 8, 0, 7], &rounds.map(|round| (round, 0)));
+}
+
+const E_POOL_ROWS: [(u16, u16); 8] = [
+    (1, 0),
+    (2, 1),
+    (3, 1),
+    (4, 0),
+    (5, 1),
+    (2, 0),
+    (3, 0),
+    (4, 1),
+];
+
+/// Round 1: worker 0 spawns job 1. Round 2: worker 1 takes job 0. Round 3: job 1
+/// ends, but worker 1 holds job 0, and so worker 0 is idle; then 0.2 spawns job 2.
+/// Round 4: worker 0 takes job 0, which stalls; then 2.0 ends job 2, and worker 1
+/// takes job 0. Round 5: 0.4.
+#[test]
+fn e_from_a_pool_by_two() {
+    pools(&E, 2, [5, 8, 2, 7], &E_POOL_ROWS);
+    let schedule = [
+        0x01, 0x10, 0x04, 0x00, 0x00, 0x10, 0x00, 0x21, 0x00, 0x31, 0x00, 0x40, 0x00, 0x51, 0x00,
+        0x20, 0x00, 0x30, 0x00, 0x41,
+    ];
+    assert_eq!(pooled_into(&E, 2, 20).unwrap().1, schedule);
+    assert_eq!(check(&E, &schedule), Ok(()));
+}
+
+/// Worker 2 finds nothing: in round 4 it is worker 0, also idle, that takes job 0.
+#[test]
+fn e_from_a_pool_by_three() {
+    pools(&E, 3, [5, 8, 7, 7], &E_POOL_ROWS);
+}
+
+#[test]
+fn one_job_from_a_pool() {
+    for workers in 1..=16 {
+        pools(&one_job(), workers, [1, 1, workers - 1, 1], &[(1, 0)]);
+        let idle = 3 * (workers - 1);
+        pools(&ONE_OF_3, workers, [3, 3, idle, 1], &[(3, 0)]);
+    }
+}
+
+/// Job 0 stalls in round 2, by worker 1, and worker 0 takes it as job 1 ends.
+#[test]
+fn f_from_a_pool() {
+    let f = plan_of(&F_ROWS);
+    let alone = [1, 6, 7, 2, 3, 4, 5].map(|round| (round, 0));
+    pools(&f, 1, [7, 7, 0, 2], &alone);
+    let mut rows = [1, 2, 6, 2, 3, 4, 5].map(|round| (round, 0));
+    rows[1].1 = 1;
+    for workers in 2..=16 {
+        pools(&f, workers, [6, 7, 6 * workers - 7, 2], &rows);
+    }
+}
+
+#[test]
+fn e2_from_a_pool_alone() {
+    let rounds = [2, 8, 11, 17, 19, 6, 7, 16];
+    pools(&E2, 1, [19, 19, 0, 7], &rounds.map(|round| (round, 0)));
+}
+
+/// Rounds 1 and 2: worker 0 does 0.0, which spawns job 1. Round 3: worker 1 takes
+/// job 0 and does 0.1; up to round 6 it does 0.2, which spawns job 2, and worker
+/// 0 does 1.0: all three jobs live. Round 7: 1.1 ends job 1, and worker 0 is
+/// idle, since job 2 lives. Round 8: it takes job 0, and 0.3 stalls it. Rounds 9
+/// to 11: job 0 is in the pool, but not ready, and worker 0 is idle. In round 11
+/// worker 1 is done with 2.0, ends job 2 and takes job 0. Rounds 12 and 13: 0.4.
+#[test]
+fn e2_from_a_pool_by_two() {
+    let rows = [
+        (2, 0),
+        (3, 1),
+        (6, 1),
+        (8, 0),
+        (13, 1),
+        (6, 0),
+        (7, 0),
+        (11, 1),
+    ];
+    pools(&E2, 2, [13, 19, 7, 9], &rows);
+    let schedule = [
+        0x02, 0x10, 0x04, 0x00, 0x00, 0x02, 0x00, 0x00, 0x31, 0x00, 0x06, 0x10, 0x00, 0x80, 0x00,
+        0x0D, 0x10, 0x00, 0x60, 0x00, 0x07, 0x00, 0x00, 0xB1,
+    ];
+    assert_eq!(pooled_into(&E2, 2, 24).unwrap().1, schedule);
+    assert_eq!(check(&E2, &schedule), Ok(()));
+}
+
+/// The same, but worker 2 is idle in round 7, and takes job 0 then.
+#[test]
+fn e2_from_a_pool_by_three() {
+    let rows = [
+        (2, 0),
+        (3, 1),
+        (6, 1),
+        (7, 2),
+        (13, 1),
+        (6, 0),
+        (7, 0),
+        (11, 1),
+    ];
+    pools(&E2, 3, [13, 19, 20, 9], &rows);
+}
+
+/// Each job spawns the next one at 0 and waits for it at 2.
+const CHAIN_ROWS: [u16; 50] = [
+    0, 1, 2, 0, 1, //
+    0, 1, 0, 0, 2, //
+    0, 1, 0, 0, 1, //
+    1, 1, 3, 0, 1, //
+    1, 1, 0, 0, 1, //
+    1, 1, 0, 3, 1, //
+    2, 1, 4, 0, 1, //
+    2, 1, 0, 0, 1, //
+    2, 1, 0, 3, 1, //
+    3, 1, 0, 3, 6, //
+];
+
+/// Worker 1 does 0.1 in rounds 2 and 3, in which jobs 1 and 2 go to the pool. In
+/// round 4 it takes job 1, the lower one, though job 2 came last, and in round 5
+/// job 2. Each of them stalls at once. From round 9 on, worker 0 takes one parent
+/// after the other.
+#[test]
+fn the_ready_job_of_lowest_number() {
+    let rows = [
+        (1, 0),
+        (3, 1),
+        (12, 0),
+        (2, 0),
+        (4, 1),
+        (11, 0),
+        (3, 0),
+        (5, 1),
+        (10, 0),
+        (9, 0),
+    ];
+    pools(&plan_in(2, &CHAIN_ROWS), 2, [12, 16, 8, 4], &rows);
+}
+
+/// Alone, a worker that ends a job has all those above it in the pool, ready. It
+/// takes the parent and not job 0.
+#[test]
+fn the_parent_before_a_lower_job() {
+    let rounds = [1, 15, 16, 2, 12, 13, 3, 10, 11, 9];
+    let rows = rounds.map(|round| (round, 0));
+    pools(&plan_in(2, &CHAIN_ROWS), 1, [16, 16, 0, 4], &rows);
+}
+
+/// Worker 1 holds job 0 when 1.0 ends job 1, in round 2, so worker 0 is idle. The
+/// join has come before the turn of worker 1, which so goes on with job 0.
+#[test]
+fn a_join_that_comes_earlier_in_the_round() {
+    let rows = [(1, 0), (2, 1), (3, 1), (2, 0)];
+    for workers in 2..=16 {
+        let idle = 3 * workers - 4;
+        pools(&plan_of(&G_ROWS), workers, [3, 4, idle, 2], &rows);
+    }
+}
+
+/// H, but 1.0 takes three rounds. In round 3 worker 2 takes job 0, and 0.2 stalls
+/// it. In round 4 job 1 ends first, and worker 0 is idle, since job 2 lives. Then
+/// job 2 ends, and worker 1 takes job 0: no child lives by then, though both did
+/// when the round began.
+#[test]
+fn two_children_end_in_one_round() {
+    let mut rows = H_ROWS;
+    rows[5 * 4 + 4] = 3;
+    let wanted = [(1, 0), (2, 1), (3, 2), (5, 1), (4, 0), (3, 1), (4, 1)];
+    pools(&plan_in(2, &rows), 3, [5, 9, 6, 3], &wanted);
+}
+
+/// Job 0 spawns job 1, which spawns jobs 2 and 3; each waits for its children in
+/// its last action.
+const CHILD_LIVES_ROWS: [u16; 45] = [
+    0, 1, 2, 0, 1, //
+    0, 1, 0, 0, 3, //
+    0, 1, 0, 0, 1, //
+    1, 1, 3, 0, 1, //
+    1, 1, 4, 0, 1, //
+    1, 1, 0, 0, 1, //
+    1, 1, 0, 3, 1, //
+    2, 1, 0, 4, 3, //
+    3, 1, 0, 4, 1, //
+];
+
+/// Round 3: worker 0 works on 2.0, worker 1 on 0.1, and worker 2 takes job 1 and
+/// spawns job 3. Round 4: 0.1 stalls job 0, and worker 1 is idle. Job 3 ends, and
+/// so is worker 2, though job 1 is ready in the pool: job 2 lives. Round 5: the
+/// lower of the two takes job 1. Job 2 ends, but job 1 is held.
+#[test]
+fn a_parent_of_which_a_child_lives() {
+    let rows = [
+        (1, 0),
+        (4, 1),
+        (7, 1),
+        (2, 0),
+        (3, 2),
+        (5, 1),
+        (6, 1),
+        (5, 0),
+        (4, 2),
+    ];
+    pools(&plan_in(2, &CHILD_LIVES_ROWS), 3, [7, 13, 8, 4], &rows);
+}
+
+/// Job 0 waits at 2 for the first action of job 1, and at 3 for the last.
+const TWO_WAITS_ROWS: [u16; 35] = [
+    0, 1, 2, 0, 1, //
+    0, 1, 0, 0, 1, //
+    0, 1, 0, 0, 1, //
+    0, 1, 0, 0, 1, //
+    1, 1, 0, 3, 3, //
+    1, 1, 0, 0, 1, //
+    1, 1, 0, 4, 1, //
+];
+
+/// Job 0 stalls in round 2. In round 4 the join of 1.0 comes, which moves no job:
+/// worker 0 goes on with job 1, and worker 1 takes job 0 in round 5, though its
+/// child lives. It stalls again, and in round 6 worker 0 ends job 1 and takes it.
+#[test]
+fn a_join_from_the_midst_of_a_job() {
+    let rows = [(1, 0), (2, 1), (5, 1), (7, 0), (4, 0), (5, 0), (6, 0)];
+    pools(&plan_in(2, &TWO_WAITS_ROWS), 2, [7, 9, 5, 2], &rows);
+}
+
+/// A plan of each form, and the length of its schedules.
+fn e_and_e2() -> [(&'static [u8], usize); 2] {
+    [(&E, 20), (&E2, 24)]
+}
+
+/// Plan, then workers, then the buffer.
+#[test]
+fn refusals_of_a_pool_in_their_order() {
+    for (plan, number) in broken_plans() {
+        for workers in [0, 1, 2, 16, 17, 256, 257, u32::MAX] {
+            for length in [0, 1, 24, 5124] {
+                assert_eq!(pooled_into(&plan, workers, length), Err(number));
+            }
+        }
+    }
+    for (plan, needed) in e_and_e2() {
+        for length in [0, needed - 1, needed, 5124] {
+            for workers in [0, 17, 18, 32, 256, 257, 65_537, 1 << 31 | 1, u32::MAX] {
+                assert_eq!(pooled_into(plan, workers, length), Err(7));
+            }
+        }
+        for workers in 1..=16 {
+            assert_eq!(pooled_into(plan, workers, 0), Err(9));
+        }
+    }
+}
+
+/// One byte too short, and longer than needed by one and more.
+#[test]
+fn a_buffer_for_the_schedule_of_a_pool() {
+    let largest = [1, 2].map(|form| plan_in(form, &largest_rows(1)));
+    let mut plans = e_and_e2().to_vec();
+    plans.extend([(&largest[0][..], 4100), (&largest[1], 5124)]);
+    plans.push((&ONE_OF_3, 7));
+    for (plan, needed) in plans {
+        for workers in [1, 2, 16] {
+            let (tally, schedule) = pooled_into(plan, workers, needed).unwrap();
+            assert_eq!(schedule.len(), needed);
+            for length in [needed + 1, needed + 2, needed + 100] {
+                let longer = pooled_into(plan, workers, length).unwrap();
+                assert_eq!(longer, (tally, schedule.clone()));
+            }
+            assert_eq!(pooled_into(plan, workers, needed - 1), Err(9));
+        }
+    }
+}
+
+/// A plan of up to eight jobs. Children are spawned at any positions and in any
+/// order, and any action may send a join, to any position that it may go to.
+fn wild_plan(random: &mut Random, form: u32) -> Vec<u8> {
+    let jobs = random.draw(8);
+    // The child that each action of a job spawns, plus 1.
+    let mut spawns: Vec<Vec<u16>> = vec![vec![]; usize::from(jobs)];
+    for job in 1..jobs {
+        let above = &mut spawns[random.place(usize::from(job))];
+        above.insert(random.place(above.len() + 1), job + 1);
+    }
+    for list in &mut spawns {
+        for _ in 1..random.draw(4) {
+            list.insert(random.place(list.len() + 1), 0);
+        }
+        // To the last of two that spawn nothing all children can send joins.
+        list.extend([0, 0]);
+    }
+    let most = if form == 1 {
+        1
+    } else {
+        [2, 4, 15][random.place(3)]
+    };
+
+    let mut rows = vec![];
+    for (job, list) in (0..jobs).zip(&spawns) {
+        let spawner = spawns.iter().find_map(|above| {
+            let position = above.iter().position(|&child| child == job + 1)?;
+            Some((above, position))
+        });
+        // A job that spawns nothing may as well be of one action.
+        let length = if list.iter().all(|&child| child == 0) {
+            1 + random.place(list.len())
+        } else {
+            list.len()
+        };
+        let frame = random.draw(9);
+        for (position, &child) in list[..length].iter().enumerate() {
+            let target = match spawner {
+                Some((above, at)) if position + 1 == length || random.draw(3) == 1 => {
+                    let targets: Vec<usize> = (at + 1..above.len())
+                        .filter(|&to| above[to - 1] == 0)
+                        .collect();
+                    targets[random.place(targets.len())] as u16 + 1
+                }
+                _ => 0,
+            };
+            rows.extend([job, frame, child, target, random.draw(most)]);
+        }
+    }
+    let mut plan = vec![0; 6403];
+    match table_to_plan(form, &rows, &mut plan) {
+        Ok(length) => {
+            plan.truncate(length);
+            plan
+        }
+        // More than eight joins enter an action: another one is drawn.
+        Err(number) => {
+            assert_eq!(number, 5);
+            wild_plan(random, form)
+        }
+    }
+}
+
+fn wild_plans(seed: u64, count: usize) -> Vec<Vec<u8>> {
+    let mut random = Random(seed);
+    (0..count)
+        .flat_map(|_| [1, 2].map(|form| wild_plan(&mut random, form)))
+        .collect()
+}
+
+/// What is owed of every run from a pool, by any number of workers.
+#[test]
+fn bounds_of_a_pool() {
+    for plan in [plans(), random_plans(), wild_plans(1, 60)].concat() {
+        let m = measure(&plan).unwrap();
+        for workers in 1..=16 {
+            let (t, schedule) = pooled_into(&plan, workers, 5124).unwrap();
+            assert_eq!(check(&plan, &schedule), Ok(()));
+            assert_eq!(schedule[1] >> 3, workers as u8);
+            assert!(workers * t.rounds <= m.work + (workers - 1) * m.longest);
+            assert!((m.longest..=m.work).contains(&t.rounds));
+            assert!(t.peak <= workers * m.path);
+            assert_eq!(t.actions, m.work);
+            assert_eq!(workers * t.rounds, t.actions + t.idle);
+            assert!(workers * m.longest <= t.idle + m.rest + m.parallel * m.longest);
+            assert_eq!((t.requests, t.steals), (0, 0));
+            assert_eq!((t.bare, t.idle_victim), (0, 0));
+            if workers == 1 {
+                assert_eq!((t.rounds, t.peak, t.idle), (m.work, m.path, 0));
+            }
+
+            let rows = rows_in(&schedule);
+            let last = rows.iter().map(|row| u32::from(row.0)).max();
+            assert_eq!(last, Some(t.rounds));
+            assert!(rows.iter().all(|row| u32::from(row.1) < workers));
+        }
+    }
+}
+
+/// A plan of form 1 and the same one in form 2.
+#[test]
+fn both_forms_from_a_pool_alike() {
+    let mut plans = [plans(), random_plans(), wild_plans(2, 60)].concat();
+    plans.retain(|plan| plan[0] == 1);
+    assert!(plans.len() > 70);
+    for old in plans {
+        let new = turned(to_form_2, &old).unwrap();
+        for workers in 1..=16 {
+            assert_eq!(pooled(&old, workers), pooled(&new, workers));
+        }
+        for workers in [0, 17] {
+            assert_eq!(pool(&old, workers, &mut []), Err(7));
+            assert_eq!(pool(&new, workers, &mut []), Err(7));
+        }
+    }
+}
+
+/// A run from a pool as rules Q1 to Q10 tell it, sentence by sentence. It keeps
+/// what each worker holds, the rounds spent on each job's next action and the
+/// rows of what is done. Who lives, who is ready and what is in the pool it finds
+/// out anew at every step, by going over all jobs, and it takes every turn.
+///
+/// The library keeps a set of the ready jobs that nobody holds and counts of
+/// joins and children as it goes, and leaves out rounds in which no action is
+/// done. A slip there might still give runs that keep every bound and pass the
+/// checker. It shows if the same run is told without any of that.
+struct Model {
+    /// The rows of the open table, by job.
+    jobs: Vec<Vec<[u16; 5]>>,
+    held: Vec<Option<usize>>,
+    spent: Vec<u16>,
+    done: Vec<Vec<(u16, u16)>>,
+    tally: Tally,
+}
+
+impl Model {
+    fn run(plan: &[u8], workers: usize) -> (Tally, Vec<(u16, u16)>) {
+        let mut jobs: Vec<Vec<[u16; 5]>> = vec![];
+        for row in rows_of(plan).unwrap().chunks(5) {
+            jobs.resize(usize::from(row[0]) + 1, vec![]);
+            jobs[usize::from(row[0])].push(row.try_into().unwrap());
+        }
+        let count = jobs.len();
+        let mut model = Model {
+            jobs,
+            held: vec![None; workers],
+            spent: vec![0; count],
+            done: vec![vec![]; count],
+            tally: Tally::default(),
+        };
+        model.weigh();
+        while model.lives(0) {
+            model.round();
+        }
+        (model.tally, model.done.concat())
+    }
+
+    fn all_jobs(&self) -> std::ops::Range<usize> {
+        0..self.jobs.len()
+    }
+
+    fn is_done(&self, (job, position): (usize, usize)) -> bool {
+        position < self.done[job].len()
+    }
+
+    fn spawner(&self, child: usize) -> Option<(usize, usize)> {
+        self.all_jobs().find_map(|job| {
+            let mut rows = self.jobs[job].iter();
+            let position = rows.position(|row| usize::from(row[2]) == child + 1)?;
+            Some((job, position))
+        })
+    }
+
+    fn lives(&self, job: usize) -> bool {
+        let spawned = job == 0 || self.spawner(job).is_some_and(|at| self.is_done(at));
+        spawned && self.done[job].len() < self.jobs[job].len()
+    }
+
+    fn children(&self, parent: usize) -> impl Iterator<Item = usize> + '_ {
+        self.all_jobs()
+            .filter(move |&job| self.spawner(job).is_some_and(|at| at.0 == parent))
+    }
+
+    /// Whether all is done that the next action of a job that lives must follow.
+    fn is_ready(&self, job: usize) -> bool {
+        let next = self.done[job].len();
+        self.children(job).all(|child| {
+            let mut rows = self.jobs[child].iter().enumerate();
+            rows.all(|(at, row)| usize::from(row[3]) != next + 1 || self.is_done((child, at)))
+        })
+    }
+
+    fn is_held(&self, job: usize) -> bool {
+        self.held.contains(&Some(job))
+    }
+
+    /// All living jobs that nobody holds.
+    fn pool(&self) -> Vec<usize> {
+        self.all_jobs()
+            .filter(|&job| self.lives(job) && !self.is_held(job))
+            .collect()
+    }
+
+    fn weigh(&mut self) {
+        let living = self.all_jobs().filter(|&job| self.lives(job));
+        let weight = living.map(|job| u32::from(self.jobs[job][0][1])).sum();
+        self.tally.peak = self.tally.peak.max(weight);
+    }
+
+    fn round(&mut self) {
+        for worker in 0..self.held.len() {
+            if self.held[worker].is_none() {
+                let ready = self.pool().into_iter().filter(|&job| self.is_ready(job));
+                self.held[worker] = ready.min();
+            }
+        }
+        self.tally.rounds += 1;
+        for (worker, job) in self.held.clone().into_iter().enumerate() {
+            match job {
+                Some(job) => self.turn(worker, job),
+                None => self.tally.idle += 1,
+            }
+        }
+    }
+
+    fn turn(&mut self, worker: usize, job: usize) {
+        let [_, _, child, _, cost] = self.jobs[job][self.done[job].len()];
+        self.tally.actions += 1;
+        self.spent[job] += 1;
+        if self.spent[job] < cost {
+            return;
+        }
+        self.spent[job] = 0;
+        self.done[job].push((self.tally.rounds as u16, worker as u16));
+        self.weigh();
+        self.held[worker] = if child > 0 {
+            Some(usize::from(child) - 1)
+        } else if !self.lives(job) {
+            let parent = self.spawner(job).map(|at| at.0);
+            parent.filter(|&parent| {
+                let lone = !self.children(parent).any(|child| self.lives(child));
+                lone && !self.is_held(parent)
+            })
+        } else if !self.is_ready(job) {
+            None
+        } else {
+            Some(job)
+        };
+    }
+}
+
+#[test]
+fn a_pool_told_sentence_by_sentence() {
+    let mut plans = wild_plans(3, 150);
+    plans.extend(random_plans().into_iter().take(10));
+    plans.extend([E.to_vec(), E2.to_vec(), tree(9, 8, 3), tree(15, 2, 2)]);
+    plans.extend([plan_of(&F_ROWS), plan_of(&H_ROWS), plan_in(2, &CHAIN_ROWS)]);
+    for plan in plans {
+        for workers in [1, 2, 3, 4, 5, 6, 8, 16] {
+            let told = Model::run(&plan, workers);
+            assert_eq!(pooled(&plan, workers as u32), told);
+        }
+    }
 }

@@ -5,12 +5,13 @@
 --   Paired frame first second r bytes == what was written is accepted, and has the T1, S1 and T∞ that document 02, L9, says
 --   Divided r                         == T1 divided by T∞ is `parallel`, and `rest` remains
 --   Claimed plan n choices r schedule == demand 3's claim and the sums, of what was returned and written
+--   PoolClaimed plan n r schedule     == all that is owed of a run from a pool, of what was returned and written
 use Prim.Native.Nat.{ℕ}
 use mathlib.Core.Path.{_≡_}
 use mathlib.Core.List.{List}
 use lib.ListN.{take}
 use Rattle.plan.specs.Refusal.{Outcome, refused, accepted}
-use Rattle.plan.specs.Plan.{Plan}
+use Rattle.plan.specs.Plan.{Plan, total}
 use Rattle.plan.specs.Reader.{Read, readPlan}
 use Rattle.plan_measure.specs.declared.Measures.{Measures}
 use Rattle.plan_measure.specs.Measure.{Quotient}
@@ -18,6 +19,8 @@ use Rattle.plan_pair.specs.Pair.{Result}
 use Rattle.runs.specs.declared.tally.Tally.{Tally}
 use Rattle.runs.specs.Setting.{setting}
 use Rattle.runs.specs.Claim.{Bounded}
+use Rattle.pools.specs.Claim.{Bounded as PoolBounded}
+use Rattle.courses.specs.Schedule.{scheduleLength, checked}
 use Rattle.cabi.specs.declared.DwCount.{DwCount}
 use Rattle.cabi.specs.declared.DwMeasures.{DwMeasures}
 use Rattle.cabi.specs.declared.DwTally.{DwTally}
@@ -77,3 +80,10 @@ abbrev pub Claimed : List ℕ → ℕ → List ℕ → DwTally → List ℕ → 
 Claimed plan n choices r schedule =
     r .refused ≡ 0
     → (x : Read) × (t : Tally) × (readPlan plan ≡ accepted x) × (r ≡ tallyOf (accepted t)) × Bounded (setting (x .plan) n choices) (x .form) schedule t
+
+-- the same of a run from a pool, whose schedule the checker accepts
+abbrev pub PoolClaimed : List ℕ → ℕ → DwTally → List ℕ → Type 0
+PoolClaimed plan n r schedule =
+    r .refused ≡ 0
+    → (x : Read) × (t : Tally) × (readPlan plan ≡ accepted x) × (r ≡ tallyOf (accepted t)) × PoolBounded (x .plan) n (x .form) schedule t
+    × (checked plan (take (scheduleLength (x .form) (total (x .plan))) schedule) ≡ accepted 0)

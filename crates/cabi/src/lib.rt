@@ -6,10 +6,11 @@ ghost use Rattle.plan_measure.specs.Measure.{measures};
 ghost use Rattle.plan_writer.specs.Written.{answerOf};
 ghost use Rattle.plan_table.specs.Table.{toTable, toPlan};
 ghost use Rattle.courses.specs.Schedule.{checked};
-ghost use Rattle.scheduler.specs.Entry.{runInto};
+ghost use Rattle.scheduler.specs.Entry.{runInto, ranOf};
+ghost use Rattle.pool_runner.specs.Entry.{poolInto};
 ghost use Rattle.plan_forms.specs.Forms.{toForm2, toForm1};
 ghost use Rattle.plan_pair.specs.Pair.{pairInto};
-ghost use Rattle.cabi.specs.Plain.{countOf, measuresOf, tallyOf, checkOf, Converted, Paired, Divided, Claimed};
+ghost use Rattle.cabi.specs.Plain.{countOf, measuresOf, tallyOf, checkOf, Converted, Paired, Divided, Claimed, PoolClaimed};
 ghost use Rattle.cabi.specs.Few.{Few};
 use checker::Judged;
 use checker::check;
@@ -24,6 +25,7 @@ use plan_pair::pair;
 use plan_table::plan_to_table;
 use plan_table::table_to_plan;
 use plan_writer::Answer;
+use pool_runner::entry::pool;
 use scheduler::run::Ran;
 use scheduler::run::run;
 
@@ -76,6 +78,36 @@ fn counted(a: Answer) -> DwCount
         Answer::Count(n) => DwCount {
             refused: 0,
             count: units(n),
+        },
+    }
+}
+
+// What an entry that runs answers: the number of its refusal, or the tally.
+fn tallied(r: Ran) -> DwTally
+    ensures { λ d. ⌜ d ≡ tallyOf (ranOf r) ⌝ }
+{
+    match r {
+        Ran::Refused(cause) => DwTally {
+            refused: cause_number(cause),
+            rounds: 0,
+            actions: 0,
+            idle: 0,
+            requests: 0,
+            steals: 0,
+            bare: 0,
+            idle_victim: 0,
+            peak: 0,
+        },
+        Ran::Done(t) => DwTally {
+            refused: 0,
+            rounds: t.rounds,
+            actions: t.actions,
+            idle: t.idle,
+            requests: t.requests,
+            steals: t.steals,
+            bare: t.bare,
+            idle_victim: t.idle_victim,
+            peak: t.peak,
         },
     }
 }
@@ -156,30 +188,16 @@ pub extern "C" fn dw_run(plan: &[u8], workers: u32, choices: &[u8], schedule: &m
         × (now (schedule .exit) ≡ runInto (now (plan .entry)) workers (now (choices .entry)) (now (schedule .entry)) .schedule) ⌝ }
     ensures { λ r. ⌜ Claimed (now (plan .entry)) workers (now (choices .entry)) r (now (schedule .exit)) ⌝ }
 {
-    match run(plan, workers, choices, schedule) {
-        Ran::Refused(cause) => DwTally {
-            refused: cause_number(cause),
-            rounds: 0,
-            actions: 0,
-            idle: 0,
-            requests: 0,
-            steals: 0,
-            bare: 0,
-            idle_victim: 0,
-            peak: 0,
-        },
-        Ran::Done(t) => DwTally {
-            refused: 0,
-            rounds: t.rounds,
-            actions: t.actions,
-            idle: t.idle,
-            requests: t.requests,
-            steals: t.steals,
-            bare: t.bare,
-            idle_victim: t.idle_victim,
-            peak: t.peak,
-        },
-    }
+    tallied(run(plan, workers, choices, schedule))
+}
+
+#[no_mangle]
+pub extern "C" fn dw_pool(plan: &[u8], workers: u32, schedule: &mut [u8]) -> DwTally
+    ensures { λ r. ⌜ (r ≡ tallyOf (poolInto (now (plan .entry)) workers (now (schedule .entry)) .answer))
+        × (now (schedule .exit) ≡ poolInto (now (plan .entry)) workers (now (schedule .entry)) .schedule) ⌝ }
+    ensures { λ r. ⌜ PoolClaimed (now (plan .entry)) workers r (now (schedule .exit)) ⌝ }
+{
+    tallied(pool(plan, workers, schedule))
 }
 
 #[no_mangle]

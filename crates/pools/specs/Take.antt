@@ -1,6 +1,6 @@
 -- The taking (document 02, L1): "Before a round, idle workers in rising number take the ready job of lowest number."
 --   lowest f l  == the first number of l that f holds of, plus 1, or 0 where it holds of none
---   waits p s j == job j is in the pool and ready
+--   waits p next ws j == job j is in the pool and ready
 --   take p w s  == worker w, if it is idle, takes the lowest of these, as it stands then
 --   takes p k s == so do the workers below k, in rising number
 use Prim.Native.Nat.{ℕ, zero, suc}
@@ -10,6 +10,7 @@ use lib.ListN.{length, set}
 use Rattle.plan.specs.Test.{both, below}
 use Rattle.plan.specs.Plan.{Plan}
 use Rattle.courses.specs.Ready.{ready}
+use Rattle.runs.specs.declared.worker.Worker.{Worker}
 use Rattle.runs.specs.declared.worker.Worker.the-variants.{Holding}
 use Rattle.runs.specs.State.{holds}
 use Rattle.pools.specs.State.{State, workerOf, inPool}
@@ -18,9 +19,9 @@ unfoldable pub lowest : (ℕ → Bool) → List ℕ → ℕ
 lowest f [] = 0
 lowest f (j ∷ l) = elim (f j) [ true ↦ suc j | false ↦ lowest f l ]
 
-unfoldable pub waits : Plan → State → ℕ → Bool
+unfoldable pub waits : Plan → List ℕ → List Worker → ℕ → Bool
 unfolding inPool ready
-waits p s j = both (inPool p s j) (ready p (s .next) j)
+waits p next ws j = both (inPool p next ws j) (ready p next j)
 
 -- worker w holds job j from now on
 unfoldable pub given : ℕ → ℕ → State → State
@@ -33,7 +34,7 @@ giving w (suc j) s = given w j s
 
 unfoldable pub take : Plan → ℕ → State → State
 unfolding lowest waits given
-take p w s = elim (holds (workerOf s w)) [ true ↦ s | false ↦ giving w (lowest (waits p s) (below (length p))) s ]
+take p w s = elim (holds (workerOf s w)) [ true ↦ s | false ↦ giving w (lowest (waits p (s .next) (s .workers)) (below (length p))) s ]
 
 unfoldable pub takes : Plan → ℕ → State → State
 unfolding take

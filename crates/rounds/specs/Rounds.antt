@@ -38,4 +38,4 @@ pub record RunGiven (n actions : ℕ) (choices plan entering : List ℕ) (p : Pl
 
 pub record RunLeft (n : ℕ) (choices : List ℕ) (t : Tally) (rows : List ℕ) (p : Plan) : Type 0 where
   pub counts : t ≡ run (setting p n choices) .tally
-  pub rowed : Rowed p (run (setting p n choices)) rows
+  pub rowed : let s = run (setting p n choices) in Rowed p (s .next) (s .rows) rows

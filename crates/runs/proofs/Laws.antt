@@ -6,6 +6,7 @@ pub mod Turns
 pub mod Least
 pub mod Picks
 pub mod Lined
+pub mod Waking
 pub mod TurnSound
 pub mod Stores
 pub mod Began

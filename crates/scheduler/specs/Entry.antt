@@ -1,4 +1,6 @@
--- What the entry `run` answers and leaves in the lent schedule (document 01, "Turned down").
+-- What the entry `run` answers and leaves in the lent schedule (document 01, "Turned down"), and what any kind of run leaves there.
+--   Made, made o                      == the rows and the tally that a run makes
+--   resulted form o n schedule        == the tally and the schedule's bytes of what was made, or the refusal
 --   readInto x n choices schedule     == the same of what was read
 --   runInto plan n choices schedule   == the tally and the schedule's bytes, or the refusal: 1 to 6, then 7, 8, 9
 --   Claimed plan n choices r schedule == demand 3's claim and the sums, of what was returned and written
@@ -17,6 +19,7 @@ use Rattle.scheduler.specs.declared.run.Ran.the-variants.{Refused, Done}
 use Rattle.runs.specs.State.{State}
 use Rattle.runs.specs.Setting.{setting}
 use Rattle.runs.specs.Run.{admitted}
+use Rattle.courses.specs.Row.{Row}
 use Rattle.courses.specs.Schedule.{scheduleBytes}
 use Rattle.runs.specs.Claim.{Bounded}
 
@@ -24,8 +27,12 @@ pub record Result : Type 0 where
   pub answer : Outcome Tally
   pub schedule : List ℕ
 
+pub record Made : Type 0 where
+  pub rows : List Row
+  pub tally : Tally
+
 -- a schedule of that form; 9 where it is longer than its buffer; "On success, bytes .. beyond the output keep what they held."
-unfoldable pub resulted : ℕ → Outcome State → ℕ → List ℕ → Result
+unfoldable pub resulted : ℕ → Outcome Made → ℕ → List ℕ → Result
 unfolding scheduleBytes
 resulted form (refused k) n schedule = record { answer = refused k; schedule = schedule }
 resulted form (accepted s) n schedule =
@@ -37,11 +44,15 @@ resulted form (accepted s) n schedule =
       }
     ]
 
+abbrev pub made : Outcome State → Outcome Made
+made (refused k) = refused k
+made (accepted s) = accepted (record { rows = s .rows; tally = s .tally })
+
 -- document 02, L5: "A run writes the schedule in its plan's form."
 unfoldable pub readInto : Outcome Read → ℕ → List ℕ → List ℕ → Result
 unfolding resulted admitted
 readInto (refused k) n choices schedule = record { answer = refused k; schedule = schedule }
-readInto (accepted x) n choices schedule = resulted (x .form) (admitted (accepted x) n choices) n schedule
+readInto (accepted x) n choices schedule = resulted (x .form) (made (admitted (accepted x) n choices)) n schedule
 
 unfoldable pub runInto : List ℕ → ℕ → List ℕ → List ℕ → Result
 unfolding readInto readPlan

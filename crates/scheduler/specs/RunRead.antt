@@ -17,7 +17,7 @@ use Rattle.plan.specs.Rules.{costsFit}
 use Rattle.rounds.specs.Rounds.{RunIn}
 use Rattle.scheduler.specs.declared.run.Ran.{Ran}
 use Rattle.scheduler.specs.declared.run.Ran.the-variants.{Done}
-use Rattle.scheduler.specs.Entry.{Result, resulted, ranOf}
+use Rattle.scheduler.specs.Entry.{Result, resulted, made, ranOf}
 
 pub record RunsIn (form actions : ℕ) (plan entering : List ℕ) (p : Plan) : Type 0 where
   pub runs : RunIn actions plan entering p
@@ -27,5 +27,5 @@ pub record RunsIn (form actions : ℕ) (plan entering : List ℕ) (p : Plan) : T
 abbrev pub Answered : ℕ → ℕ → List ℕ → List ℕ → Ran → List ℕ → Plan → Type 0
 Answered form n choices before r after p =
     (_≡_ {A = Result} (record { answer = ranOf r; schedule = after })
-    (resulted form (admitted (accepted (record { form = form; plan = p })) n choices) n before))
+    (resulted form (made (admitted (accepted (record { form = form; plan = p })) n choices)) n before))
     × ((t : Tally) → r ≡ Done t → Bounded (setting p n choices) form after t)

@@ -2,4 +2,4 @@
 // crate `runs`. It relies on what the crates below promise, and cites their laws only.
 pub mod length;
 pub mod run;
-mod write;
+pub mod write;

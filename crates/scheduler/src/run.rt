@@ -6,8 +6,7 @@ ghost use Rattle.scheduler.specs.Entry.{runInto, ranOf, Claimed};
 ghost use Rattle.scheduler.specs.RunRead.{RunsIn, Answered};
 ghost use Rattle.scheduler.specs.Choices.{largestOf};
 use crate::length::schedule_length;
-use crate::write::write_header;
-use crate::write::write_rows;
+use crate::write::write_schedule;
 use numbers::larger8;
 use numbers::wide8;
 use plan::reader::Found;
@@ -79,8 +78,7 @@ pub fn run_read(
     }
     let mut rows = [0u32; 2048];
     let t = run_rounds(n, actions, choices, plan, entering, &mut rows);
-    write_header(schedule, form, n, actions);
-    write_rows(&mut schedule[4..], form, actions, &rows);
+    write_schedule(schedule, form, n, actions, &rows);
     Ran::Done(t)
 }
 

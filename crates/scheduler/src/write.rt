@@ -4,8 +4,8 @@ ghost use mathlib.Core.List.{_++_};
 ghost use Prim.Native.Nat.{_+_, _*_, _≤_, _<_};
 ghost use lib.ListN.{length, drop};
 ghost use Rattle.plan.specs.Contract.{before, after};
-ghost use Rattle.courses.specs.Schedule.{roundBits};
-ghost use Rattle.scheduler.specs.Written.{headerBytes, rowsLength, Words, RowsWritten};
+ghost use Rattle.courses.specs.Schedule.{roundBits, scheduleLength};
+ghost use Rattle.scheduler.specs.Written.{headerBytes, rowsLength, Words, RowsWritten, ScheduleWritten};
 use fields::field::Sink;
 use fields::field::finish;
 use fields::field::put;
@@ -13,7 +13,7 @@ use turns::rows::Rows;
 use turns::rows::row_at;
 
 // The schedule's first four bytes.
-pub fn write_header(schedule: &mut [u8], form: u32, n: usize, actions: usize)
+fn write_header(schedule: &mut [u8], form: u32, n: usize, actions: usize)
     requires { ⌜ (form < 256) × (n ≤ 16) × (actions ≤ 2048) × (4 ≤ length (now schedule)) ⌝ }
     ensures { λ _. ⌜ after schedule ≡ headerBytes form n actions ++ drop 4 (before schedule) ⌝ }
 {
@@ -56,7 +56,7 @@ fn write_wide(out: &mut [u8], actions: usize, rows: &Rows)
 }
 
 // Writes the rows behind the schedule's header, which it never sees.
-pub fn write_rows(out: &mut [u8], form: u32, actions: usize, rows: &Rows)
+fn write_rows(out: &mut [u8], form: u32, actions: usize, rows: &Rows)
     requires { ⌜ (actions ≤ 2048) × (rowsLength (roundBits form + 4) actions ≤ length (now out))
         × Words (roundBits form + 4) actions (now rows) ⌝ }
     ensures { λ _. ⌜ RowsWritten (roundBits form + 4) actions (before rows) (before out) (after out) ⌝ }
@@ -66,4 +66,14 @@ pub fn write_rows(out: &mut [u8], form: u32, actions: usize, rows: &Rows)
         return;
     }
     write_wide(out, actions, rows);
+}
+
+// Writes the schedule of n workers, whatever kind of run made its rows.
+pub fn write_schedule(schedule: &mut [u8], form: u32, n: usize, actions: usize, rows: &Rows)
+    requires { ⌜ (form < 256) × (n ≤ 16) × (actions ≤ 2048) × (scheduleLength form actions ≤ length (now schedule))
+        × Words (roundBits form + 4) actions (now rows) ⌝ }
+    ensures { λ _. ⌜ ScheduleWritten form n actions (before rows) (before schedule) (after schedule) ⌝ }
+{
+    write_header(schedule, form, n, actions);
+    write_rows(&mut schedule[4..], form, actions, rows);
 }

@@ -3,6 +3,7 @@ pub mod Running
 pub mod Missing
 pub mod Weights
 pub mod Held
+pub mod Joins
 pub mod Sending
 pub mod Settling
 pub mod Spending

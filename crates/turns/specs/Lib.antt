@@ -2,4 +2,5 @@
 pub mod Count
 pub mod Progress
 pub mod Rows
+pub mod Finish
 pub mod Moments

@@ -97,8 +97,8 @@ pub record Turning (x : Worker) (r w weighs : ℕ) (plan progress deques rows : 
   pub planned : Planned plan (m .setting .plan)
   pub progressed : Progressed (m .setting .plan) (m .state .next) (m .state .spent) progress
   pub dequed : Dequed deques (m .state .deques)
-  pub rowed : Rowed (m .setting .plan) (m .state) rows
+  pub rowed : Rowed (m .setting .plan) (m .state .next) (m .state .rows) rows
 
 pub record TurnTaken (x : Worker) (w : ℕ) (after : Turned) (progress deques rows : List ℕ) (m : Moment) : Type 0 where
   pub left : After w after progress deques (m .setting .plan) (turnOf (m .setting .plan) (m .round) w x (m .state))
-  pub rowed : Rowed (m .setting .plan) (turnOf (m .setting .plan) (m .round) w x (m .state)) rows
+  pub rowed : let t = turnOf (m .setting .plan) (m .round) w x (m .state) in Rowed (m .setting .plan) (t .next) (t .rows) rows

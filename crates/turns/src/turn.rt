@@ -1,12 +1,11 @@
 // A worker's turn (document 01, "Worker and round", rules 1 to 3; document 02, L5), with its row of the schedule.
 ghost use Rattle.plan.specs.Contract.{Some, _⇒_, before, after};
 ghost use Rattle.turns.specs.Moments.{Sending, Acting, Sent, Settling, Acted, Turning, TurnTaken};
+use crate::finish::finish;
 use crate::progress::Progress;
-use crate::progress::count_done;
 use crate::progress::done_of;
 use crate::progress::missing_at;
 use crate::progress::spend;
-use crate::progress::take_join;
 use crate::rows::Rows;
 use crate::rows::set_row;
 use deques::Deques;
@@ -19,7 +18,6 @@ use plan::sheet::child_at;
 use plan::sheet::first_of;
 use plan::sheet::frame_of;
 use plan::sheet::parent_of;
-use plan::sheet::target_at;
 use runs::worker::Worker;
 
 // What a turn leaves of the worker, and the weight of the living frames after it.
@@ -35,20 +33,9 @@ fn send(k: usize, j: usize, w: usize, plan: &Sheet, progress: &mut Progress, deq
     ensures { λ _. ⌜ Sending k j w (before plan) (before progress) (before deques)
         ⇒ Sent j w (after progress) (after deques) ⌝ }
 {
-    count_done(progress, j);
-    let sent = target_at(plan, k);
-    if sent == 0 {
-        return;
+    if finish(k, j, plan, progress) {
+        push(deques, w, byte(parent_of(plan, j)));
     }
-    let q = parent_of(plan, j);
-    let left = take_join(progress, first_of(plan, q) + (sent - 1));
-    if left != 0 {
-        return;
-    }
-    if done_of(progress, q) != sent - 1 {
-        return;
-    }
-    push(deques, w, byte(q));
 }
 
 // 3, where the action did not spawn: the job goes on, or the worker takes the bottom job of its own deque, or has none.

@@ -21,7 +21,7 @@ use Rattle.runs.specs.declared.tally.Tally.{Tally}
 use Rattle.runs.specs.Run.{run, admitted, runOf}
 use Rattle.courses.specs.Schedule.{scheduleBytes}
 use Rattle.runs.proofs.Laws.Admitted.{Stopped, Went, outcome}
-use Rattle.scheduler.specs.Entry.{Result, resulted}
+use Rattle.scheduler.specs.Entry.{Result, resulted, made}
 use Rattle.build.specs.declared.Counts.{Counts}
 use Rattle.build.specs.Build.{countsOf, ranWith, choiceCount, buildOf}
 use Rattle.build.specs.Parts.{BuildIn}
@@ -59,7 +59,7 @@ module _ (form : ℕ) (p : Plan) (ok : Accepted p) (byte : form < 256) (costs : 
   x = record { form = form; plan = p }
 
   abbrev answer : Outcome Tally
-  answer = resulted form (admitted (accepted x) n choices) n schedule .answer
+  answer = resulted form (made (admitted (accepted x) n choices)) n schedule .answer
 
   abbrev built : Outcome Counts
   built = countsOf (accepted x) (admitted (accepted x) n choices)
@@ -67,7 +67,7 @@ module _ (form : ℕ) (p : Plan) (ok : Accepted p) (byte : form < 256) (costs : 
   -- the run is turned down, or its tally is answered
   stopped-answer : (s : Stopped x n choices) → answer ≡ refused (s .cause)
   unfolding resulted
-  stopped-answer s = ap (λ o. resulted form o n schedule .answer) (s .not-run)
+  stopped-answer s = ap (λ o. resulted form (made o) n schedule .answer) (s .not-run)
 
   went-answer : Went x n choices → answer ≡ accepted (run (setting p n choices) .tally)
   unfolding resulted
@@ -78,7 +78,7 @@ module _ (form : ℕ) (p : Plan) (ok : Accepted p) (byte : form < 256) (costs : 
         run-fits p n choices (record { plan = ok; some = w .some; most = w .most }) form byte costs,
         length-most form (total p) (total-range p ok .1),
       ) in
-      let whole : resulted form (admitted (accepted x) n choices) n schedule ≡ record {
+      let whole : resulted form (made (admitted (accepted x) n choices)) n schedule ≡ record {
         answer = accepted (run (setting p n choices) .tally);
         schedule = scheduleBytes form n (run (setting p n choices) .rows) ++ drop (length (scheduleBytes form n (run (setting p n choices) .rows))) schedule;
       } = rw (w .ran, resulted, le-leb _ _ fits) in

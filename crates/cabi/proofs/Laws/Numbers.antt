@@ -9,8 +9,8 @@ use Rattle.plan.specs.declared.refusal.Refusal.{Refusal}
 use Rattle.plan.specs.declared.refusal.Refusal.the-variants.{RanOut, Form, Range, Spawn, Join, Fill, Workers, Choices, Short, Table, Schedule, Rule}
 use Rattle.plan.specs.declared.refusal.Refusal.the-variants.{Name, Round, Cost, Changes, Pair, Deadline, Windows, Clock}
 use Rattle.plan.specs.Refusal.{Outcome, refused, accepted, numberOf}
-use Rattle.plan.specs.Plan.{Plan}
-use Rattle.plan.specs.Reader.{readPlan}
+use Rattle.plan.specs.Plan.{Plan, total}
+use Rattle.plan.specs.Reader.{Read, readPlan}
 use Rattle.plan_measure.specs.declared.Measures.{Measures}
 use Rattle.plan_measure.specs.declared.Measured.{Measured}
 use Rattle.plan_measure.specs.declared.Measured.the-variants.{Refused as NotMeasured, Of}
@@ -23,13 +23,19 @@ use Rattle.plan_pair.specs.Pair.{Result, Paired as PlansPaired}
 use Rattle.runs.specs.declared.tally.Tally.{Tally}
 use Rattle.scheduler.specs.declared.run.Ran.{Ran}
 use Rattle.scheduler.specs.declared.run.Ran.the-variants.{Refused as NotRun, Done}
-use Rattle.scheduler.specs.Entry.{runInto, ranOf, Claimed as RunClaimed}
+use Rattle.scheduler.specs.Entry.{Result as Result′, ranOf, Claimed as RunClaimed}
+use Rattle.pool_runner.specs.Entry.{Claimed as FromPool}
+use Rattle.pools.specs.Claim.{Bounded as PoolBounded}
+use Rattle.runs.specs.Setting.{setting}
+use Rattle.runs.specs.Claim.{Bounded}
+use Rattle.courses.specs.Schedule.{scheduleLength, checked}
 use Rattle.checker.specs.declared.Judged.{Judged}
 use Rattle.checker.specs.declared.Judged.the-variants.{Refused as NotKept, Accepted}
 use Rattle.checker.specs.Answer.{judgedOf}
 use Rattle.cabi.specs.declared.DwCount.{DwCount}
+use Rattle.cabi.specs.declared.DwTally.{DwTally}
 use Rattle.cabi.specs.Few.{Few}
-use Rattle.cabi.specs.Plain.{countOf, measuresOf, tallyOf, checkOf, Converted, Paired, Divided, Claimed}
+use Rattle.cabi.specs.Plain.{countOf, measuresOf, tallyOf, checkOf, Converted, Paired, Divided, Claimed, PoolClaimed}
 
 pub number-some : (cause : Refusal) → numberOf cause ≡ 0 → ⊥
 number-some RanOut e = omega arith
@@ -93,24 +99,38 @@ module _ (o : Outcome Measures) (r : Measured) (ensures : told r ≡ o) (divided
   pub measures-accepted : (m : Measures) → r ≡ Of m → (measuresOf (accepted m) ≡ measuresOf o) × Divided (measuresOf (accepted m))
   measures-accepted m e = (rw (← ensures, e), λ z. divided m e)
 
-module _
-    (bytes : List ℕ)
-    (n : ℕ)
-    (choices lent : List ℕ)
-    (r : Ran)
-    (l : List ℕ)
-    (ensures : record { answer = ranOf r; schedule = l } ≡ runInto bytes n choices lent)
-    (claim : RunClaimed bytes n choices r l) where
-  pub tally-refused : (cause : Refusal) (k : ℕ) → r ≡ NotRun cause → k ≡ numberOf cause
-      → ((tallyOf (refused k) ≡ tallyOf (runInto bytes n choices lent .answer)) × (l ≡ runInto bytes n choices lent .schedule))
-      × Claimed bytes n choices (tallyOf (refused k)) l
-  tally-refused cause k e f = (rw (← ensures, e, f) (refl, refl), λ z. absurd (number-some cause (omega arith)))
+module _ (r : Ran) where
+  pub tally-refused : (cause : Refusal) (k : ℕ) → r ≡ NotRun cause → k ≡ numberOf cause → tallyOf (refused k) ≡ tallyOf (ranOf r)
+  tally-refused cause k e f = rw (e, f)
 
-  pub tally-accepted : (t : Tally) → r ≡ Done t
-      → ((tallyOf (accepted t) ≡ tallyOf (runInto bytes n choices lent .answer)) × (l ≡ runInto bytes n choices lent .schedule))
-      × Claimed bytes n choices (tallyOf (accepted t)) l
-  tally-accepted t e =
-      (rw (← ensures, e) (refl, refl), λ z. let (p, read, bounded) = claim t e in (p, t, read, refl, bounded))
+  pub tally-accepted : (t : Tally) → r ≡ Done t → tallyOf (accepted t) ≡ tallyOf (ranOf r)
+  tally-accepted t e = rw e
+
+-- what an entry that runs answered and left, with the numbers that stand for it
+pub tallies : (w : Result′) (r : Ran) (l : List ℕ) → record { answer = ranOf r; schedule = l } ≡ w → (d : DwTally) → d ≡ tallyOf (ranOf r)
+    → (d ≡ tallyOf (w .answer)) × (l ≡ w .schedule)
+tallies w r l ensures d e = (e ∙ ap (λ (w : Result′). tallyOf (w .answer)) ensures, ap (λ (w : Result′). w .schedule) ensures)
+
+-- what it promises of what was returned
+ran-claim : (P : Tally → Type 0) (r : Ran) → ((t : Tally) → r ≡ Done t → P t) → (d : DwTally) → d ≡ tallyOf (ranOf r) → d .refused ≡ 0
+    → (t : Tally) × (d ≡ tallyOf (accepted t)) × P t
+ran-claim P (NotRun cause) claim d e z = absurd (number-some cause (sym (ap (λ (d : DwTally). d .refused) e) ∙ z))
+ran-claim P (Done t) claim d e z = (t, e, claim t refl)
+
+pub run-claimed : (bytes : List ℕ) (n : ℕ) (choices : List ℕ) (r : Ran) (l : List ℕ) → RunClaimed bytes n choices r l → (d : DwTally)
+    → d ≡ tallyOf (ranOf r) → Claimed bytes n choices d l
+run-claimed bytes n choices r l claim d e z =
+    let (t, is, (x, read, bounded)) = ran-claim
+    (λ t. (x : Read) × (readPlan bytes ≡ accepted x) × Bounded (setting (x .plan) n choices) (x .form) l t) r claim d e z in
+    (x, t, read, is, bounded)
+
+pub pool-claimed : (bytes : List ℕ) (n : ℕ) (r : Ran) (l : List ℕ) → FromPool bytes n r l → (d : DwTally) → d ≡ tallyOf (ranOf r)
+    → PoolClaimed bytes n d l
+pool-claimed bytes n r l claim d e z =
+    let (t, is, (x, read, bounded, checks)) = ran-claim
+    (λ t. (x : Read) × (readPlan bytes ≡ accepted x) × PoolBounded (x .plan) n (x .form) l t
+    × (checked bytes (take (scheduleLength (x .form) (total (x .plan))) l) ≡ accepted 0)) r claim d e z in
+    (x, t, read, is, bounded, checks)
 
 module _ (o : Outcome ℕ) (r : Judged) (ensures : judgedOf r ≡ o) where
   pub check-refused : (cause : Refusal) (k : ℕ) → r ≡ NotKept cause → k ≡ numberOf cause → k ≡ checkOf o

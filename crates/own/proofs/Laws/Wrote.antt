@@ -31,7 +31,7 @@ use Rattle.runs.proofs.Laws.Admitted.{Stopped, Went, outcome}
 use Rattle.runs.proofs.Laws.OwnSchedule.{run-schedule}
 use Rattle.runs.proofs.Laws.Whole.{run-trace}
 use Rattle.runs.proofs.Laws.Coursed.{round-most}
-use Rattle.scheduler.specs.Entry.{Result, resulted, readInto, runInto}
+use Rattle.scheduler.specs.Entry.{Result, resulted, made, readInto, runInto}
 use Rattle.scheduler.proofs.Laws.RunBytes.{run-fits}
 
 module _ (plan : List ℕ) (n : ℕ) (choices schedule : List ℕ) where
@@ -67,7 +67,7 @@ module _ (plan : List ℕ) (n : ℕ) (choices schedule : List ℕ) where
 
         by-run : (x : Read) → readPlan plan ≡ accepted x → Stopped x n choices ⊎ Went x n choices → Wrote t
         by-run x e (inl s) =
-            refuses (s .cause) (ap (λ o. readInto o n choices schedule .answer) e ∙ ap (λ o. resulted (x .form) o n schedule .answer) (s .not-run))
+            refuses (s .cause) (ap (λ o. readInto o n choices schedule .answer) e ∙ ap (λ o. resulted (x .form) (made o) n schedule .answer) (s .not-run))
         by-run x e (inr w) = by-room x e (w .some) (w .most) (w .ran) _ refl
 
         by-plan : (o : Outcome Read) → readPlan plan ≡ o → Wrote t

@@ -1,6 +1,8 @@
 -- All that is owed of a run from a pool: the claim of specs/Claim.antt about every one, and about the schedule that it writes.
 --   pool-bounds  == the bounds hold of the rows and the tally of a run
+--   pool-long, pool-done == it has a row for each action, and has done every one
 --   pool-read    == its schedule is read back as its rows; pool-checked == and the checker accepts it
+--   pool-front   == it stands in front in the bytes that the run leaves
 --   pool-bounded == so the bounds hold of the rows that are read off the schedule, whatever follows this
 --   pool-claim   == and of all that is accepted
 use Prim.Native.Nat.{ℕ, _+_, _-_, _*_, _≤_, _<_, _^_}
@@ -28,6 +30,8 @@ use Rattle.courses.proofs.Laws.Order.{course-row, course-keeps, course-least, c
 use Rattle.courses.proofs.Laws.Peak.{course-space, peak-above, course-peak, peak-least, peak-most}
 use Rattle.courses.proofs.Laws.Pool.{terms}
 use Rattle.courses.proofs.Laws.Price.{price-work, work-fits}
+use Rattle.courses.proofs.Laws.PlanShape.{shape, shape-valid}
+use Rattle.lines.proofs.Laws.Progress.{all-done}
 use Rattle.courses.proofs.Laws.ScheduleBytes.{Small, schedule-read, schedule-length}
 use Rattle.courses.proofs.Laws.Worked.{turns-all}
 use Rattle.runs.proofs.Laws.Admitted.{workers-range}
@@ -37,7 +41,7 @@ use Rattle.pools.specs.Run.{ended, pool}
 use Rattle.pools.specs.Trace.{turning, Trace}
 use Rattle.pools.specs.Claim.{Bounds, Bounded, Claim, PoolClaim}
 use Rattle.pools.proofs.Laws.Taking.{core}
-use Rattle.pools.proofs.Laws.Coursed.{Fit, trace-sized, trace-course}
+use Rattle.pools.proofs.Laws.Coursed.{Fit, trace-sized, trace-manned, trace-course}
 use Rattle.pools.proofs.Laws.Tallies.{trace-counted}
 use Rattle.pools.proofs.Laws.Greedy.{idle-most}
 use Rattle.pools.proofs.Laws.Whole.{Finished, round-most, run-trace}
@@ -81,21 +85,27 @@ module _ {p : Plan} {n : ℕ} (fit : Fit p n) where
         kept = course-keeps (terms p n) (fit .plan) c over tt;
       }
 
+  pub pool-long : length (pool p n .rows) ≡ total p
+  pool-long = let (r, b, t, e, q) = run-trace fit in trace-sized fit t .rows
+
+  -- every action is done
+  pub pool-done : (j : ℕ) → j < length p → nextOf (pool p n) j ≡ size p j
+  pool-done =
+      let (r, b, t, e, q) = run-trace fit in
+      all-done (shape p) (shape-valid p (fit .plan)) (nextOf (pool p n)) (trace-manned fit t .closed) (pool-bounds .over)
+
   -- the end of a run, whose rounds have no more bits than a schedule of that form has for one
   module _ (form : ℕ) (known : form < 256) (costs : T (costsFit form p)) where
     abbrev out : List ℕ
     out = scheduleBytes form n (pool p n .rows)
-
-    long : length (pool p n .rows) ≡ total p
-    long = let (r, b, t, e, q) = run-trace fit in trace-sized fit t .rows
 
     pub pool-read : readSchedule form out (total p) ≡ accepted (record { workers = n; rows = pool p n .rows })
     pool-read =
         let o = pool-bounds in
         let few = work-fits form p (fit .plan) costs in
         let small : Small (roundBits form) (pool p n .rows) = λ k l.
-        let d = o .done k (omega (arith, long)) in (d .0, omega (arith, d .1, o .most-rounds), omega (arith, d .2, fit .most)) in
-        rw (← long) (schedule-read form n (pool p n .rows) known (fit .some) (fit .most) (omega (arith, long, total-range p (fit .plan))) small)
+        let d = o .done k (omega (arith, pool-long)) in (d .0, omega (arith, d .1, o .most-rounds), omega (arith, d .2, fit .most)) in
+        rw (← pool-long) (schedule-read form n (pool p n .rows) known (fit .some) (fit .most) (omega (arith, pool-long, total-range p (fit .plan))) small)
 
     unbroken : (c : Bool) → T c → _≡_ {A = Outcome ℕ} (elim c [ false ↦ refused 12 | true ↦ accepted 0 ]) (accepted 0)
     unbroken true h = refl
@@ -112,7 +122,7 @@ module _ {p : Plan} {n : ℕ} (fit : Fit p n) where
     -- what stands in front in the bytes that the run leaves
     pub pool-front : (rest : List ℕ) → take (scheduleLength form (total p)) (out ++ rest) ≡ out
     pool-front rest =
-        take-at out rest (scheduleLength form (total p)) (schedule-length form n (pool p n .rows) ∙ ap (scheduleLength form) long)
+        take-at out rest (scheduleLength form (total p)) (schedule-length form n (pool p n .rows) ∙ ap (scheduleLength form) pool-long)
 
     pub pool-bounded : (rest : List ℕ) → Bounded p n form (out ++ rest) (pool p n .tally)
     pool-bounded rest = record {

@@ -1,11 +1,13 @@
 -- A run from a pool is one of the pools that the theory of courses knows, so that all that holds of courses holds of its rows, its weights
 -- and its peak.
 --   Fit p n       == the plan is accepted, and there are 1 to 16 workers
+--   none-done, none-spent, start-idle, start-begins == how a run begins
 --   Sized p s     == the lists of a state are as long as they should be
+--   first-born, root-lives, root-ready == where nothing is done, job 0 alone lives, and it is ready
 --   Before, Stands == what holds before the taking of a round, and at each of its stages
 --   trace-stands  == it holds in every state of a run
---   trace-manned  == what the theory knows of the hands; trace-held == of a job that is held; trace-unpaid == it has rounds left
---   trace-course  == a state among turns is one of a course; before-course == so is a state among takings
+--   trace-manned, trace-course == what the theory knows of the hands among turns, and that they are those of a course
+--   trace-unpaid  == a job that is held has rounds left; taking-goes == before a round job 0 has not ended
 use Prim.Native.Nat.{ℕ, zero, suc, _*_, _≤_, _<_}
 use mathlib.Core.Path.{_≡_, refl, ap, sym, _∙_}
 use mathlib.Core.Logic.{_⊎_, inl, inr, _≢_, ⊎-elim, by-cases}
@@ -102,27 +104,29 @@ module _ (p : Plan) (n : ℕ) where
   Stands r b (turning k) s = Pool p n r k (handsOf b) (handsOf (s .workers)) (core s)
 
 module _ {p : Plan} {n : ℕ} (fit : Fit p n) where
-  -- the first taking: job 0, which is ready, is all that lives, and worker 0 has it
-  module _ (b : List Worker) (s : State) (o : Took p n n b s) (z : Begins p (core s)) (idle : (w : ℕ) → handsOf b w ≡ 0) where
-    first-born : (j : ℕ) → Living (shape p) (nextOf s) j → j ≡ 0
+  -- where nothing is done job 0, which is ready, is all that lives
+  module _ (s : State) (z : Begins p (core s)) where
+    pub first-born : (j : ℕ) → Living (shape p) (nextOf s) j → j ≡ 0
     first-born zero a = refl
     first-born (suc j) a = absurd (omega (arith, a .begun (omega arith), z .none (parent p (suc j))))
 
-    root-lives : Living (shape p) (nextOf s) 0
+    pub root-lives : Living (shape p) (nextOf s) 0
     root-lives =
         let b = jobs-range p (fit .plan) .0 in
         record { below = b; begun = λ o. absurd (omega arith); left = omega (arith, z .none 0, size-range p (fit .plan) 0 b) }
 
-    root-ready : Ready (shape p) (nextOf s) 0
+    pub root-ready : Ready (shape p) (nextOf s) 0
     root-ready k b a h e i =
         let y : nextOf s 0 ≡ 0 = z .none 0 in
         absurd (omega (arith, join-target p (fit .plan) k a (nextOf s 0) b h i))
 
+  -- the first taking gives it to worker 0
+  module _ (b : List Worker) (s : State) (o : Took p n n b s) (z : Begins p (core s)) (idle : (w : ℕ) → handsOf b w ≡ 0) where
     taken-first : (w j : ℕ) → handsOf (s .workers) w ≡ suc j → j ≡ 0
-    taken-first w j e = first-born j (o .free w j (idle w) e .1 .0)
+    taken-first w j e = first-born s z j (o .free w j (idle w) e .1 .0)
 
     root-taken : (x : ℕ) → handsOf (s .workers) 0 ≡ x → x ≡ 1
-    root-taken zero e = absurd (o .zeroth (fit .some) e 0 root-lives root-ready (λ w f. omega (arith, idle w)))
+    root-taken zero e = absurd (o .zeroth (fit .some) e 0 (root-lives s z) (root-ready s z) (λ w f. omega (arith, idle w)))
     root-taken (suc j) e = ap suc (taken-first 0 j e)
 
     others-idle : (w x : ℕ) → w ≢ 0 → handsOf (s .workers) w ≡ x → x ≡ 0

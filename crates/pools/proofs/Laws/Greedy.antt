@@ -163,7 +163,7 @@ module _ (p : Plan) (n : ℕ) where
     pub seated : state .workers ≡ b
     pub goes : nextOf state 0 < size p 0
     pub slack : Slack p m state
-    pub greedy : (w : ℕ) → w < n → handsOf b w ≡ 0 → (j : ℕ) → ¬ Free p state j
+    pub greedy : (w : ℕ) → w < n → handsOf b w ≡ 0 → (j : ℕ) → ¬ Free p (state .next) (state .workers) j
     pub grows : (j : ℕ) → Grows state s j
     pub moved : (w j : ℕ) → w < k → handsOf b w ≡ suc j → Moved state s j
     pub idle : s .tally .idle ≤ (n - 1) * m + idles b k

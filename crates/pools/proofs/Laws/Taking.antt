@@ -53,7 +53,7 @@ same-core q = λ i. record {
 
 pub take-keeps : (p : Plan) (w : ℕ) (s : State) → Same s (take p w s)
 unfolding take given
-take-keeps p w s = go (holds (workerOf s w)) (lowest (waits p s) (below (length p)))
+take-keeps p w s = go (holds (workerOf s w)) (lowest (waits p (s .next) (s .workers)) (below (length p)))
   where
     go : (b : Bool) (x : ℕ) → Same s (elim b [ true ↦ s | false ↦ giving w x s ])
     go true x = record { next = refl; spent = refl; rows = refl; tally = refl }
@@ -79,7 +79,7 @@ module _ (p : Plan) (n : ℕ) where
         → (w < n) × (Living (shape p) (nextOf s) j × Ready (shape p) (nextOf s) j × ((v : ℕ) → handsOf b v ≢ suc j))
     pub apart : (v w j : ℕ) → handsOf b v ≡ 0 → handsOf b w ≡ 0 → handsOf (s .workers) v ≡ suc j → handsOf (s .workers) w ≡ suc j → v ≡ w
     -- while a worker that has taken is left idle, no job is free
-    pub greedy : (w : ℕ) → w < k → handsOf (s .workers) w ≡ 0 → (j : ℕ) → ¬ Free p s j
+    pub greedy : (w : ℕ) → w < k → handsOf (s .workers) w ≡ 0 → (j : ℕ) → ¬ Free p (s .next) (s .workers) j
     -- and if it is the first, none was
     pub zeroth : 1 ≤ k → handsOf (s .workers) 0 ≡ 0 → (j : ℕ) → Living (shape p) (nextOf s) j → Ready (shape p) (nextOf s) j
         → ¬ ((w : ℕ) → handsOf b w ≢ suc j)
@@ -109,7 +109,7 @@ module _ (p : Plan) (n : ℕ) where
     }
 
     -- there is none to take
-    none : ((j : ℕ) → ¬ Free p s j) → Took (suc k) b s
+    none : ((j : ℕ) → ¬ Free p (s .next) (s .workers) j) → Took (suc k) b s
     none f = record {
       seats = o .seats;
       keeps = o .keeps;
@@ -123,7 +123,7 @@ module _ (p : Plan) (n : ℕ) where
     }
 
     -- it takes job j
-    module _ (idle : handsOf (s .workers) k ≡ 0) (j : ℕ) (free : Free p s j) where
+    module _ (idle : handsOf (s .workers) k ≡ 0) (j : ℕ) (free : Free p (s .next) (s .workers) j) where
       abbrev t : State
       t = given k j s
 
@@ -184,15 +184,15 @@ module _ (p : Plan) (n : ℕ) where
 
     pub took-next : Took (suc k) b (take p k s)
     unfolding take
-    took-next = go (holds (workerOf s k)) refl (lowest (waits p s) (below (length p))) (finds (waits p s) (length p))
+    took-next = go (holds (workerOf s k)) refl (lowest (waits p (s .next) (s .workers)) (below (length p))) (finds (waits p (s .next) (s .workers)) (length p))
       where
-        go : (c : Bool) → holds (workerOf s k) ≡ c → (x : ℕ) → Finds (waits p s) (length p) x
+        go : (c : Bool) → holds (workerOf s k) ≡ c → (x : ℕ) → Finds (waits p (s .next) (s .workers)) (length p) x
             → Took (suc k) b (elim c [ true ↦ s | false ↦ giving k x s ])
         go true e x f = stays (holds-hands (workerOf s k) e)
-        go false e zero f = none (λ j g. f .none refl j (g .living .below) (waits-by p ok s j g))
+        go false e zero f = none (λ j g. f .none refl j (g .living .below) (waits-by p ok (s .next) (s .workers) j g))
         go false e (suc j) f =
             let (l, t, low) = f .some j refl in
-            gives (holds-not (workerOf s k) e) j (waits-is p ok s j l t)
+            gives (holds-not (workerOf s k) e) j (waits-is p ok (s .next) (s .workers) j l t)
 
   pub took-takes : {b : List Worker} {s : State} → Took n b s → Takes p n (handsOf b) (handsOf (s .workers)) (core s)
   took-takes o = record { keeps = o .keeps; free = o .free; apart = o .apart }

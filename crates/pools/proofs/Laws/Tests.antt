@@ -2,7 +2,7 @@
 --   unheld-is, unheld-by == nobody holds the job
 --   unheld-or            == nobody does, or one does
 --   lone-is, lone-by     == no child of it lives
---   Free p s j           == job j lives, is ready and nobody holds it
+--   Free p next ws j     == job j lives, is ready and nobody of ws holds it
 --   waits-is, waits-by   == so it is of the jobs that are in the pool and ready
 use Prim.Native.Nat.{ℕ, zero, suc, _≤_, _<_}
 use mathlib.Core.Path.{_≡_, refl, ap, sym, _∙_}
@@ -23,7 +23,7 @@ use Rattle.lines.proofs.Laws.Shape.{Living, Ready, Lone}
 use Rattle.runs.specs.declared.worker.Worker.{Worker}
 use Rattle.runs.specs.declared.worker.Worker.the-variants.{Idle, Holding, Waiting}
 use Rattle.runs.proofs.Laws.Coursed.{handsIn, handsOf}
-use Rattle.pools.specs.State.{State, nextOf, has, unheld, inPool, lone}
+use Rattle.pools.specs.State.{has, unheld, inPool, lone}
 use Rattle.pools.specs.Take.{waits}
 
 has-not : (x : Worker) (j : ℕ) → T (not (has x j)) → handsIn x ≢ suc j
@@ -91,25 +91,25 @@ module _ (p : Plan) (next : List ℕ) (q : ℕ) where
         (eqb→eq (parent p c) q (both-right (leb 1 c) _ child), living-is p next c b (both-right (both (leb 1 c) (eqb (parent p c) q)) _ t)),
       )))
 
-pub record Free (p : Plan) (s : State) (j : ℕ) : Type 0 where
-  pub living : Living (shape p) (nextOf s) j
-  pub ready : Ready (shape p) (nextOf s) j
-  pub unheld : (w : ℕ) → handsOf (s .workers) w ≢ suc j
+pub record Free (p : Plan) (next : List ℕ) (ws : List Worker) (j : ℕ) : Type 0 where
+  pub living : Living (shape p) (λ k. getD next k 0) j
+  pub ready : Ready (shape p) (λ k. getD next k 0) j
+  pub unheld : (w : ℕ) → handsOf ws w ≢ suc j
 
-module _ (p : Plan) (ok : Accepted p) (s : State) (j : ℕ) where
-  pub waits-is : j < length p → T (waits p s j) → Free p s j
+module _ (p : Plan) (ok : Accepted p) (next : List ℕ) (ws : List Worker) (j : ℕ) where
+  pub waits-is : j < length p → T (waits p next ws j) → Free p next ws j
   unfolding waits inPool
   waits-is h t =
-      let here = both-left (both (living p (s .next) j) (unheld (s .workers) j)) _ t in
+      let here = both-left (both (living p next j) (unheld ws j)) _ t in
       record {
-        living = living-is p (s .next) j h (both-left (living p (s .next) j) _ here);
-        ready = ready-is p (s .next) ok j (both-right (both (living p (s .next) j) (unheld (s .workers) j)) _ t);
-        unheld = unheld-is (s .workers) j (both-right (living p (s .next) j) _ here);
+        living = living-is p next j h (both-left (living p next j) _ here);
+        ready = ready-is p next ok j (both-right (both (living p next j) (unheld ws j)) _ t);
+        unheld = unheld-is ws j (both-right (living p next j) _ here);
       }
 
-  pub waits-by : Free p s j → T (waits p s j)
+  pub waits-by : Free p next ws j → T (waits p next ws j)
   unfolding waits inPool
   waits-by f =
-      both-intro (both (living p (s .next) j) (unheld (s .workers) j)) _
-      (both-intro (living p (s .next) j) _ (living-by p (s .next) j (f .living)) (unheld-by (s .workers) j (f .unheld)))
-      (ready-by p (s .next) ok j (f .ready) (λ z. f .living .begun))
+      both-intro (both (living p next j) (unheld ws j)) _
+      (both-intro (living p next j) _ (living-by p next j (f .living)) (unheld-by ws j (f .unheld)))
+      (ready-by p next ok j (f .ready) (λ z. f .living .begun))

@@ -1,5 +1,6 @@
 -- A run begins: the progress as it is made, action by action, and all objects as they are made, which stand for the run's start.
 --   started-none, started-next == the progress before the first action, where every place is 0, and with one action more
+--   first-progressed == so is the progress of a run that begins
 --   in-few        == an accepted plan has at most 2,048 actions
 --   first-between == the objects as they are made: no round is done
 use Prim.Native.Nat.{ℕ, suc, _+_, _≤_, _<_}
@@ -12,7 +13,7 @@ use native.Mathlib.Decide.{ℕ-discrete}
 use lib.Dec.{ltb}
 use lib.ListN.{length, getD, set, replicate, length-replicate, getD-replicate, length-set}
 use lib.Seq.{getD-set-same, getD-set-other}
-use Rattle.plan.specs.Plan.{Plan, size, total, placed, noPlaced, entering as enteringOf}
+use Rattle.plan.specs.Plan.{Plan, total, placed, noPlaced, entering as enteringOf}
 use Rattle.plan.specs.Sheet.{frameOf}
 use Rattle.plan.proofs.Laws.Lists.{array-at, zeros-at}
 use Rattle.plan.proofs.Laws.Placed.{placed-length, placed-at, place-below}
@@ -26,13 +27,13 @@ use Rattle.runs.specs.Steal.{waits}
 use Rattle.runs.specs.Run.{run}
 use Rattle.runs.specs.Trace.{begins}
 use Rattle.runs.proofs.Laws.Fit.{Fit}
-use Rattle.runs.proofs.Laws.Start.{none-done, start-idle, start-calm, none-spent}
+use Rattle.runs.proofs.Laws.Start.{none-done, start-idle, start-calm}
 use Rattle.runs.proofs.Laws.Rounds.{not-ended}
 use Rattle.runs.proofs.Laws.Coursed.{start-weight}
 use Rattle.crew.proofs.Laws.Crews.{crewed-none, crewed-first, crewed-others}
 use Rattle.crew.proofs.Laws.Lines.{line-first-zero}
 use Rattle.deques.specs.Dequed.{lenAt, dequeAt, Dequed}
-use Rattle.turns.specs.Progress.{withMissing, missingAt, missingTo}
+use Rattle.turns.specs.Progress.{withMissing, Progressed}
 use Rattle.turns.proofs.Laws.Missing.{missing-start}
 use Rattle.rounds.specs.Account.{isIdle, opened}
 use Rattle.rounds.specs.Rounds.{Started, RunIn, RunGiven}
@@ -60,6 +61,21 @@ module _ {entering progress : List ℕ} where
     where
       joins : ℕ
       joins = getD entering k 0
+
+-- of any kind of run
+pub first-progressed : {actions : ℕ} {plan entering progress : List ℕ} {p : Plan} → RunIn actions plan entering p
+    → Started actions entering progress → Progressed p (replicate (length p) 0) (replicate (length p) 0) progress
+first-progressed {entering = entering} {p = p} g s = record {
+  long = s .long;
+  counts = λ j h. s .counts j (omega (arith, jobs-range p (g .planned .rules))) ∙ sym (zeros-at (length p) j);
+  spends = λ j h. s .spends j (omega (arith, jobs-range p (g .planned .rules))) ∙ sym (zeros-at (length p) j);
+  misses = λ j i h k.
+      let e = placed-length p in
+      let b = place-below p j i h k in
+      s .misses (place p j i) (omega (arith, g .all))
+      ∙ array-at (λ a. enteringOf p (a .job) (a .position)) entering (placed p) noPlaced (total p) (g .entered) e (place p j i) b
+      ∙ ap (λ a. enteringOf p (a .job) (a .position)) (placed-at p j i h k) ∙ sym (missing-start p j i);
+}
 
 first-queued : (p : Plan) (hi : ℕ) → Queued hi (start p .workers) (replicate 32 0)
 first-queued p hi v h = record {
@@ -94,26 +110,12 @@ module _ {n actions : ℕ} {choices plan entering : List ℕ} {p : Plan} (g : Ru
     crewed = crewed-none (λ v h. ap (ltb 0) (getD-replicate 32 (16 + v) 0 0 (omega (arith, g .most))));
   }
 
-  module _ {progress : List ℕ} (s : Started actions entering progress) where
-    first-missing : (j i : ℕ) → j < length p → i < size p j → missingAt progress (place p j i) ≡ missingTo p (start p .next) j i
-    unfolding start
-    first-missing j i h k =
-        let e = placed-length p in
-        let b = place-below p j i h k in
-        s .misses (place p j i) (omega (arith, g .given .all))
-        ∙ array-at (λ a. enteringOf p (a .job) (a .position)) entering (placed p) noPlaced (total p) (g .given .entered) e (place p j i) b
-        ∙ ap (λ a. enteringOf p (a .job) (a .position)) (placed-at p j i h k) ∙ sym (missing-start p j i)
-
-    first-done : {rows : List ℕ} → length rows ≡ 2048 → Done p progress rows (start p)
-    first-done long = record {
-      progressed = record {
-        long = s .long;
-        counts = λ j h. s .counts j (omega (arith, jobs-range p (g .given .planned .rules))) ∙ sym (none-done p j);
-        spends = λ j h. s .spends j (omega (arith, jobs-range p (g .given .planned .rules))) ∙ sym (none-spent p j);
-        misses = first-missing;
-      };
-      rowed = record { long = long; each = λ j i h k. absurd (omega (arith, none-done p j)) };
-    }
+  first-done : {progress rows : List ℕ} → Started actions entering progress → length rows ≡ 2048 → Done p progress rows (start p)
+  unfolding start
+  first-done s long = record {
+    progressed = first-progressed (g .given) s;
+    rowed = record { long = long; each = λ j i h k. absurd (omega (arith, none-done p j)) };
+  }
 
 first-deques : (p : Plan) → Dequed (replicate 4128 0) (start p .deques)
 unfolding start

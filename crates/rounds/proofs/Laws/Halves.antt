@@ -19,7 +19,6 @@ use Rattle.runs.specs.Turn.{turns}
 use Rattle.runs.specs.Steal.{laid, lay, lays, serves}
 use Rattle.runs.specs.Parts.{pickOf}
 use Rattle.runs.proofs.Laws.Rests.{Rests, lay-rests, serve-rests, turn-took}
-use Rattle.turns.proofs.Laws.Rows.{rowed-still}
 use Rattle.rounds.specs.Account.{isIdle}
 use Rattle.rounds.proofs.Laws.Standing.{Done}
 
@@ -27,7 +26,7 @@ abbrev pub Kept : State → State → Type 0
 Kept s t = (t .next ≡ s .next) × (t .spent ≡ s .spent) × (t .rows ≡ s .rows)
 
 pub done-kept : {p : Plan} {progress rows : List ℕ} {s t : State} → Done p progress rows s → Kept s t → Done p progress rows t
-done-kept d (e, g, f) = record { progressed = rw (e, g) (d .progressed); rowed = rowed-still e f (d .rowed) }
+done-kept d (e, g, f) = record { progressed = rw (e, g) (d .progressed); rowed = rw (e, f) (d .rowed) }
 
 kept-on : (s : State) {t u : State} → Kept s t → Rests t u → Kept s u
 kept-on s (e, g, f) q = (q .next ∙ e, q .spent ∙ g, q .rows ∙ f)

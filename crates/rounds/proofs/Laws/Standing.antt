@@ -85,7 +85,7 @@ pub record Asking (n hi : ℕ) (victims : ℕ) (choices : List ℕ) (cursor : �
 
 pub record Done (p : Plan) (progress rows : List ℕ) (s : State) : Type 0 where
   pub progressed : Progressed p (s .next) (s .spent) progress
-  pub rowed : Rowed p s rows
+  pub rowed : Rowed p (s .next) (s .rows) rows
 
 pub record Begun (S : Setting) (r : ℕ) (s : State) : Type 0 where
   pub on : ended (S .plan) s ≡ false

@@ -31,6 +31,7 @@ use Rattle.plan.proofs.Laws.Valid.{older, join-target}
 use Rattle.courses.proofs.Laws.PlanShape.{shape, shape-valid, ready-is, ready-by}
 use Rattle.runs.proofs.Laws.Lined.{lineIn, lineOf, Sound, line-of, held-in, held-below, line-stored, line-other}
 use Rattle.runs.proofs.Laws.Turns.{turn-cases}
+use Rattle.runs.proofs.Laws.Waking.{woken-is, woken-by}
 
 -- a test and a decision of one thing
 module _ {A : Type 0} (b : Bool) (d : Dec A) (f : T b → A) (g : A → T b) where
@@ -97,46 +98,17 @@ module _ {p : Plan} (ok : Accepted p) {n : ℕ} {s : State} (sound : Sound p n s
   pub acted : next′ j ≡ suc (nextOf s j)
   acted = getD-set-same (s .next) j (suc (nextOf s j)) 0 (omega (arith, sound .nexts, me .0 .below))
 
-  action-of : Act (shape p) (nextOf s) next′ j
+  pub action-of : Act (shape p) (nextOf s) next′ j
   action-of = record { closed = sound .good .closed; lives = me .0; ready = me .1; acts = acted; others = others s j }
 
   is : lineOf s w ≡ j ∷ dequeOf s w
   is = line-of s w holds
 
-  -- the parent has begun, before and after
-  parent-begun : 1 ≤ j → (0 < nextOf s (parent p j)) × (0 < next′ (parent p j))
-  parent-begun o =
-      let b = me .0 .begun o in
-      omega (arith, others s j (parent p j) (λ e. omega (arith, older p ok j o (me .0 .below))))
-
   pub wakes-is : T (wakes p (s .next) (afterOf s j) j (nextOf s j)) → Wakes (shape p) (nextOf s) next′ j
-  unfolding wakes
-  wakes-is t = go (action p j (nextOf s j) .join) refl t
-    where
-      before : Bool
-      before = ready p (s .next) (parent p j)
-
-      go : (x : ℕ) → action p j (nextOf s j) .join ≡ x
-          → T (elim x as (λ y. Bool) [ zero ↦ false | suc t ↦ both (not before) (ready p (afterOf s j) (parent p j)) ])
-          → Wakes (shape p) (nextOf s) next′ j
-      go zero e t = absurd t
-      go (suc x) e t =
-          let o = join-target p ok j (nextOf s j) x (me .0 .below) (me .0 .left) e .0 in
-          let b = parent-begun o in
-          wakes-iff action-of (shape-valid p ok) o .1 (
-            λ r. T-not before (both-left (not before) _ t) (ready-by p (s .next) ok (parent p j) r (λ z. absurd (omega arith))),
-            ready-is p (afterOf s j) ok (parent p j) (both-right (not before) _ t),
-          )
+  wakes-is = woken-is ok (s .next) (afterOf s j) action-of
 
   pub wakes-by : Wakes (shape p) (nextOf s) next′ j → T (wakes p (s .next) (afterOf s j) j (nextOf s j))
-  unfolding wakes
-  wakes-by k =
-      let o = sender action-of (shape-valid p ok) k in
-      let b = parent-begun o in
-      let t = wakes-iff action-of (shape-valid p ok) o .0 k in
-      let before = ready p (s .next) (parent p j) in
-      rw (wakes, k .sends) (both-intro (not before) _ (not-T before (λ x. t .0 (ready-is p (s .next) ok (parent p j) x)))
-      (ready-by p (afterOf s j) ok (parent p j) (t .1) (λ z. absurd (omega arith))))
+  wakes-by = woken-by ok (s .next) (afterOf s j) action-of
 
   pub wakes-empty : T (wakes p (s .next) (afterOf s j) j (nextOf s j)) → dequeOf s w ≡ []
   wakes-empty t = go (dequeOf s w) refl

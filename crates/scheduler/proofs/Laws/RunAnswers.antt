@@ -3,13 +3,12 @@
 --   refuses-plan, answers-read == what is answered to bytes that hold no plan; to bytes that hold one, what its run answers
 --   refuses-workers, refuses-choices, refuses-short == the run is turned down, by the first test that fails
 --   run-asked, rows-asked, run-answers == where none does: its parts are given what they need, and it answers so
-use Prim.Native.Nat.{ℕ, _+_, _-_, _*_, _≤_, _<_}
-use mathlib.Core.Path.{_≡_, sym, ap, ap₂, _∙_}
+use Prim.Native.Nat.{ℕ, _+_, _≤_, _<_}
+use mathlib.Core.Path.{_≡_, sym, ap, _∙_}
 use mathlib.Core.Bool.{true, false}
-use mathlib.Core.List.{List, [], _++_, append-nil}
+use mathlib.Core.List.{List, _++_}
 use native.Mathlib.Omega.{arith}
-use lib.ListN.{length, take, drop, length-drop}
-use lib.Seq.{take-all, drop-length}
+use lib.ListN.{length, drop}
 use lib.Dec.{leb, leb→le, le→leb}
 use borrow.Author.Tests.{le-leb, lt-leb}
 use Rattle.plan.specs.declared.refusal.Refusal.{Refusal}
@@ -32,10 +31,10 @@ use Rattle.scheduler.specs.Entry.{Result, resulted, readInto, runInto, r
 use Rattle.rounds.specs.Rounds.{RunIn, RunGiven, RunLeft}
 use Rattle.rounds.proofs.Laws.Beginning.{in-few}
 use Rattle.scheduler.specs.RunRead.{RunsIn, Answered}
-use Rattle.scheduler.specs.Written.{headerBytes, rowsLength, Words, RowsWritten}
+use Rattle.scheduler.specs.Written.{Words, ScheduleWritten}
 use Rattle.runs.proofs.Laws.Fit.{Fit}
 use Rattle.runs.proofs.Laws.Demand3.{run-bounded}
-use Rattle.scheduler.proofs.Laws.RunBytes.{run-fits, run-words, run-written}
+use Rattle.scheduler.proofs.Laws.RunBytes.{Fitting, run-fitting, Told, run-told, made-fits, made-words, made-written}
 
 pub read-runs : (bytes : List ℕ) (form jobs actions : ℕ) (plan entering : List ℕ) (g : ReadPlan bytes form jobs actions plan entering)
     → RunsIn form actions plan entering (g .is)
@@ -102,8 +101,11 @@ module _ {form actions : ℕ} {plan entering : List ℕ} {p : Plan} (given : Run
         unfolding admitted
         ran = rw (admitted, fits, fit)
 
+        fitting : Fitting form n p (s .rows)
+        fitting = run-fitting going (given .byte) (given .costs)
+
         whole : length (scheduleBytes form n (s .rows)) ≡ scheduleLength form actions
-        whole = run-fits p n choices going form (given .byte) (given .costs) ∙ ap (scheduleLength form) (sym (g .all))
+        whole = made-fits fitting ∙ ap (scheduleLength form) (sym (g .all))
 
         pub refuses-short : length schedule < scheduleLength form actions → Answered form n choices schedule (RefusedRun Refusal.Short) schedule p
         unfolding resulted
@@ -121,40 +123,27 @@ module _ {form actions : ℕ} {plan entering : List ℕ} {p : Plan} (given : Run
               fit = of-true (choicesFit n choices) fit;
             }
 
-        -- all rounds leave the rows in words; then the header is written, and the words into what follows it
-        module _ (long : scheduleLength form actions ≤ length schedule) (headed : List ℕ) (e : headed ≡ headerBytes form n actions ++ drop 4 schedule)
-            (t : Tally) (words : List ℕ) (told : RunGiven n actions choices plan entering ⇒ RunLeft n choices t words) where
+        -- all rounds leave the rows in words, which are then written
+        module _ (long : scheduleLength form actions ≤ length schedule) (t : Tally) (words : List ℕ)
+            (told : RunGiven n actions choices plan entering ⇒ RunLeft n choices t words) where
           left : RunLeft n choices t words p
           left = told p run-asked
 
-          abbrev rest : ℕ
-          rest = length headed - 4
+          words-are : Told p (s .rows) words
+          words-are = run-told going (left .rowed)
 
-          part : take rest (drop 4 headed) ≡ drop 4 schedule
-          part = take-all rest (drop 4 headed) (omega (arith, length-drop 4 headed)) ∙ ap (drop 4) e
-
-          behind : drop rest (drop 4 headed) ≡ []
-          behind = ap (λ k. drop k (drop 4 headed)) (sym (length-drop 4 headed)) ∙ drop-length (drop 4 headed)
-
-          -- what writing the rows is given
-          pub rows-asked : (actions ≤ 2048) × (rowsLength (roundBits form + 4) actions ≤ length (take rest (drop 4 headed)))
+          -- what writing the schedule is given
+          pub rows-asked : (form < 256) × (n ≤ 16) × (actions ≤ 2048) × (scheduleLength form actions ≤ length schedule)
               × Words (roundBits form + 4) actions words
-          unfolding scheduleLength
-          rows-asked =
-              let words-fit : Words (roundBits form + 4) actions words =
-              λ k h. run-words p n choices going form (given .byte) (given .costs) words (left .rowed) k (omega (arith, g .all)) in
-              (in-few g, rw (part, length-drop) (omega arith), words-fit)
+          rows-asked = (given .byte, most, in-few g, long, rw (g .all) (made-words fitting words words-are))
 
-          pub run-answers : (out : List ℕ) → RowsWritten (roundBits form + 4) actions words (take rest (drop 4 headed)) out
-              → Answered form n choices schedule (Done t) (take 4 headed ++ (out ++ drop rest (drop 4 headed))) p
+          pub run-answers : (out : List ℕ) → ScheduleWritten form n actions words schedule out
+              → Answered form n choices schedule (Done t) out p
           unfolding resulted
           run-answers out w =
               let bytes = scheduleBytes form n (s .rows) in
               let fit : length bytes ≤ length schedule = omega (arith, whole) in
-              let is : take 4 headed ++ (out ++ drop rest (drop 4 headed)) ≡ bytes ++ drop (length bytes) schedule =
-              ap₂ _++_ (ap (take 4) e) (ap (λ l. out ++ l) behind ∙ append-nil out)
-              ∙ (ap (λ a. headerBytes form n a ++ out) (g .all)
-              ∙ run-written p n choices going form (given .byte) (given .costs) words (left .rowed) schedule out (rw (part, g .all) at w)) in (
+              let is : out ≡ bytes ++ drop (length bytes) schedule = made-written fitting words words-are schedule out (rw (g .all) at w) in (
                 rw (left .counts, is, ran, resulted, le-leb _ _ fit),
                 λ u v. let same : u ≡ s .tally = cc (left .counts) in rw (same, is) (run-bounded going form (given .byte) (given .costs) (drop (length bytes) schedule)),
               )

@@ -1,11 +1,11 @@
 -- What is known where a worker is about to act: the plan, the state, the job and its action.
---   held-sound, held-job, held-room == the state is sound; the job has an action left, and its number and place are small
+--   held-sound, held-act            == the state is sound; the action, as the theory of lines has it
+--   held-job, held-room             == the job has an action left, and its number and place are small
 --   held-target, held-spawn, held-cost == what the action sends and spawns, and its cost, from the plan's array
 --   held-unpaid                     == it has rounds left, and takes few
---   held-next, held-others          == how many actions of each job are done after it
+--   held-next                       == how many of its actions are done after it
 use Prim.Native.Nat.{ℕ, suc, _≤_, _<_}
 use mathlib.Core.Path.{_≡_}
-use mathlib.Core.Logic.{_≢_}
 use mathlib.Core.List.{List}
 use native.Mathlib.Omega.{arith}
 use lib.ListN.{length, getD}
@@ -19,7 +19,9 @@ use Rattle.turns.specs.Moments.{Moment, Held, afterOf}
 use Rattle.runs.proofs.Laws.Coursed as Coursed
 use Rattle.runs.proofs.Laws.Lined as Lined
 use Rattle.runs.proofs.Laws.Lined.{Sound}
-use Rattle.runs.proofs.Laws.TurnSound.{acted, others}
+use Rattle.runs.proofs.Laws.TurnSound.{action-of}
+use Rattle.courses.proofs.Laws.PlanShape.{shape}
+use Rattle.lines.proofs.Laws.Act.{Act}
 use Rattle.turns.proofs.Laws.Running.{run-sound, run-fit}
 use Rattle.plan.proofs.Laws.Spawning.{cost-in-range}
 
@@ -32,6 +34,9 @@ module _ {k j w : ℕ} {plan : List ℕ} {m : Moment} (a : Held k j w plan m) wh
 
   pub held-sound : Sound p (m .setting .workers) s
   held-sound = run-sound (a .run)
+
+  pub held-act : Act (shape p) (nextOf s) (λ h. getD (afterOf s j) h 0) j
+  held-act = action-of (a .planned .rules) held-sound w (a .holding)
 
   pub held-job : (j < length p) × (nextOf s j < size p j) × (1 ≤ j → spawnAt p j < nextOf s (parent p j))
   held-job = Lined.held-job held-sound w (a .holding)
@@ -64,7 +69,4 @@ module _ {k j w : ℕ} {plan : List ℕ} {m : Moment} (a : Held k j w plan m) wh
       )
 
   pub held-next : getD (afterOf s j) j 0 ≡ suc (nextOf s j)
-  held-next = acted (a .planned .rules) held-sound w (a .holding)
-
-  pub held-others : (h : ℕ) → h ≢ j → getD (afterOf s j) h 0 ≡ nextOf s h
-  held-others = others s j
+  held-next = held-act .acts

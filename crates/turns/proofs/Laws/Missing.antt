@@ -1,5 +1,6 @@
 -- How many joins into an action are not sent yet: a job is ready when its next action misses none, and an action that is done
 -- takes one from the action that its join goes to, and from no other.
+--   agree, one-less, none-counted == how many members of a list pass two tests that agree, or agree but for one; or none pass
 --   missing-start                 == as a run begins, all that enter it
 --   missing-none, missing-no      == none are missing exactly where each action that sends one is done
 --   missing-ready, ready-missing  == so a job that has begun is ready
@@ -28,7 +29,7 @@ use Rattle.courses.proofs.Laws.PlanShape.{ready-is, ready-by}
 
 -- two tests of the members of a list
 module _ {A : Type 0} (f g : A → Bool) (d : A) where
-  agree : (l : List A) → ((k : ℕ) → k < length l → f (getD l k d) ≡ g (getD l k d)) → count f l ≡ count g l
+  pub agree : (l : List A) → ((k : ℕ) → k < length l → f (getD l k d) ≡ g (getD l k d)) → count f l ≡ count g l
   agree [] h = refl
   agree (x ∷ l) h = go (decT (g x)) (h 0 (omega arith)) (agree l (λ k b. h (suc k) (omega arith)))
     where
@@ -37,7 +38,7 @@ module _ {A : Type 0} (f g : A → Bool) (d : A) where
       go (no n) e r = omega (arith, count-miss f x l (rw e n), count-miss g x l n)
 
   -- one member passes the first and not the second
-  one-less : (l : List A) (k : ℕ) → k < length l → T (f (getD l k d)) → (T (g (getD l k d)) → ⊥)
+  pub one-less : (l : List A) (k : ℕ) → k < length l → T (f (getD l k d)) → (T (g (getD l k d)) → ⊥)
       → ((m : ℕ) → m < length l → m ≢ k → f (getD l m d) ≡ g (getD l m d)) → count f l ≡ suc (count g l)
   one-less [] k h t n same = absurd (not-suc-le-zero h)
   one-less (x ∷ l) zero h t n same =
@@ -51,7 +52,7 @@ module _ {A : Type 0} (f g : A → Bool) (d : A) where
       go (yes y) e r = omega (arith, count-hit f x l (rw e y), count-hit g x l y)
       go (no m) e r = omega (arith, count-miss f x l (rw e m), count-miss g x l m)
 
-none-counted : {A : Type 0} (f : A → Bool) (d : A) (l : List A) → ((k : ℕ) → k < length l → T (f (getD l k d)) → ⊥) → count f l ≡ 0
+pub none-counted : {A : Type 0} (f : A → Bool) (d : A) (l : List A) → ((k : ℕ) → k < length l → T (f (getD l k d)) → ⊥) → count f l ≡ 0
 none-counted f d [] h = refl
 none-counted f d (x ∷ l) h = count-miss f x l (h 0 (omega arith)) ∙ none-counted f d l (λ k b. h (suc k) (omega arith))
 

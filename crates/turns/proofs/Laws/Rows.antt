@@ -1,6 +1,7 @@
 -- What a turn makes of the rows, and what is known of the arrays before it.
---   rowed-still                  == where no action is done and no row written, the rows stand as they stood
---   turning-tag, turning-small   == the worker's tag is that of one that holds a job; round and worker are small
+--   acts-rowed                   == the rows after an action is done
+--   spent-progressed             == the progress where rounds are spent on an action
+--   held-tag, turning-tag, turning-small == the worker's tag is that of one that holds a job; round and worker are small
 --   turning-room                 == that job's next action stands where the arrays say, within the rows, and has rounds left
 --   turning-goes                 == a round was spent on it, and it goes on
 --   turning-acting, turning-taken == it was its last round; the row is written and the action done
@@ -14,6 +15,7 @@ use denote.Enum.Declared.{tagOf}
 use lib.ListN.{length, length-set, set}
 use lib.Seq.{getD-set-same, getD-set-other}
 use Rattle.plan.specs.Plan.{Plan, size}
+use Rattle.plan.specs.Rules.{Accepted}
 use Rattle.plan.specs.Sheet.{firstOf, costAt}
 use Rattle.courses.specs.Row.{place}
 use Rattle.runs.specs.declared.worker.Worker.{Worker}
@@ -25,8 +27,8 @@ use Rattle.turns.specs.declared.turn.Turned.{Turned}
 use Rattle.turns.specs.Progress.{doneOf, spentAt, withSpent, Spent, Progressed}
 use Rattle.turns.specs.Rows.{withRow, Rowed}
 use Rattle.turns.specs.Moments.{Moment, Acting, Acted, Turning, TurnTaken, Held}
-use Rattle.courses.proofs.Laws.Course.{place-apart, Acts, acted}
-use Rattle.runs.proofs.Laws.Coursed.{core, turn-ends}
+use Rattle.courses.proofs.Laws.Course.{Core, nextIn, place-apart, Acts, acted}
+use Rattle.runs.proofs.Laws.Coursed.{turn-ends}
 use Rattle.turns.proofs.Laws.Running.{run-counts}
 use Rattle.turns.proofs.Laws.Held.{held-sound, held-job, held-room, held-cost, held-unpaid}
 use native.Mathlib.Decide.{ℕ-discrete}
@@ -34,17 +36,11 @@ use borrow.Author.Tests.{ltb-true, ltb-false}
 use Rattle.plan.proofs.Laws.Valid.{jobs-range}
 use Rattle.runs.proofs.Laws.Turns.{costOf, turn-worked, turn-finished}
 
-pub rowed-still : {p : Plan} {s t : State} {rows : List ℕ} → t .next ≡ s .next → t .rows ≡ s .rows → Rowed p s rows → Rowed p t rows
-rowed-still e f h = record {
-  long = h .long;
-  each = λ j i l b. rw f (h .each j i l (rw e at b));
-}
-
 -- the rows after an action
-acts-rowed : {p : Plan} {r w j : ℕ} {s s′ : State} {rows : List ℕ} → Acts p r w j (core s) (core s′)
-    → ((h : ℕ) → h < length p → nextOf s h ≤ size p h) → place p j (nextOf s j) < 2048 → Rowed p s rows
-    → Rowed p s′ (withRow rows (place p j (nextOf s j)) r w)
-acts-rowed {p} {r} {w} {j} {s} {s′} {rows} a bound within rowed = record {
+pub acts-rowed : {p : Plan} {r w j : ℕ} {c c′ : Core} {rows : List ℕ} → Acts p r w j c c′
+    → ((h : ℕ) → h < length p → nextIn c h ≤ size p h) → place p j (nextIn c j) < 2048 → Rowed p (c .next) (c .rows) rows
+    → Rowed p (c′ .next) (c′ .rows) (withRow rows (place p j (nextIn c j)) r w)
+acts-rowed {p} {r} {w} {j} {c} {c′} {rows} a bound within rowed = record {
   long = length-set rows k (16 * r + w) ∙ rowed .long;
   each = λ h i l b.
       ⊎-elim
@@ -54,15 +50,32 @@ acts-rowed {p} {r} {w} {j} {s} {s′} {rows} a bound within rowed = record {
 }
   where
     k : ℕ
-    k = place p j (nextOf s j)
+    k = place p j (nextIn c j)
 
-    apart : (h i : ℕ) → h < length p → i < nextOf s h → place p h i ≢ k
+    apart : (h i : ℕ) → h < length p → i < nextIn c h → place p h i ≢ k
     apart h i l b e =
-        let q = place-apart p h i j (nextOf s j) l (omega (arith, bound h l)) (a .known) (a .left) e in
-        omega (arith, ap (nextOf s) (q .0), q .1)
+        let q = place-apart p h i j (nextIn c j) l (omega (arith, bound h l)) (a .known) (a .left) e in
+        omega (arith, ap (nextIn c) (q .0), q .1)
+
+-- the progress where so many rounds are spent on job y's next action
+pub spent-progressed : {p : Plan} → Accepted p → {next spent progress : List ℕ} → Progressed p next spent progress → length spent ≡ length p
+    → {y : ℕ} → y < length p → (n : ℕ) → Progressed p next (set spent y n) (withSpent progress y n)
+spent-progressed {p} ok {next} {spent} {progress} g long {y} known n = record {
+  long = length-set progress (256 + y) n ∙ g .long;
+  counts = λ h l. getD-set-other progress (256 + y) h n 0 (λ q. omega (arith, below h l)) ∙ g .counts h l;
+  spends = λ h l. by-cases (ℕ-discrete h y)
+      (λ q. rw q (getD-set-same progress (256 + y) n 0 (omega (arith, g .long, below y known))
+      ∙ sym (getD-set-same spent y n 0 (omega arith))))
+      (λ f. getD-set-other progress (256 + y) (256 + h) n 0 (λ q. f (omega arith))
+      ∙ (g .spends h l ∙ sym (getD-set-other spent y h n 0 f)));
+  misses = λ h i l b. getD-set-other progress (256 + y) (512 + place p h i) n 0 (λ q. omega (arith, below y known)) ∙ g .misses h i l b;
+}
+  where
+    below : (h : ℕ) → h < length p → h < 256
+    below h l = omega (arith, jobs-range p ok)
 
 -- the tag of a worker that holds a job
-held-tag : (x : Worker) → holds x ≡ true → tagOf the-type x ≡ 1
+pub held-tag : (x : Worker) → holds x ≡ true → tagOf the-type x ≡ 1
 held-tag Idle e = let z : _≡_ {A = ℕ} 0 1 = cc in absurd (omega arith)
 held-tag (Holding j) e = refl
 held-tag (Waiting v l) e = let z : _≡_ {A = ℕ} 0 1 = cc in absurd (omega arith)
@@ -108,20 +121,7 @@ module _ {x : Worker} {r w weighs : ℕ} {plan progress deques rows : List ℕ} 
       module _ {more : Bool} {progress′ : List ℕ} (spent : Spent y (f + d) plan progress more progress′) where
         -- the array after it, where so many rounds are spent on the job's next action
         spent-progress : (n : ℕ) → progress′ ≡ withSpent progress y n → Progressed p (s .next) (set (s .spent) y n) progress′
-        spent-progress n eq = rw eq (record {
-          long = length-set progress (256 + y) n ∙ t .progressed .long;
-          counts = λ h l. getD-set-other progress (256 + y) h n 0 (λ q. omega (arith, below h l)) ∙ t .progressed .counts h l;
-          spends = λ h l. by-cases (ℕ-discrete h y)
-              (λ q. rw q (getD-set-same progress (256 + y) n 0 (omega (arith, t .progressed .long, turning-room))
-              ∙ sym (getD-set-same (s .spent) y n 0 (omega (arith, held-sound held .spents, held-job held)))))
-              (λ g. getD-set-other progress (256 + y) (256 + h) n 0 (λ q. g (omega arith))
-              ∙ (t .progressed .spends h l ∙ sym (getD-set-other (s .spent) y h n 0 g)));
-          misses = λ h i l b.
-              getD-set-other progress (256 + y) (512 + place p h i) n 0 (λ q. omega (arith, turning-room)) ∙ t .progressed .misses h i l b;
-        })
-          where
-            below : (h : ℕ) → h < length p → h < 256
-            below h l = omega (arith, jobs-range p (t .planned .rules))
+        spent-progress n eq = rw eq (spent-progressed (t .planned .rules) (t .progressed) (held-sound held .spents) (held-job held .0) n)
 
         -- the action goes on
         pub turning-goes : more ≡ true → (after : Turned) → after .worker ≡ x → after .weight ≡ weighs
@@ -142,7 +142,7 @@ module _ {x : Worker} {r w weighs : ℕ} {plan progress deques rows : List ℕ} 
                 progressed = spent-progress (suc (spentOf s y)) noted;
                 dequed = t .dequed;
               });
-              rowed = rw q (rowed-still refl refl (t .rowed));
+              rowed = rw q (t .rowed);
             }
 
         -- this is its last round

@@ -36,7 +36,7 @@ use Rattle.runs.proofs.Laws.Deques.{sound-chain}
 use Rattle.runs.proofs.Laws.TurnSound.{seatOf, stay, seat-spawn, seat-none, wakes-is}
 use Rattle.turns.proofs.Laws.Missing.{missing-ready, ready-missing}
 use Rattle.turns.proofs.Laws.Weights.{weight-small, weight-end, weight-same, weight-spawn}
-use Rattle.turns.proofs.Laws.Held.{held-sound, held-job, held-room, held-spawn, held-next}
+use Rattle.turns.proofs.Laws.Held.{held-sound, held-act, held-job, held-room, held-spawn, held-next}
 
 -- the deques after rule 1
 abbrev pub aboves : ℕ → ℕ → Moment → List (List ℕ)
@@ -129,7 +129,7 @@ module _ {k j w weighs : ℕ} {plan progress deques : List ℕ} {m : Moment} (g 
         let above = aboveOf (p a) (s a) w j in
         seated a (record { worker = Holding c; deque = j ∷ above })
         (seat-spawn (p a) (afterOf (s a) j) j (nextOf (s a) j) above spawns) t h
-        (omega (arith, g .weighed, a .planned .laid .frames c (act-child .0), weight-spawn (a .run) w j (a .holding) c spawns))
+        (omega (arith, g .weighed, a .planned .laid .frames c (act-child .0), weight-spawn (ok a) (s a .next) (held-act a) c spawns))
         (sent .progressed) (rw (e, set-set, getD-set-same (s a .deques) w above [] (stored a)) at d)
 
 -- 3. it spawns none
@@ -167,7 +167,7 @@ module _ {k j w weighs : ℕ} {plan progress deques : List ℕ} {m : Moment} (g 
 
     lighter : weighs ≡ weight p′ (afterOf s′ j) + frameOf plan j
     lighter =
-        g .weighed ∙ omega (arith, weight-end (g .held .run) w j (g .held .holding) last, g .held .planned .laid .frames j (known .0))
+        g .weighed ∙ omega (arith, weight-end (g .held .planned .rules) (s′ .next) (held-act (g .held)) last, g .held .planned .laid .frames j (known .0))
 
     pub settle-lighter : frameOf plan j ≤ weighs
     settle-lighter = omega (arith, lighter)
@@ -193,7 +193,7 @@ module _ {k j w weighs : ℕ} {plan progress deques : List ℕ} {m : Moment} (g 
         rw e (g .sent .progressed .misses j (suc (nextOf s′ j)) (known .0) more)
 
     same-weight : weighs ≡ weight p′ (afterOf s′ j)
-    same-weight = g .weighed ∙ sym (weight-same (g .held .run) w j (g .held .holding) (g .none) (λ e. omega (arith, more)))
+    same-weight = g .weighed ∙ sym (weight-same (g .held .planned .rules) (s′ .next) (held-act (g .held)) (g .none) (λ e. omega (arith, more)))
 
     -- which is ready
     pub settle-goes : missingAt progress (k + 1) ≡ 0 → (x : Turned) → x .worker ≡ Holding j → x .weight ≡ weighs

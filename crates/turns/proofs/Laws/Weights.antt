@@ -1,6 +1,7 @@
--- How a turn changes the weight of the living frames: an action that spawns adds the child's frame, a job's last action takes its
+-- How an action changes the weight of the living frames: one that spawns adds the child's frame, a job's last action takes its
 -- own away, and any other leaves it as it is.
 --   weight-small                          == the living frames of any state fit
+--   last-spawns-none                      == a job's last action spawns none
 --   weight-spawn, weight-end, weight-same == the weight after an action, in this order
 use Prim.Native.Nat.{ℕ, zero, suc, _+_, _-_, _*_, _≤_, _<_}
 use mathlib.Core.Path.{_≡_, refl, ap, sym, _∙_}
@@ -9,24 +10,16 @@ use mathlib.Core.List.{List}
 use native.Mathlib.Omega.{arith}
 use native.Mathlib.Nat.{not-suc-le-zero, le-of-suc-le-suc, eq-or-lt-of-le, le-refl, le-trans}
 use native.Mathlib.Decide.{ℕ-discrete}
-use lib.ListN.{length, getD}
-use lib.Seq.{getD-set-same, getD-set-other}
+use lib.ListN.{length, getD, set}
 use Rattle.plan.specs.Plan.{Plan, job, size, action, parent, spawnAt}
 use Rattle.plan.specs.Rules.{Accepted}
 use Rattle.plan.proofs.Laws.Valid.{jobs-range, size-range, frame-range, older, spawned-there, spawned-once, join-target, last-sends}
-use Rattle.runs.specs.declared.worker.Worker.{Worker}
-use Rattle.runs.specs.declared.worker.Worker.the-variants.{Holding}
-use Rattle.runs.specs.Setting.{Setting}
-use Rattle.runs.specs.State.{State, nextOf, workerOf}
 use Rattle.courses.specs.Ready.{weight}
-use Rattle.runs.specs.Trace.{Stage}
-use Rattle.turns.specs.Moments.{InRun, afterOf}
+use Rattle.lines.proofs.Laws.Act.{Act}
 use Rattle.lines.proofs.Laws.Shape.{Living, living?}
 use Rattle.lines.proofs.Laws.Sum.{sum, only, only-yes, only-no, sum-same, sum-bound}
 use Rattle.lines.proofs.Laws.Weight.{held}
 use Rattle.courses.proofs.Laws.PlanShape.{shape, weight-held}
-use Rattle.runs.proofs.Laws.Lined.{Sound, held-job}
-use Rattle.turns.proofs.Laws.Running.{run-sound}
 
 -- one term of a sum changes
 sum-change : (n : ℕ) (f g : ℕ → ℕ) (c : ℕ) → c < n → ((k : ℕ) → k < n → k ≢ c → g k ≡ f k) → sum n g + f c ≡ sum n f + g c
@@ -59,7 +52,7 @@ module _ (p : Plan) (ok : Accepted p) where
       (omega (arith, jobs-range p ok)))
 
   -- a job's last action spawns none: a child's last action joins a later action of its parent than its spawn
-  last-spawns-none : (j i : ℕ) → j < length p → suc i ≡ size p j → action p j i .spawn ≡ 0
+  pub last-spawns-none : (j i : ℕ) → j < length p → suc i ≡ size p j → action p j i .spawn ≡ 0
   last-spawns-none j i h e = go (action p j i .spawn) refl
     where
       child : (c : ℕ) → action p j i .spawn ≡ suc c → (x : ℕ) → action p c (size p c - 1) .join ≡ x → ⊥
@@ -74,94 +67,95 @@ module _ (p : Plan) (ok : Accepted p) where
       go zero q = refl
       go (suc c) q = absurd (child c q (action p c (size p c - 1) .join) refl)
 
--- worker w, which holds job j, does its next action
-module _ {S : Setting} {r : ℕ} {began : List Worker} {g : Stage} {s : State} (run : InRun S r began g s)
-    (w j : ℕ) (holding : workerOf s w ≡ Holding j) where
-  abbrev p : Plan
-  p = S .plan
+-- job j, which can, does its next action
+module _ {p : Plan} (ok : Accepted p) (next : List ℕ) {j : ℕ}
+    (act : Act (shape p) (λ k. getD next k 0) (λ k. getD (set next j (suc (getD next j 0))) k 0) j) where
+  abbrev now : ℕ → ℕ
+  now k = getD next k 0
 
-  sound : Sound p (S .workers) s
-  sound = run-sound run
+  -- the counts after it
+  abbrev done : List ℕ
+  done = set next j (suc (now j))
 
-  known : (j < length p) × (nextOf s j < size p j) × (1 ≤ j → spawnAt p j < nextOf s (parent p j))
-  known = held-job sound w holding
+  known : (j < length p) × (now j < size p j) × (1 ≤ j → spawnAt p j < now (parent p j))
+  known = (act .lives .below, act .lives .left, act .lives .begun)
 
   after : ℕ → ℕ
-  after k = getD (afterOf s j) k 0
+  after k = getD done k 0
 
-  here : after j ≡ suc (nextOf s j)
+  here : after j ≡ suc (now j)
   unfolding after
-  here = getD-set-same (s .next) j (suc (nextOf s j)) 0 (omega (arith, sound .nexts, known))
+  here = act .acts
 
-  other : (k : ℕ) → k ≢ j → after k ≡ nextOf s k
+  other : (k : ℕ) → k ≢ j → after k ≡ now k
   unfolding after
-  other k f = getD-set-other (s .next) j k (suc (nextOf s j)) 0 f
+  other = act .others
 
-  more : (k : ℕ) → nextOf s k ≤ after k
+  more : (k : ℕ) → now k ≤ after k
   more k = by-cases (ℕ-discrete k j) (λ e. rw e (omega (arith, here))) (λ f. omega (arith, other k f))
 
   -- a job that this action neither spawns nor ends lives as before
-  lives-on : (k : ℕ) → (k ≡ j → suc (nextOf s j) ≢ size p j) → Living (shape p) (nextOf s) k → Living (shape p) after k
+  lives-on : (k : ℕ) → (k ≡ j → suc (now j) ≢ size p j) → Living (shape p) now k → Living (shape p) after k
   lives-on k goes a = record {
     below = a .below;
     begun = λ o. omega (arith, a .begun o, more (parent p k));
     left = by-cases (ℕ-discrete k j) (λ e. rw e (omega (arith, here, known, goes e))) (λ f. omega (arith, other k f, a .left));
   }
 
-  lived : (k : ℕ) → action p j (nextOf s j) .spawn ≢ suc k → Living (shape p) after k → Living (shape p) (nextOf s) k
+  lived : (k : ℕ) → action p j (now j) .spawn ≢ suc k → Living (shape p) after k → Living (shape p) now k
   lived k none a = record {
     below = a .below;
     begun = λ o. by-cases (ℕ-discrete (parent p k) j) (λ e.
-        let f : spawnAt p k ≢ nextOf s j = λ q. none (rw (← q, ← e) (spawned-there p (run .accepted) k o (a .below) .1)) in
-        omega (arith, a .begun o, ap after e, ap (nextOf s) e, here)) (λ f. omega (arith, a .begun o, other (parent p k) f));
+        let f : spawnAt p k ≢ now j = λ q. none (rw (← q, ← e) (spawned-there p ok k o (a .below) .1)) in
+        omega (arith, a .begun o, ap after e, ap now e, here)) (λ f. omega (arith, a .begun o, other (parent p k) f));
     left = omega (arith, a .left, more k);
   }
 
   -- what a job weighs before and after
   weighs : ℕ → ℕ
-  weighs k = only (living? (shape p) (nextOf s) k) (job p k .frame)
+  weighs k = only (living? (shape p) now k) (job p k .frame)
 
   weighs′ : ℕ → ℕ
   weighs′ k = only (living? (shape p) after k) (job p k .frame)
 
-  same : (k : ℕ) → action p j (nextOf s j) .spawn ≢ suc k → (k ≡ j → suc (nextOf s j) ≢ size p j) → weighs′ k ≡ weighs k
+  same : (k : ℕ) → action p j (now j) .spawn ≢ suc k → (k ≡ j → suc (now j) ≢ size p j) → weighs′ k ≡ weighs k
   unfolding weighs weighs′
   same k none goes =
-      only-same (living? (shape p) after k) (living? (shape p) (nextOf s) k) (job p k .frame) (lived k none) (lives-on k goes)
+      only-same (living? (shape p) after k) (living? (shape p) now k) (job p k .frame) (lived k none) (lives-on k goes)
 
-  weighed : weight p (s .next) ≡ sum (length p) weighs
+  weighed : weight p next ≡ sum (length p) weighs
   unfolding weighs held
-  weighed = weight-held p (s .next)
+  weighed = weight-held p next
 
-  weighed′ : weight p (afterOf s j) ≡ sum (length p) weighs′
+  weighed′ : weight p done ≡ sum (length p) weighs′
   unfolding weighs′ after held
-  weighed′ = weight-held p (afterOf s j)
+  weighed′ = weight-held p done
 
-  pub weight-spawn : (c : ℕ) → action p j (nextOf s j) .spawn ≡ suc c → weight p (afterOf s j) ≡ weight p (s .next) + job p c .frame
+  pub weight-spawn : (c : ℕ) → action p j (now j) .spawn ≡ suc c → weight p done ≡ weight p next + job p c .frame
   unfolding weighs weighs′
   weight-spawn c e =
-      let (o, b, m, a) = spawned-once p (run .accepted) j (nextOf s j) c (known .0) (known .1) e in
-      let last : suc (nextOf s j) ≢ size p j = λ q. omega (arith, last-spawns-none p (run .accepted) j (nextOf s j) (known .0) q) in
-      let none : weighs c ≡ 0 = only-no (living? (shape p) (nextOf s) c) (job p c .frame)
-      (λ l. omega (arith, l .begun o, ap (nextOf s) m)) in
-      let fresh : ¬ (0 < nextOf s c) = λ l. omega (arith, sound .good .closed .started c o b l, ap (nextOf s) m) in
-      let f : c ≢ j = λ q. omega (arith, older p (run .accepted) c o b) in
+      let (o, b, m, a) = spawned-once p ok j (now j) c (known .0) (known .1) e in
+      let last : suc (now j) ≢ size p j = λ q. omega (arith, last-spawns-none p ok j (now j) (known .0) q) in
+      let none : weighs c ≡ 0 = only-no (living? (shape p) now c) (job p c .frame)
+      (λ l. omega (arith, l .begun o, ap now m)) in
+      let fresh : ¬ (0 < now c) = λ l. omega (arith, act .closed .started c o b l, ap now m) in
+      let f : c ≢ j = λ q. omega (arith, older p ok c o b) in
       let born : weighs′ c ≡ job p c .frame = only-yes (living? (shape p) after c) (job p c .frame) (record {
         below = b;
         begun = λ x. omega (arith, here, ap after m);
-        left = omega (arith, other c f, size-range p (run .accepted) c b);
+        left = omega (arith, other c f, size-range p ok c b);
       }) in
       omega (arith, weighed, weighed′, sum-change (length p) weighs weighs′ c b (λ k h d. same k (λ q. d (omega arith)) (λ x. last)))
 
-  pub weight-end : suc (nextOf s j) ≡ size p j → weight p (s .next) ≡ weight p (afterOf s j) + job p j .frame
+  pub weight-end : suc (now j) ≡ size p j → weight p next ≡ weight p done + job p j .frame
   unfolding weighs weighs′
   weight-end e =
-      let z = last-spawns-none p (run .accepted) j (nextOf s j) (known .0) e in
-      let held : weighs j ≡ job p j .frame = only-yes (living? (shape p) (nextOf s) j) (job p j .frame)
+      let z = last-spawns-none p ok j (now j) (known .0) e in
+      let held : weighs j ≡ job p j .frame = only-yes (living? (shape p) now j) (job p j .frame)
       (record { below = known .0; begun = known .2; left = known .1 }) in
       let ended : weighs′ j ≡ 0 = only-no (living? (shape p) after j) (job p j .frame) (λ l. omega (arith, l .left, here)) in
       let change = sum-change (length p) weighs weighs′ j (known .0) (λ k h d. same k (λ q. omega arith) (λ x. absurd (d x))) in
       omega (arith, weighed, weighed′)
 
-  pub weight-same : action p j (nextOf s j) .spawn ≡ 0 → suc (nextOf s j) ≢ size p j → weight p (afterOf s j) ≡ weight p (s .next)
+  pub weight-same : action p j (now j) .spawn ≡ 0 → suc (now j) ≢ size p j → weight p done ≡ weight p next
   weight-same e f = weighed′ ∙ sum-same (length p) weighs′ weighs (λ k h. same k (λ q. omega arith) (λ x. f)) ∙ sym weighed

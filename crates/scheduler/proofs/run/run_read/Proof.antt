@@ -50,47 +50,28 @@ run-rounds-requires c κs =
     let asked = run-asked g (s .args .workers) (s .args .choices .now) (s .args .schedule .now) (manned (l .before) .0) (manned (l .before) .1) (fit (l .before)) in
     ((p, asked), refl)
 
-write-header-requires : tie.Need-write-header-requires
-write-header-requires c κs =
-    let e = c .before .before .before in
-    let l = e .before in
-    let (p, g) = start (l .before) .pre in
-    (g .byte, omega arith, in-few (g .runs), omega (arith, l .schedule-length .ensures .1, e .if4 .left))
-
-sub-write-rows : tie.Need-sub-write-rows
-sub-write-rows c = search needs
-
-part-write-rows-start : tie.Need-part-write-rows-start
-part-write-rows-start c = search needs
-
-part-write-rows-end : tie.Need-part-write-rows-end
-part-write-rows-end c = search needs
-
-write-rows-requires : tie.Need-write-rows-requires
-write-rows-requires c κs =
-    let w = c .before .before .before .before in
-    let r = w .before .before in
+write-schedule-requires : tie.Need-write-schedule-requires
+write-schedule-requires c κs =
+    let r = c .before .before in
     let e = r .before .before in
     let l = e .before in
     let s = start (l .before) in
     let (p, g) = s .pre in
     rows-asked g (s .args .workers) (s .args .choices .now) (s .args .schedule .now) (manned (l .before) .0) (manned (l .before) .1) (fit (l .before))
-    (omega (arith, l .schedule-length .ensures .0, e .if4 .left))
-    _ (w .write-header .ensures) _ _ (r .run-rounds .ensures)
+    (omega (arith, l .schedule-length .ensures .0, e .if4 .left)) _ _ (r .run-rounds .ensures)
 
 same-length : tie.Need-same-length
 same-length c = search needs
 
 returns-5 : tie.Need-returns-5
 returns-5 c = λ p g.
-    let w = c .before .before .before .before .before .before .before in
-    let r = w .before .before in
+    let w = c .before .before in
+    let r = w .before .before .before in
     let e = r .before .before in
     let l = e .before in
     let a = start (l .before) .args in
     run-answers g (a .workers) (a .choices .now) (a .schedule .now) (manned (l .before) .0) (manned (l .before) .1) (fit (l .before))
-    (omega (arith, l .schedule-length .ensures .0, e .if4 .left))
-    _ (w .write-header .ensures) _ _ (r .run-rounds .ensures) _ (c .before .before .write-rows .ensures)
+    (omega (arith, l .schedule-length .ensures .0, e .if4 .left)) _ _ (r .run-rounds .ensures) _ (w .write-schedule .ensures)
 
 pub run-read-spec : {M : Type 1} → statement M
 run-read-spec =
@@ -103,10 +84,6 @@ run-read-spec =
     schedule-length-requires
     returns-4
     run-rounds-requires
-    write-header-requires
-    sub-write-rows
-    part-write-rows-start
-    part-write-rows-end
-    write-rows-requires
+    write-schedule-requires
     same-length
     returns-5)

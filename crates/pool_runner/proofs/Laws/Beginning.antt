@@ -1,0 +1,162 @@
+-- A run from a pool begins: all objects as they are made stand for the state behind the first taking, in which worker 0 takes job 0.
+--   first-taken   == what the first taking makes of the start
+--   first-between == the objects as they are made: no round is done
+use Prim.Native.Nat.{ℕ, zero, suc, _+_, _-_, _≤_, _<_}
+use mathlib.Core.Path.{_≡_, refl, sym, ap, _∙_}
+use mathlib.Core.Logic.{_≢_}
+use mathlib.Core.Bool.{Bool, true, false}
+use mathlib.Core.List.{List}
+use native.Mathlib.Nat.{le-refl}
+use native.Mathlib.Omega.{arith}
+use lib.Dec.{T}
+use lib.ListN.{length, getD, set, replicate}
+use lib.Seq.{getD-set-same, getD-set-other}
+use borrow.Author.Tests.{lt-leb}
+use Rattle.plan.specs.Plan.{Plan, size}
+use Rattle.plan.specs.Rules.{Accepted}
+use Rattle.plan.specs.Sheet.{frameOf}
+use Rattle.plan.specs.Test.{below}
+use Rattle.plan.proofs.Laws.Lists.{false-of}
+use Rattle.plan.proofs.Laws.Valid.{jobs-range}
+use Rattle.plan_measure.specs.Measure.{work}
+use Rattle.courses.proofs.Laws.Start.{none-weight}
+use Rattle.runs.specs.declared.worker.Worker.{Worker}
+use Rattle.runs.specs.declared.worker.Worker.the-variants.{Idle, Holding}
+use Rattle.runs.specs.State.{holds}
+use Rattle.runs.proofs.Laws.Coursed.{handsIn, handsOf}
+use Rattle.pools.specs.State.{State, nextOf, workerOf, start}
+use Rattle.pools.specs.Take.{lowest, waits, given, giving, take, takes}
+use Rattle.pools.specs.Run.{ended, rounds, pool as poolOf}
+use Rattle.pools.specs.Trace as Trace
+use Rattle.pools.specs.Trace.{taking, turning, Trace}
+use Rattle.pools.proofs.Laws.Coursed.{Fit, none-done, start-idle, start-begins, first-born, root-lives, root-ready, taking-goes}
+use Rattle.pools.proofs.Laws.Lowest.{finds, finds-one}
+use Rattle.pools.proofs.Laws.Tallies.{trace-counted}
+use Rattle.pools.proofs.Laws.Tests.{waits-is, waits-by}
+use Rattle.pools.proofs.Laws.Whole.{takes-trace, round-is, rounds-on, round-most}
+use Rattle.crew.proofs.Laws.Crews.{crewed-first, crewed-others}
+use Rattle.pool_set.proofs.Laws.Start.{none-pooled, none-children}
+use Rattle.rounds.specs.Account.{isIdle, opened}
+use Rattle.rounds.specs.Rounds.{Started}
+use Rattle.rounds.proofs.Laws.Beginning.{first-progressed}
+use Rattle.pool_turns.specs.Pooled.{Pooled}
+use Rattle.pool_runner.specs.Rounds.{PoolGiven}
+use Rattle.pool_turns.proofs.Laws.Heirs.{heirs-none}
+use Rattle.pool_runner.proofs.Laws.Standing.{Manned, Done, Begun, Between, fitted}
+use Rattle.pool_runner.proofs.Laws.Rounds.{begun-fit}
+use Rattle.pool_runner.proofs.Laws.Taking.{take-lowest, takes-more, hands-free}
+
+replicate-idle : (k w : ℕ) → getD (replicate k Idle) w Idle ≡ Idle
+replicate-idle zero w = refl
+replicate-idle (suc k) zero = refl
+replicate-idle (suc k) (suc w) = replicate-idle k w
+
+module _ {p : Plan} {n : ℕ} (fit : Fit p n) where
+  ok : Accepted p
+  ok = fit .plan
+
+  abbrev s : State
+  s = start p
+
+  -- the state behind the first taking
+  abbrev first : State
+  first = given 0 0 s
+
+  hand : handsOf (first .workers) 0 ≡ 1
+  unfolding start given
+  hand = refl
+
+  others : (w : ℕ) → w ≢ 0 → workerOf first w ≡ Idle
+  unfolding start given
+  others zero f = absurd (f refl)
+  others (suc w) f = replicate-idle 15 w
+
+  -- no job waits then: job 0, which alone lives, is held
+  none-waits : (x : ℕ) → x < length p → waits p (first .next) (first .workers) x ≡ false
+  unfolding given
+  none-waits x h = false-of _ (λ t.
+      let y = waits-is p ok (s .next) (first .workers) x h t in
+      y .unheld 0 (hand ∙ ap suc (sym (first-born fit s (start-begins p) x (y .living)))))
+
+  root-waits : T (waits p (s .next) (s .workers) 0)
+  root-waits = waits-by p ok (s .next) (s .workers) 0 (record {
+    living = root-lives fit s (start-begins p);
+    ready = root-ready fit s (start-begins p);
+    unheld = λ w e. omega (arith, start-idle p w);
+  })
+
+  pub first-taken : (k : ℕ) → takes p (suc k) s ≡ first
+  unfolding takes
+  first-taken zero =
+      take-lowest p 0 s (hands-free (workerOf s 0) (start-idle p 0))
+      ∙ ap (λ x. giving 0 x s) (finds-one _ (length p) _ 1 (finds _ (length p)) (record {
+        none = λ e. absurd (omega arith);
+        some = λ j e. let q : j ≡ 0 = omega arith in rw q (jobs-range p ok .0, root-waits, λ i l. absurd (omega arith));
+      }))
+  first-taken (suc k) =
+      ap (take p (suc k)) (first-taken k)
+      ∙ take-lowest p (suc k) first (ap holds (others (suc k) (λ e. omega arith)))
+      ∙ ap (λ x. giving (suc k) x first) (finds-one _ (length p) _ 0 (finds _ (length p)) (record {
+        none = λ e i l t. rw (none-waits i l) at t;
+        some = λ j e. absurd (omega arith);
+      }))
+
+  all-first : takes p n s ≡ first
+  all-first = let h = fit .some in ap (λ k. takes p k s) (let e : n ≡ suc (n - 1) = omega arith in e) ∙ first-taken (n - 1)
+
+  began : Trace p n 1 (s .workers) (taking 0) s
+  began = Trace.begins
+
+  trace : Trace p n 1 (takes p n s .workers) (turning 0) (takes p n s)
+  trace = Trace.all-took (takes-trace began n (le-refl n))
+
+  pool-is : poolOf p n ≡ rounds (work p) p n s
+  unfolding poolOf
+  pool-is = refl
+
+  begins : Begun p n 1 first
+  begins = rw (← all-first) (by (work p) refl)
+    where
+      by : (k : ℕ) → work p ≡ k → Begun p n 1 (takes p n s)
+      by zero e = absurd (omega (arith, round-most fit trace))
+      by (suc k) e = record {
+        trace = trace;
+        fuel = k;
+        left = pool-is ∙ ap (λ k. rounds k p n s) e ∙ rounds-on p n k s (lt-leb (size p 0) (nextOf s 0) (taking-goes fit began))
+            ∙ ap (rounds k p n) (round-is p n 1 s (trace-counted (fit .some) began .rounds));
+        enough = omega arith;
+      }
+
+  first-pooled : Pooled p (s .next) (first .workers) (replicate 260 0)
+  unfolding given
+  first-pooled = record {
+    long = refl;
+    waiting = λ x h. none-pooled refl x (omega (arith, jobs-range p ok)) ∙ sym (none-waits x h);
+    past = λ x h b. none-pooled refl x b;
+    counts = λ q h. none-children refl q ∙ sym (heirs-none p (s .next) (none-done p) q);
+  }
+
+-- as a run begins; `weighs` is job 0's frame
+pub first-between : {n actions : ℕ} {plan entering rows : List ℕ} {p : Plan} → PoolGiven n actions plan entering p
+    → length rows ≡ 2048 → {progress : List ℕ} → Started actions entering progress → {weighs : ℕ} → weighs ≡ frameOf plan 0
+    → Between p n 0 (opened n weighs) (set (replicate 16 Idle) 0 (Holding 0)) progress (replicate 260 0) rows
+unfolding start given
+first-between {n} {p = p} g long s e =
+    let fit = begun-fit (fitted g) in
+    let root = e ∙ g .given .planned .laid .frames 0 (jobs-range p (fit .plan) .0) in
+    record {
+      state = given 0 0 (start p);
+      begun = begins fit;
+      manned = record {
+        seated = refl;
+        weighs = root ∙ sym (none-weight p (fit .plan) (start p .next) (none-done p));
+        counts = rw root refl;
+        holders = crewed-first (g .some) refl (λ u h. ap holds (others fit (suc u) (λ z. omega arith)));
+        idlers = crewed-others (g .some) refl (λ u h. ap isIdle (others fit (suc u) (λ z. omega arith)));
+      };
+      done = record {
+        progressed = first-progressed (g .given) s;
+        rowed = record { long = long; each = λ j i h k. absurd (omega (arith, none-done p j)) };
+        pooled = first-pooled fit;
+      };
+    }
