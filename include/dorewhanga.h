@@ -6,8 +6,8 @@
  *
  * A plan is cut into jobs (threads), and each job is a row of actions (instructions). An action takes as many rounds as
  * its cost says, 1 to 15. It may spawn a job, and may send a join to an action of its job's parent. A job has a frame, a
- * weight in units of 64 KiB that is held while the job lives. Up to 16 workers run a plan and steal jobs from one
- * another. It is proved, in crates/cabi, that each function answers and writes, for every input, what the definitions in
+ * weight in units of 64 KiB that is held while the job lives. Up to 16 workers run a plan: they steal jobs from one
+ * another, or take them from one pool. It is proved, in crates/cabi, that each function answers and writes, for every input, what the definitions in
  * crates/NAME/specs give.
  *
  * Plan bytes, bits taken most significant first: form 8 bits (1 or 2), jobs 9; then for each job its frame 16 and action
@@ -84,14 +84,17 @@ typedef struct {
                           has a longest of 0 */
 } dw_measures;
 
-/* For every list of choices longest <= rounds <= work and peak <= workers x path. With one worker rounds is work and
+/* Of dw_run and of dw_pool, for every list of choices: longest <= rounds <= work and peak <= workers x path. With one worker rounds is work and
    peak is path. With more workers than parallel, (workers - parallel) x longest <= idle + rest. Of the requests,
-   steals + bare + idle_victim were answered, and the others still wait as the run ends. */
+   steals + bare + idle_victim were answered, and the others still wait as the run ends. Of dw_pool alone:
+   workers x rounds <= work + (workers - 1) x longest, so idle <= (workers - 1) x longest; and requests, steals, bare and
+   idle_victim are 0. */
 typedef struct {
     uint32_t refused;
     uint32_t rounds;      /* the last round */
     uint32_t actions;     /* turns in which a worker worked on an action: the plan's work */
-    uint32_t idle;        /* turns of workers that held nothing when the round began: workers x rounds - actions */
+    uint32_t idle;        /* turns of workers that held nothing when the round began (from a pool: when the taking before
+                             it was over): workers x rounds - actions */
     uint32_t requests;    /* requests laid by workers that hold nothing */
     uint32_t steals;      /* requests answered with a job */
     uint32_t bare;        /* misses, requests answered with none, whose victim held a job as it answered */
@@ -151,6 +154,14 @@ dw_measures dw_measure(const uint8_t *plan, size_t plan_len);
    Refusals, in this order: 1, 2 and 3 as the fields are read, 6, 4, 5, 7, 8, 9. */
 dw_tally dw_run(const uint8_t *plan, size_t plan_len, uint32_t workers, const uint8_t *choices, size_t choices_len,
                 uint8_t *schedule, size_t schedule_len);
+
+/* Runs a plan on `workers` workers, 1 to 16, from one pool (the Busy-Leaves Algorithm), and writes its schedule, which is
+   as dw_run has it. Ready and stalled jobs that nobody holds wait in the pool. Before each round the idle workers, in
+   rising number, each take the ready job of lowest number. A worker whose action spawned keeps the child, and the spawner
+   goes to the pool, as does a job that stalls. A worker whose job ended takes its parent, if no child of that lives and
+   nobody holds it.
+   Refusals, in this order: 1, 2 and 3 as the fields are read, 6, 4, 5, 7, 9. */
+dw_tally dw_pool(const uint8_t *plan, size_t plan_len, uint32_t workers, uint8_t *schedule, size_t schedule_len);
 
 /* Checks a schedule, whoever made it, against a plan: no worker works on two actions in one round, each action begins
    after the last round of everything it must follow and not before round 1, and each worker is below the schedule's

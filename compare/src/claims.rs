@@ -212,6 +212,24 @@ impl Facts {
         .map(|claim| claim.1)
     }
 
+    /// Says which claim a run from a pool breaks that other runs need not keep.
+    pub fn unpooled(&self, workers: u32, tally: &Tally) -> Option<&'static str> {
+        let Measures { work, longest, .. } = self.measures;
+        [
+            (
+                workers * tally.rounds <= work + (workers - 1) * longest,
+                "P times the rounds is at most T1 and P - 1 times T-infinity",
+            ),
+            (
+                [tally.requests, tally.steals, tally.bare, tally.idle_victim] == [0; 4],
+                "in a pool nobody asks anybody",
+            ),
+        ]
+        .iter()
+        .find(|claim| !claim.0)
+        .map(|claim| claim.1)
+    }
+
     /// Whether the next action, if it is ready right after the turn of this
     /// row, is worked on by the same worker from the next round on.
     fn goes_on(&self, rows: &[Row], row: Row, next: usize) -> bool {

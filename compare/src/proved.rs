@@ -70,6 +70,13 @@ extern "C" {
         schedule: *mut u8,
         schedule_len: usize,
     ) -> RawTally;
+    fn dw_pool(
+        plan: *const u8,
+        plan_len: usize,
+        workers: u32,
+        schedule: *mut u8,
+        schedule_len: usize,
+    ) -> RawTally;
     fn dw_check(plan: *const u8, plan_len: usize, schedule: *const u8, schedule_len: usize) -> u32;
 }
 
@@ -80,6 +87,23 @@ fn answer<T: Debug + PartialEq>(refused: u32, found: T, nothing: T) -> Result<T,
     }
     assert_eq!(found, nothing, "refusal {refused} came with counts");
     Err(refused)
+}
+
+fn tally(raw: RawTally) -> Result<Tally, u32> {
+    answer(
+        raw.refused,
+        Tally {
+            rounds: raw.rounds,
+            actions: raw.actions,
+            idle: raw.idle,
+            requests: raw.requests,
+            steals: raw.steals,
+            bare: raw.bare,
+            idle_victim: raw.idle_victim,
+            peak: raw.peak,
+        },
+        Tally::default(),
+    )
 }
 
 pub fn plan_to_table(plan: &[u8], rows: &mut [u16]) -> Result<usize, u32> {
@@ -167,20 +191,21 @@ pub fn run(plan: &[u8], workers: u32, choices: &[u8], schedule: &mut [u8]) -> Re
             schedule.len(),
         )
     };
-    answer(
-        raw.refused,
-        Tally {
-            rounds: raw.rounds,
-            actions: raw.actions,
-            idle: raw.idle,
-            requests: raw.requests,
-            steals: raw.steals,
-            bare: raw.bare,
-            idle_victim: raw.idle_victim,
-            peak: raw.peak,
-        },
-        Tally::default(),
-    )
+    tally(raw)
+}
+
+pub fn pool(plan: &[u8], workers: u32, schedule: &mut [u8]) -> Result<Tally, u32> {
+    // SAFETY: each pointer goes with the length of its own slice.
+    let raw = unsafe {
+        dw_pool(
+            plan.as_ptr(),
+            plan.len(),
+            workers,
+            schedule.as_mut_ptr(),
+            schedule.len(),
+        )
+    };
+    tally(raw)
 }
 
 pub fn check(plan: &[u8], schedule: &[u8]) -> Result<(), u32> {

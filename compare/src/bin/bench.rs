@@ -86,6 +86,24 @@ fn run(plans: &[Vec<u8>], workers: u32, choices: &[u8]) -> (f64, f64) {
     times
 }
 
+fn pool(plans: &[Vec<u8>], workers: u32) -> (f64, f64) {
+    let mut one = vec![0; schedules::length(2, MAX_ACTIONS)];
+    let mut other = one.clone();
+    let times = medians(
+        |k| proved::pool(&plans[k], workers, &mut one),
+        |k| second::pool(&plans[k], workers, &mut other),
+    );
+    assert!(one == other, "the schedules differ");
+    times
+}
+
+/// Runs from a pool.
+fn pools(plans: &[Vec<u8>], counts: &[u32], which: &str) {
+    for &workers in counts {
+        line(&format!("pool, P {workers}{which}"), pool(plans, workers));
+    }
+}
+
 fn schedule_of(plan: &[u8], workers: u32, choices: &[u8]) -> Vec<u8> {
     let mut schedule = vec![0; schedules::length(plan[0].into(), MAX_ACTIONS)];
     second::run(plan, workers, choices, &mut schedule).expect("the plan is good");
@@ -203,6 +221,7 @@ fn main() {
 
     readings(&plans, "");
     runs(&mut random, &plans, &WORKERS, "");
+    pools(&plans, &WORKERS, "");
     for victim in [0, 15] {
         let times = run(&plans, 16, &[victim; MAX_CHOICES]);
         line(&format!("run, P 16, all choose worker {victim}"), times);
@@ -219,6 +238,7 @@ fn main() {
     line("run of a chain of jobs, P 16, all choose worker 0", times);
     let times = run(&chains, 16, &any_list(&mut random, 16));
     line("run of a chain of jobs, P 16, mixed choices", times);
+    pools(&chains, &[16], ", a chain of jobs");
 
     let mut own = Random(0x5EED_000F);
     pairs(&mut own, [None, None], "");
@@ -238,8 +258,10 @@ fn main() {
     let plans = plans_of(&mut random, costed(Costs::Any));
     readings(&plans, ", form 2, mixed costs");
     runs(&mut random, &plans, &WORKERS, ", form 2, mixed costs");
+    pools(&plans, &WORKERS, ", form 2, mixed costs");
     let plans = plans_of(&mut random, costed(Costs::Largest));
     runs(&mut random, &plans, &WORKERS, ", form 2, all costs 15");
+    pools(&plans, &WORKERS, ", form 2, all costs 15");
 
     println!("\nA run with P 4 as plans grow, over {PLANS} of each size:\n");
     println!("| Actions | proved | second | proved / second |");

@@ -100,30 +100,73 @@ impl Both {
         choices: &[u8],
         room: usize,
     ) -> Result<(Tally, Vec<u8>), u32> {
+        self.ran(
+            "run",
+            plan,
+            room,
+            |schedule| proved::run(plan, workers, choices, schedule),
+            |schedule| second::run(plan, workers, choices, schedule),
+            &|| {
+                vec![
+                    ("plan", hex(plan, 2)),
+                    ("P", workers.to_string()),
+                    ("choices", hex(choices, 2)),
+                    ("room", room.to_string()),
+                ]
+            },
+        )
+    }
+
+    /// Runs from a pool with a schedule of `room` bytes and gives the schedule back.
+    pub fn pool(
+        &mut self,
+        plan: &[u8],
+        workers: u32,
+        room: usize,
+    ) -> Result<(Tally, Vec<u8>), u32> {
+        self.ran(
+            "pool",
+            plan,
+            room,
+            |schedule| proved::pool(plan, workers, schedule),
+            |schedule| second::pool(plan, workers, schedule),
+            &|| {
+                vec![
+                    ("plan", hex(plan, 2)),
+                    ("P", workers.to_string()),
+                    ("room", room.to_string()),
+                ]
+            },
+        )
+    }
+
+    /// Lets both write a schedule of this plan in `room` bytes.
+    fn ran(
+        &mut self,
+        what: &str,
+        plan: &[u8],
+        room: usize,
+        proved: impl Fn(&mut [u8]) -> Result<Tally, u32>,
+        second: impl Fn(&mut [u8]) -> Result<Tally, u32>,
+        input: &dyn Fn() -> Vec<(&'static str, String)>,
+    ) -> Result<(Tally, Vec<u8>), u32> {
         self.calls += 1;
         let before = pattern(room);
         let mut schedules = (before.clone(), before.clone());
-        let proved = proved::run(plan, workers, choices, &mut schedules.0);
-        let second = second::run(plan, workers, choices, &mut schedules.1);
+        let proved = proved(&mut schedules.0);
+        let second = second(&mut schedules.1);
         let used = match second::measure(plan) {
             Ok(measures) => schedules::length(plan[0].into(), measures.total as usize),
             Err(_) => 0,
         };
         Outcome {
-            what: "run",
+            what,
             proved: (proved, &schedules.0),
             second: (second, &schedules.1),
             before: &before,
             used,
         }
-        .settle(&|| {
-            vec![
-                ("plan", hex(plan, 2)),
-                ("P", workers.to_string()),
-                ("choices", hex(choices, 2)),
-                ("room", room.to_string()),
-            ]
-        });
+        .settle(input);
         let tally = second?;
         self.runs += 1;
         schedules.1.truncate(used);
@@ -153,6 +196,30 @@ impl Both {
                 }
                 if let Err(refused) = self.check(plan, &schedule) {
                     differ("a run's schedule is refused", &input(), &refused, &schedule);
+                }
+                (tally, schedule)
+            }
+            Err(refused) => differ("an input of the rules is refused", &input(), &refused, &()),
+        }
+    }
+
+    /// The same from a pool, whose idle turns are bounded and which asks nobody.
+    pub fn pool_claimed(&mut self, plan: &[u8], facts: &Facts, workers: u32) -> (Tally, Vec<u8>) {
+        let room = schedules::length(facts.form, facts.costs.len()) + 3;
+        let input = || [("plan", hex(plan, 2)), ("P", workers.to_string())];
+        match self.pool(plan, workers, room) {
+            Ok((tally, schedule)) => {
+                let claim = facts.broken(workers, &tally, &schedule);
+                if let Some(claim) = claim.or_else(|| facts.unpooled(workers, &tally)) {
+                    differ(claim, &input(), &tally, &schedule);
+                }
+                if let Err(refused) = self.check(plan, &schedule) {
+                    differ(
+                        "a pool's schedule is refused",
+                        &input(),
+                        &refused,
+                        &schedule,
+                    );
                 }
                 (tally, schedule)
             }
@@ -316,8 +383,9 @@ impl Both {
             self.read(plan).map(|_| ()),
             self.plan_to_table(plan, ROWS_ROOM).map(|_| ()),
             self.run(plan, 2, &[0, 1, 0], SCHEDULE_ROOM).map(|_| ()),
+            self.pool(plan, 2, SCHEDULE_ROOM).map(|_| ()),
         ];
-        if answers[0] != answers[1] || answers[0] != answers[2] {
+        if answers.iter().any(|answer| *answer != answers[0]) {
             let input = [("plan", hex(plan, 2))];
             differ("one plan, several refusals", &input, &answers, &());
         }

@@ -7,6 +7,7 @@ mod extreme;
 mod forms;
 mod generated;
 mod pairs;
+mod pools;
 mod small;
 
 use both::Both;
@@ -14,7 +15,7 @@ use both::Both;
 type Part = fn(&mut Both);
 
 fn main() {
-    let parts: [(&str, Part); 15] = [
+    let parts: [(&str, Part); 21] = [
         ("small plans, all lists", small::plans),
         ("small plans with costs, all lists", small::costed_plans),
         ("small plans, any numbers", small::any_numbers),
@@ -25,6 +26,12 @@ fn main() {
         ("generated pairs and their runs", pairs::generated),
         ("pairs at the limits", pairs::limits),
         ("pairs turned down", pairs::turned_down),
+        ("small plans from a pool", pools::small),
+        ("generated plans from a pool", pools::generated),
+        ("largest plans from a pool", pools::largest),
+        ("pools in both forms", pools::in_both_forms),
+        ("pools turned down", pools::turned_down),
+        ("buffers of a pool", pools::buffers),
         ("extremes", extreme::all),
         ("damaged plans", damaged::plans),
         ("damaged tables", damaged::tables),
