@@ -1,5 +1,5 @@
-/* A plan of eight actions run on two workers through the library for C, as it stands and then with costs, turned into
-   form 2 and back, and put under one root with the plan that has costs:
+/* A plan of eight actions run on two workers through the library for C, as it stands, by stealing and from a pool, and
+   then with costs, turned into form 2 and back, and put under one root with the plan that has costs:
      rt staticlib cabi && gcc examples/link.c -Iinclude target/staticlib/libcabi.a -o link && ./link */
 #include "dorewhanga.h"
 #include <stdio.h>
@@ -26,7 +26,21 @@ static unsigned field(const uint8_t *bytes, size_t at, size_t width) {
     return number;
 }
 
-/* runs a plan of either form and checks its schedule: 0, or the number of the refusal */
+/* prints the rows of the schedule of a plan of either form and checks it: 0, or the number of the refusal */
+static uint32_t check(const uint8_t *bytes, size_t len, uint32_t total) {
+    size_t width = bytes[0] == 1 ? 12 : 16;
+    for (uint32_t k = 0; k < total; k++) {
+        size_t at = 32 + (width + 4) * k;
+        printf("action %u: last round %u, worker %u\n", (unsigned)k, field(schedule, at, width),
+               field(schedule, at + width, 4));
+    }
+    uint32_t refused = dw_check(bytes, len, schedule, 4 + ((width + 4) * total + 7) / 8);
+    if (!refused)
+        printf("the schedule keeps the rules\n");
+    return refused;
+}
+
+/* runs a plan of either form by stealing and checks its schedule: 0, or the number of the refusal */
 static uint32_t build(const uint8_t *bytes, size_t len) {
     dw_measures m = dw_measure(bytes, len);
     dw_tally t = dw_run(bytes, len, 2, choices, sizeof choices, schedule, sizeof schedule);
@@ -38,16 +52,18 @@ static uint32_t build(const uint8_t *bytes, size_t len) {
     printf("parallel %u\nrest %u\npeak %u\n", (unsigned)m.parallel, (unsigned)m.rest, (unsigned)t.peak);
     printf("idle %u\nrequests %u\nsteals %u\nbare %u\nidle-victim %u\n", (unsigned)t.idle, (unsigned)t.requests,
            (unsigned)t.steals, (unsigned)t.bare, (unsigned)t.idle_victim);
-    size_t width = bytes[0] == 1 ? 12 : 16;
-    for (uint32_t k = 0; k < m.total; k++) {
-        size_t at = 32 + (width + 4) * k;
-        printf("action %u: last round %u, worker %u\n", (unsigned)k, field(schedule, at, width),
-               field(schedule, at + width, 4));
-    }
-    uint32_t refused = dw_check(bytes, len, schedule, 4 + ((width + 4) * m.total + 7) / 8);
-    if (!refused)
-        printf("the schedule keeps the rules\n");
-    return refused;
+    return check(bytes, len, m.total);
+}
+
+/* runs a plan from a pool, where nobody asks for jobs, and checks its schedule: 0, or the number of the refusal */
+static uint32_t build_from_pool(const uint8_t *bytes, size_t len) {
+    dw_measures m = dw_measure(bytes, len);
+    dw_tally t = dw_pool(bytes, len, 2, schedule, sizeof schedule);
+    if (m.refused || t.refused)
+        return m.refused ? m.refused : t.refused;
+    printf("from a pool: rounds %u, actions %u, peak %u, idle %u\n", (unsigned)t.rounds, (unsigned)t.actions,
+           (unsigned)t.peak, (unsigned)t.idle);
+    return check(bytes, len, m.total);
 }
 
 /* the same plan in form 2: its table is opened, gets the costs, and is closed again */
@@ -97,6 +113,8 @@ static uint32_t pair(size_t with_costs_len) {
 int main(void) {
     uint32_t refused = build(plan, sizeof plan);
     dw_count closed = {0, 0};
+    if (!refused)
+        refused = build_from_pool(plan, sizeof plan);
     if (!refused) {
         closed = add_costs();
         refused = closed.refused ? closed.refused : build(with_costs, closed.count);

@@ -1,6 +1,6 @@
 //! Writes the cases of the program crate `cases`: their files, the list that the program reads, and what it has to print.
-//! What a case must give is stated by hand, from documents 01 and 02, or by the second runner of `run_cases.rs`; nothing here looks at the
-//! proved code.
+//! What a case must give is stated by hand, from documents 01 and 02, or by the runners of `run_cases.rs` and `pool_cases.rs`; nothing here
+//! looks at the proved code.
 //!
 //!     rustc -O tools/cases.rs -o target/cases && target/cases crates/cases
 //!
@@ -10,6 +10,7 @@ mod form_cases;
 mod pair_cases;
 mod plan_cases;
 mod plans;
+mod pool_cases;
 mod run_cases;
 
 use std::fmt::Write;
@@ -64,6 +65,7 @@ fn main() -> std::io::Result<()> {
     form_cases::all(&mut cases);
     pair_cases::all(&mut cases);
     run_cases::all(&mut cases);
+    pool_cases::all(&mut cases);
     check_cases::all(&mut cases);
     println!("{} cases of {} files", cases.list.lines().count(), cases.files.len());
     cases.write(Path::new(&folder))

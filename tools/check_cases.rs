@@ -65,7 +65,7 @@ const E2_ROWS: [Row; 8] = [(2, 0), (4, 1), (7, 1), (9, 0), (14, 1), (6, 0), (7, 
 const F2_ROWS: [Row; 7] = [(2, 0), (5, 1), (10, 0), (3, 0), (5, 0), (6, 0), (9, 0)];
 
 /// Job 0 spawns n jobs of one action, one after the other; then an action that nothing enters, and one for each 8 joins.
-fn fan(n: u32) -> Vec<Job> {
+pub fn fan(n: u32) -> Vec<Job> {
     let mut root: Vec<Action> = (1..=n).map(spawn).collect();
     root.extend(vec![NONE; 1 + (n as usize + 7) / 8]);
     let mut jobs = vec![(1, root)];

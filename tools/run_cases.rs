@@ -458,6 +458,12 @@ impl Random {
     }
 }
 
+/// `count` plans of a form with so many jobs, drawn from a seed.
+pub fn some(form: u32, seed: u64, count: usize, jobs: usize) -> Vec<Vec<Job>> {
+    let mut random = Random(seed);
+    (0..count).map(|_| if form == 1 { random.plan(jobs) } else { random.plan_2(jobs) }.jobs()).collect()
+}
+
 /// A run that is not refused.
 struct Run {
     form: u32,

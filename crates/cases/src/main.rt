@@ -1,12 +1,13 @@
 // Runs the cases that standard input lists, a line for each, and prints a line of what comes of each: document 01's cases, each
 // refusal by itself and in its order, inputs on each side of each limit, and runs that tell the tempting errors apart. A line of
 // the list is a kind, the name of a file of data/, for a table the form that it is to be closed in, for a room two numbers, for a
-// pair the frame, and for `into1`, `into2` and a pair the room, where not the whole buffer is lent. Files, list and answers are
-// written by tools/cases.rs.
+// pair the frame, for a pool the worker count, and for `into1`, `into2`, a pair and a pool the room, where not the whole buffer is
+// lent. Files, list and answers are written by tools/cases.rs.
 mod builds;
 mod forms;
 mod pairs;
 mod plans;
+mod pools;
 mod rooms;
 mod rows;
 mod schedules;
@@ -89,6 +90,8 @@ fn of_kind(kind: &[u8], input: &[u8], rest: &[u8]) {
         pairs::case(input, rest);
     } else if same(kind, b"run") {
         builds::case(input);
+    } else if same(kind, b"pool") {
+        pools::case(input, rest);
     } else if same(kind, b"check") {
         schedules::given(input);
     } else if same(kind, b"own") {

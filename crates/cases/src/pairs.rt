@@ -46,7 +46,7 @@ pub fn case(input: &[u8], rest: &[u8]) {
     );
 }
 
-fn length(high: u8, low: u8) -> usize
+pub fn length(high: u8, low: u8) -> usize
     ensures { λ r. ⌜ r < 65536 ⌝ }
 {
     256 * wide8(high) + wide8(low)

@@ -22,7 +22,7 @@ pub fn given(input: &[u8]) {
     io::write_all(1, b"cut short");
 }
 
-fn checked(plan: &[u8], schedule: &[u8]) {
+pub fn checked(plan: &[u8], schedule: &[u8]) {
     match check(plan, schedule) {
         Judged::Refused(cause) => refused(cause),
         Judged::Accepted => {

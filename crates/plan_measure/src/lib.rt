@@ -39,7 +39,7 @@ pub enum Measured {
 }
 
 // T1: the costs of the actions, added up.
-fn work(actions: usize, plan: &Sheet) -> u32
+pub fn work(actions: usize, plan: &Sheet) -> u32
     requires { ⌜ Some (ActionsOf actions (now plan)) ⌝ }
     ensures { λ r. ⌜ ActionsOf actions (before plan) ⇒ (λ p. r ≡ workOf p) ⌝ }
 {

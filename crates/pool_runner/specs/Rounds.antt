@@ -3,21 +3,23 @@
 --   PoolGiven n actions plan entering p == the array `plan` holds the plan p, of so many actions, which keeps all rules, `entering` has how
 --                       many joins enter each action, and n workers can run it
 --   PoolLeft n t rows p == the counts are those of the run of p, and the rows those of its schedule
---   TookNoted a w a′  == the account a′ is a once worker w, which was idle, holds a job
+--   Noted round cost w ends ends′ == in the calendar ends′ worker w works on an action of that cost from the round after `round` on
+--   tallyOf n rounds worked peak == the counts of so many rounds of n workers, in so many turns of which an action was worked on
 --   Answered form n before r after p == the answer r and the schedule `after` are those of a run of p, and all that is owed of it holds; the
 --                       checker accepts the schedule, whatever bytes hold p in that form
-use Prim.Native.Nat.{ℕ, _≤_, _<_}
+use Prim.Native.Nat.{ℕ, _+_, _-_, _*_, _%_, _^_, _≤_, _<_}
 use mathlib.Core.Path.{_≡_}
-use mathlib.Core.Bool.{true, false}
+use mathlib.Core.Logic.{_≢_}
 use mathlib.Core.List.{List}
-use lib.ListN.{take}
+use lib.Dec.{eqb}
+use lib.ListN.{length, getD, take}
 use Rattle.plan.specs.Refusal.{accepted}
 use Rattle.plan.specs.Plan.{Plan, total}
 use Rattle.plan.specs.Reader.{readPlan}
 use Rattle.courses.specs.Schedule.{scheduleLength, checked}
-use Rattle.crew.specs.Crew.{Marked}
+use Rattle.crew.specs.Crew.{member}
+use Rattle.plan.specs.Test.{either}
 use Rattle.runs.specs.declared.tally.Tally.{Tally}
-use Rattle.rounds.specs.declared.account.Account.{Account}
 use Rattle.rounds.specs.Rounds.{RunIn}
 use Rattle.scheduler.specs.declared.run.Ran.{Ran}
 use Rattle.scheduler.specs.declared.run.Ran.the-variants.{Done}
@@ -36,11 +38,24 @@ pub record PoolLeft (n : ℕ) (t : Tally) (rows : List ℕ) (p : Plan) : Type 0 
   pub counts : t ≡ pool p n .tally
   pub rowed : Rowed p (pool p n .next) (pool p n .rows) rows
 
-pub record TookNoted (a : Account) (w : ℕ) (a′ : Account) : Type 0 where
-  pub weighed : a′ .weight ≡ a .weight
-  pub counts : a′ .tally ≡ a .tally
-  pub holders : Marked w true (a .holders) (a′ .holders)
-  pub idlers : Marked w false (a .idlers) (a′ .idlers)
+pub record Noted (round cost w : ℕ) (ends ends′ : List ℕ) : Type 0 where
+  pub long : length ends′ ≡ 16
+  pub small : (k : ℕ) → w < k → ((c : ℕ) → getD ends c 0 < 2 ^ k) → (c : ℕ) → getD ends′ c 0 < 2 ^ k
+  pub others : (c u : ℕ) → u ≢ w → member (getD ends′ c 0) u ≡ member (getD ends c 0) u
+  pub none : cost ≡ 0 → (c : ℕ) → member (getD ends′ c 0) w ≡ member (getD ends c 0) w
+  pub here : 1 ≤ cost → (c : ℕ) → c < 16 → member (getD ends′ c 0) w ≡ either (eqb c ((round + cost) % 16)) (member (getD ends c 0) w)
+
+abbrev pub tallyOf : ℕ → ℕ → ℕ → ℕ → Tally
+tallyOf n rounds worked peak = record {
+  rounds = rounds;
+  actions = worked;
+  idle = n * rounds - worked;
+  requests = 0;
+  steals = 0;
+  bare = 0;
+  «idle_victim» = 0;
+  peak = peak;
+}
 
 abbrev pub Answered : ℕ → ℕ → List ℕ → Ran → List ℕ → Plan → Type 0
 Answered form n before r after p =

@@ -1,9 +1,11 @@
 -- A moment of a run from a pool, and what a turn and its parts are given and leave of it. Functions that are no entries cite this file.
 --   Moment, At     == a plan, a number of workers, a round, the workers as its taking was over, a state and the worker whose turn it is;
 --                     the state is that of such a run, at that worker's turn
---   afterOf, freshOf == how many actions of each job are done once job j has done its next one; the rounds spent then
+--   afterOf        == how many actions of each job are done once job j has done its next one
+--   unspent p      == no rounds are spent on any job's next action: the array of the progress notes none, since the runner knows in which
+--                     round each action ends
 --   Held           == the worker holds job j, whose next action stands at place k
---   Acting         == .. and the arrays stand for the moment, but that no round is spent on job j's next action any more
+--   Acting         == .. and the arrays stand for the moment
 --   Weighed        == .. and so does the weight of the living frames
 --   Sent           == the action is counted and its join sent. In the set are all that are then in the pool and ready, but for the job that
 --                     the action spawned; the counts are those of before
@@ -11,28 +13,31 @@
 --   Ending, Buried == .. and it was the job's last; what is left of the worker then, and of the pool
 --   After          == the arrays stand for the state t, and the answer `after` for its worker w and living frames
 --   Acted          == .. where t is the state after a turn in which the worker finishes the next action of job j
---   Turning        == the worker, which holds a job, is about to take its turn; the arrays stand for the moment
+--   Turning        == the worker, which holds a job, is about to take the last turn of its action; the arrays stand for the moment
 --   TurnTaken      == they stand for the state after it
+--   Having, Leaving == job j has an action left, by the counts that the arrays hold; so it is of the job that a worker has, if it has one
+--   costOf p next x == how many rounds the next action of the job that a worker x has takes, or 0
 use Prim.Native.Nat.{ℕ, suc, _≤_, _<_}
 use mathlib.Core.Path.{_≡_}
 use mathlib.Core.Logic.{_≢_}
 use mathlib.Core.Bool.{true, false}
 use mathlib.Core.List.{List}
-use lib.ListN.{length, set}
+use lib.ListN.{length, getD, set, replicate}
 use Rattle.plan.specs.Plan.{Plan, size, action}
 use Rattle.plan.specs.Rules.{Accepted}
 use Rattle.plan.specs.Sheet.{Planned}
 use Rattle.courses.specs.Row.{place}
 use Rattle.courses.specs.Ready.{weight}
 use Rattle.runs.specs.declared.worker.Worker.{Worker}
-use Rattle.runs.specs.declared.worker.Worker.the-variants.{Holding}
+use Rattle.runs.specs.declared.worker.Worker.the-variants.{Idle, Holding, Waiting}
 use Rattle.runs.specs.State.{holds}
-use Rattle.pools.specs.State.{State, nextOf, workerOf}
+use Rattle.pools.specs.State.{State, nextOf, spentOf, workerOf}
 use Rattle.pools.specs.Take.{waits}
 use Rattle.pools.specs.Turn.{handAfter, finished, turnOf}
 use Rattle.pools.specs.Trace.{Stage, turning, Trace}
 use Rattle.pool_set.specs.Pool.{pooled}
 use Rattle.turns.specs.declared.turn.Turned.{Turned}
+use Rattle.turns.specs.Finish.{Deed}
 use Rattle.turns.specs.Progress.{Progressed}
 use Rattle.turns.specs.Rows.{Rowed}
 use Rattle.pool_turns.specs.Pooled.{Counts, Pooled}
@@ -55,8 +60,8 @@ pub record At (m : Moment) : Type 0 where
 abbrev pub afterOf : Moment → ℕ → List ℕ
 afterOf m j = set (m .state .next) j (suc (nextOf (m .state) j))
 
-abbrev pub freshOf : Moment → ℕ → List ℕ
-freshOf m j = set (m .state .spent) j 0
+abbrev pub unspent : Plan → List ℕ
+unspent p = replicate (length p) 0
 
 pub record Held (k j : ℕ) (plan : List ℕ) (m : Moment) : Type 0 where
   pub run : At m
@@ -66,7 +71,7 @@ pub record Held (k j : ℕ) (plan : List ℕ) (m : Moment) : Type 0 where
 
 pub record Acting (k j : ℕ) (plan progress pool : List ℕ) (m : Moment) : Type 0 where
   pub held : Held k j plan m
-  pub progressed : Progressed (m .plan) (m .state .next) (freshOf m j) progress
+  pub progressed : Progressed (m .plan) (m .state .next) (unspent (m .plan)) progress
   pub pooled : Pooled (m .plan) (m .state .next) (m .state .workers) pool
 
 pub record Weighed (k j weighs : ℕ) (plan progress pool : List ℕ) (m : Moment) : Type 0 where
@@ -83,7 +88,7 @@ pub record Between (j : ℕ) (pool : List ℕ) (m : Moment) : Type 0 where
   pub counts : Counts (m .plan) (m .state .next) pool
 
 pub record Sent (j : ℕ) (progress pool : List ℕ) (m : Moment) : Type 0 where
-  pub progressed : Progressed (m .plan) (afterOf m j) (freshOf m j) progress
+  pub progressed : Progressed (m .plan) (afterOf m j) (unspent (m .plan)) progress
   pub between : Between j pool m
 
 pub record Settling (k j weighs : ℕ) (plan progress pool : List ℕ) (m : Moment) : Type 0 where
@@ -106,7 +111,7 @@ pub record Buried (j : ℕ) (x : Worker) (pool : List ℕ) (m : Moment) : Type 0
 pub record After (w : ℕ) (after : Turned) (progress pool : List ℕ) (p : Plan) (t : State) : Type 0 where
   pub worker : after .worker ≡ workerOf t w
   pub weighed : after .weight ≡ weight p (t .next)
-  pub progressed : Progressed p (t .next) (t .spent) progress
+  pub progressed : Progressed p (t .next) (unspent p) progress
   pub pooled : Pooled p (t .next) (t .workers) pool
 
 abbrev pub Acted : ℕ → Turned → List ℕ → List ℕ → Moment → Type 0
@@ -121,10 +126,27 @@ pub record Turning (x : Worker) (r w weighs : ℕ) (plan progress pool rows : Li
   pub holding : holds x ≡ true
   pub weighed : weighs ≡ weight (m .plan) (m .state .next)
   pub planned : Planned plan (m .plan)
-  pub progressed : Progressed (m .plan) (m .state .next) (m .state .spent) progress
+  pub last : (j : ℕ) → x ≡ Holding j → action (m .plan) j (nextOf (m .state) j) .cost ≤ suc (spentOf (m .state) j)
+  pub progressed : Progressed (m .plan) (m .state .next) (unspent (m .plan)) progress
   pub pooled : Pooled (m .plan) (m .state .next) (m .state .workers) pool
   pub rowed : Rowed (m .plan) (m .state .next) (m .state .rows) rows
 
 pub record TurnTaken (x : Worker) (after : Turned) (progress pool rows : List ℕ) (m : Moment) : Type 0 where
   pub left : After (m .worker) after progress pool (m .plan) (turnOf (m .plan) (m .round) (m .worker) x (m .state))
   pub rowed : let t = turnOf (m .plan) (m .round) (m .worker) x (m .state) in Rowed (m .plan) (t .next) (t .rows) rows
+
+-- a job that a worker has, and the counts that the arrays hold
+pub record Having (j : ℕ) (plan progress : List ℕ) (d : Deed) : Type 0 where
+  pub planned : Planned plan (d .plan)
+  pub known : j < length (d .plan)
+  pub left : getD (d .next) j 0 < size (d .plan) j
+  pub progressed : Progressed (d .plan) (d .next) (unspent (d .plan)) progress
+
+-- .. where the worker x has one, or none
+abbrev pub Leaving : Worker → List ℕ → List ℕ → Deed → Type 0
+Leaving x plan progress d = (j : ℕ) → x ≡ Holding j → Having j plan progress d
+
+abbrev pub costOf : Plan → List ℕ → Worker → ℕ
+costOf p next Idle = 0
+costOf p next (Holding j) = action p j (getD next j 0) .cost
+costOf p next (Waiting v l) = 0

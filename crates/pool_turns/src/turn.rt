@@ -1,10 +1,14 @@
 // A worker's turn in a run from a pool (document 02, L1 and L5), with its row of the schedule.
+ghost use mathlib.Core.Path.{_≡_};
+ghost use lib.ListN.{getD};
 ghost use Rattle.plan.specs.Contract.{Some, _⇒_, before, after};
-ghost use Rattle.pool_turns.specs.Moments.{Acting, Sent, Weighed, Ending, Buried, Settling, Acted, Turning, TurnTaken};
+ghost use Rattle.plan.specs.Plan.{action};
+ghost use Rattle.pool_turns.specs.Moments.{Acting, Sent, Weighed, Ending, Buried, Settling, Acted, Turning, TurnTaken, Having, Leaving, costOf};
 use numbers::byte;
 use numbers::wide8;
 use plan::sheet::Sheet;
 use plan::sheet::child_at;
+use plan::sheet::cost_at;
 use plan::sheet::first_of;
 use plan::sheet::frame_of;
 use plan::sheet::parent_of;
@@ -19,7 +23,6 @@ use turns::finish::finish;
 use turns::progress::Progress;
 use turns::progress::done_of;
 use turns::progress::missing_at;
-use turns::progress::spend;
 use turns::rows::Rows;
 use turns::rows::set_row;
 use turns::turn::Turned;
@@ -116,7 +119,7 @@ fn act(
     }
 }
 
-// The turn of worker w, which holds a job.
+// The turn of worker w, which holds a job, in the last round of its action.
 pub fn turn(
     worker: Worker,
     round: usize,
@@ -131,15 +134,33 @@ pub fn turn(
     ensures { λ a. ⌜ Turning worker round w weight (before plan) (before progress) (before pool) (before rows)
         ⇒ TurnTaken worker a (after progress) (after pool) (after rows) ⌝ }
 {
-    // A worker whose turn it is holds a job, for the walk over the set of holders goes to no other: `else` is never taken.
+    // A worker whose turn it is holds a job, for the walk goes over those whose actions end and to no other: `else` is never taken.
     let Worker::Holding(held) = worker else {
         return Turned { worker, weight };
     };
     let j = wide8(held);
     let k = first_of(plan, j) + done_of(progress, j);
-    if spend(progress, j, k, plan) {
-        return Turned { worker, weight };
-    }
     set_row(rows, k, round, w);
     act(k, j, weight, plan, progress, pool)
+}
+
+// How many rounds the next action of job j takes.
+pub fn next_cost(j: usize, plan: &Sheet, progress: &Progress) -> usize
+    requires { ⌜ Some (Having j (now plan) (now progress)) ⌝ }
+    ensures { λ r. ⌜ Having j (before plan) (before progress)
+        ⇒ (λ d. r ≡ action (d .plan) j (getD (d .next) j 0) .cost) ⌝ }
+{
+    cost_at(plan, first_of(plan, j) + done_of(progress, j))
+}
+
+// How many rounds the next action of the job that a worker has takes, or 0 where it has none.
+pub fn rounds_of(worker: Worker, plan: &Sheet, progress: &Progress) -> usize
+    requires { ⌜ Some (Leaving worker (now plan) (now progress)) ⌝ }
+    ensures { λ r. ⌜ Leaving worker (before plan) (before progress) ⇒ (λ d. r ≡ costOf (d .plan) (d .next) worker) ⌝ }
+{
+    match worker {
+        Worker::Holding(j) => next_cost(wide8(j), plan, progress),
+        Worker::Idle => 0,
+        Worker::Waiting { victim: _, laid: _ } => 0,
+    }
 }

@@ -1,11 +1,11 @@
 -- The taking before a round over the runner's objects.
---   take-lowest, takes-more, hands-free == a worker that holds nothing takes the lowest job; one worker more; who has nothing holds nothing
 --   takes-found   == where the set is not empty, its lowest job is one that is free
 --   takes-known   == the lowest worker that is left is one of those that have not taken
+--   takes-having, takes-note == what is told of the job, which no round is spent on
 --   takes-next    == it takes that job
 --   takes-none    == the set is empty: nobody takes
 --   takes-round   == nobody is left: the turns of the next round begin
-use Prim.Native.Nat.{ℕ, zero, suc, _+_, _-_, _≤_, _<_}
+use Prim.Native.Nat.{ℕ, zero, suc, _+_, _-_, _%_, _≤_, _<_}
 use mathlib.Core.Path.{_≡_, refl, sym, ap, _∙_}
 use mathlib.Core.Logic.{_≢_, by-cases}
 use mathlib.Core.Bool.{Bool, true, false, true≢false, not}
@@ -13,96 +13,54 @@ use mathlib.Core.List.{List}
 use native.Mathlib.Nat.{le-refl}
 use native.Mathlib.Omega.{arith}
 use native.Mathlib.Decide.{ℕ-discrete, decLt}
-use lib.Dec.{T}
+use borrow.Author.Tests.{lt-ltb}
+use lib.Dec.{T, eqb}
 use lib.Pow.{pow-pos}
 use lib.ListN.{length, getD, set, replicate}
 use lib.Seq.{getD-set-same, getD-set-other}
-use Rattle.plan.specs.Plan.{Plan}
+use Rattle.plan.specs.Plan.{Plan, action}
 use Rattle.plan.specs.Rules.{Accepted}
-use Rattle.plan.specs.Sheet.{frameOf}
-use Rattle.plan.specs.Test.{below}
+use Rattle.plan.specs.Test.{both, either, below}
 use Rattle.plan.proofs.Laws.Counts.{equal-tests}
 use Rattle.plan.proofs.Laws.Lists.{true-of, false-of, of-true}
 use Rattle.plan.proofs.Laws.Valid.{jobs-range}
-use Rattle.plan_measure.specs.Measure.{work}
-use Rattle.courses.specs.Ready.{weight}
-use Rattle.courses.proofs.Laws.Start.{none-weight}
 use Rattle.runs.specs.declared.worker.Worker.{Worker}
 use Rattle.runs.specs.declared.worker.Worker.the-variants.{Idle, Holding, Waiting}
 use Rattle.runs.specs.State.{holds}
 use Rattle.runs.proofs.Laws.Coursed.{handsIn, handsOf, hands-is}
-use Rattle.pools.specs.State.{State, nextOf, workerOf, start}
+use Rattle.pools.specs.State.{State, nextOf, spentOf, workerOf}
 use Rattle.pools.specs.Take.{lowest, waits, given, giving, take, takes}
-use Rattle.pools.specs.Run.{ended, round, rounds, pool as poolOf}
 use Rattle.pools.specs.Trace as Trace
 use Rattle.pools.specs.Trace.{taking, turning, Trace}
-use Rattle.pools.proofs.Laws.Coursed.{Fit, none-done, trace-sized, trace-stands}
+use Rattle.pools.proofs.Laws.Coursed.{trace-stands, taking-fresh}
 use Rattle.pools.proofs.Laws.Lowest.{Finds, finds, finds-one}
-use Rattle.pools.proofs.Laws.Taking.{Same, take-keeps, Took}
-use Rattle.pools.proofs.Laws.Tallies.{trace-counted}
+use Rattle.pools.proofs.Laws.Taking.{Took}
 use Rattle.pools.proofs.Laws.Tests.{Free, waits-is, waits-by}
-use Rattle.pools.proofs.Laws.Whole.{takes-trace, turns-trace, round-is, rounds-on, round-most}
-use Rattle.crew.specs.Crew.{Lowest, Rest, member}
-use Rattle.crew.proofs.Laws.Crews.{crewed-mark, crewed-first, crewed-others}
-use Rattle.crew.proofs.Laws.Folds.{fold-skip-to, fold-skip-next, fold-skip-end}
+use Rattle.pools.proofs.Laws.Whole.{takes-trace, turns-trace}
+use Rattle.crew.specs.Crew.{Lowest, Rest, Marked, member}
+use Rattle.crew.proofs.Laws.Crews.{crewed-mark}
+use Rattle.crew.proofs.Laws.Folds.{fold-skip-next, fold-skip-end}
 use Rattle.crew.proofs.Laws.Members.{member-none}
 use Rattle.crew.proofs.Laws.Walks.{Left, left-known, left-ahead, left-test, left-next}
 use Rattle.pool_set.specs.Pool.{pooled, First, Put}
-use Rattle.pool_set.proofs.Laws.Start.{none-pooled, none-children}
-use Rattle.rounds.specs.declared.account.Account.{Account}
-use Rattle.rounds.specs.Account.{isIdle, opened}
-use Rattle.rounds.specs.Rounds.{Started}
-use Rattle.rounds.proofs.Laws.Beginning.{first-progressed}
+use Rattle.rounds.specs.Account.{isIdle}
 use Rattle.rounds.proofs.Laws.Standing.{idleIn}
-use Rattle.pool_turns.specs.Pooled.{Pooled}
-use Rattle.pool_runner.specs.Rounds.{PoolGiven, TookNoted}
-use Rattle.pool_turns.proofs.Laws.Heirs.{heirs-none}
-use Rattle.pool_runner.proofs.Laws.Idling.{trace-quiet}
-use Rattle.pool_runner.proofs.Laws.Rounds.{begun-fit}
+use Rattle.pool_runner.specs.Rounds.{Noted}
+use Rattle.pool_runner.proofs.Laws.Seats.{trace-quiet}
+use Rattle.pool_runner.proofs.Laws.Takes.{take-holds, take-lowest, takes-more, not-idle, idle-is, held-hands, hands-free, lowest-none}
+use Rattle.pool_runner.proofs.Laws.Rounds.{begun-fit, begun-early, begun-next, either-false}
+use Rattle.turns.specs.Finish.{Deed}
+use Rattle.pool_turns.specs.Moments.{Having}
+use Rattle.plan.proofs.Laws.Spawning.{cost-in-range}
 use Rattle.pool_turns.proofs.Laws.Sending.{put-here, put-other}
-use Rattle.pool_runner.proofs.Laws.Standing.{Fitted, Manned, Done, Begun, Between, InTakes, over, afterTakes, Quiet}
-
--- a worker that holds a job takes none
-take-holds : (p : Plan) (w : ℕ) (s : State) → holds (workerOf s w) ≡ true → take p w s ≡ s
-unfolding take
-take-holds p w s e = rw (take, e)
-
--- one that does not takes the lowest
-pub take-lowest : (p : Plan) (w : ℕ) (s : State) → holds (workerOf s w) ≡ false
-    → take p w s ≡ giving w (lowest (waits p (s .next) (s .workers)) (below (length p))) s
-unfolding take
-take-lowest p w s e = rw (take, e)
-
-pub takes-more : (p : Plan) (s : State) (k : ℕ) → takes p (suc k) s ≡ take p k (takes p k s)
-unfolding takes
-takes-more p s k = refl
-
-not-idle : (x : Worker) → isIdle x ≡ not (holds x) → isIdle x ≡ false → holds x ≡ true
-not-idle Idle q e = absurd (true≢false e)
-not-idle (Holding j) q e = refl
-not-idle (Waiting v l) q e = absurd (true≢false (sym q))
-
-idle-is : (x : Worker) → isIdle x ≡ true → (holds x ≡ false) × (handsIn x ≡ 0)
-idle-is Idle e = (refl, refl)
-idle-is (Holding j) e = absurd (true≢false (sym e))
-idle-is (Waiting v l) e = absurd (true≢false (sym e))
-
-held-hands : (x : Worker) → holds x ≡ true → (j : ℕ) × (handsIn x ≡ suc j)
-held-hands Idle e = absurd (true≢false (sym e))
-held-hands (Holding j) e = (j, refl)
-held-hands (Waiting v l) e = absurd (true≢false (sym e))
-
-pub hands-free : (x : Worker) → handsIn x ≡ 0 → holds x ≡ false
-hands-free Idle e = refl
-hands-free (Holding j) e = absurd (omega arith)
-hands-free (Waiting v l) e = refl
+use Rattle.pool_runner.proofs.Laws.Standing.{Fitted, restIn, restOf, slot, Between, InTakes, over}
 
 module _ {p : Plan} {n : ℕ} {plan : List ℕ} (g : Fitted p n plan) where
   ok : Accepted p
   ok = g .planned .rules
 
-  module _ {r left : ℕ} {a : Account} {workers : List Worker} {progress pool rows : List ℕ}
-      (z : InTakes p n r left a workers progress pool rows) where
+  module _ {r left weighs peak idlers : ℕ} {workers : List Worker} {ends progress pool rows : List ℕ}
+      (z : InTakes p n r left weighs peak idlers workers ends progress pool rows) where
     abbrev ended-in : State
     ended-in = over p n r (z .state)
 
@@ -209,42 +167,86 @@ module _ {p : Plan} {n : ℕ} {plan : List ℕ} (g : Fitted p n plan) where
             waits-is p ok (now .next) (set (now .workers) w (Holding j)) j (takes-found .0) t .unheld w
             (ap handsIn (getD-set-same (now .workers) w (Holding j) Idle seat)))
 
-        pub takes-next : {pool′ : List ℕ} → Put j false pool pool′ → {a′ : Account} → TookNoted a w a′ → {left′ : ℕ} → Rest left left′
-            → {x : ℕ} → x ≡ j → InTakes p n r left′ a′ (set workers w (Holding x)) progress pool′ rows
-        unfolding given
-        takes-next {pool′} put {a′} noted l {x} e =
-            let q = z .manned in
-            let d = z .done in
-            rw e (record {
-              state = z .state;
-              begun = z .begun;
-              on = z .on;
-              past = suc w;
-              ahead = takes-known .0;
-              walk = left-next (z .walk) low l;
-              manned = rw takes-it (record {
-                seated = ap (λ ws. set ws w (Holding j)) (q .seated);
-                weighs = noted .weighed ∙ q .weighs;
-                counts = noted .counts ∙ q .counts;
-                holders = crewed-mark holds (now .workers) Idle (Holding j) (q .holders) seat (noted .holders) (takes-known .0);
-                idlers = crewed-mark isIdle (now .workers) Idle (Holding j) (q .idlers) seat (noted .idlers) (takes-known .0);
-              });
-              done = rw takes-it (record {
-                progressed = d .progressed;
-                rowed = d .rowed;
-                pooled = record {
-                  long = put .long;
-                  waiting = λ y h. by-cases (ℕ-discrete y j)
-                      (λ u. rw u (put-here put (takes-found .1) ∙ sym out))
-                      (λ u. put-other put y (omega (arith, jobs-range p ok)) u ∙ d .pooled .waiting y h ∙ sym (waits-on y h u));
-                  past = λ y h b. put-other put y b (λ u. omega (arith, takes-found .0)) ∙ d .pooled .past y h b;
-                  counts = λ y h. put .same y ∙ d .pooled .counts y h;
-                };
-              });
-            })
+        abbrev deed : Deed
+        deed = record { plan = p; next = now .next; spent = now .spent }
+
+        free : Free p (now .next) (now .workers) j
+        free = waits-is p ok (now .next) (now .workers) j (takes-found .0)
+            (of-true _ (sym (z .done .pooled .waiting j (takes-found .0)) ∙ f .there (takes-found .1)))
+
+        pub takes-having : Having j plan progress deed
+        takes-having = record { planned = g .planned; known = takes-found .0; left = free .living .left; progressed = z .done .progressed }
+
+        -- what is left of its action is all of it
+        module _ {cost : ℕ} (is : cost ≡ action p j (nextOf now j) .cost) where
+          rest-is : cost ≡ action p j (nextOf now j) .cost - spentOf now j
+          rest-is = omega (arith, is, taking-fresh (begun-fit g) (trace-to (z .past) (z .ahead)) j (free .unheld))
+
+          cost-range : (1 ≤ cost) × (cost ≤ 15)
+          cost-range = omega (arith, is, cost-in-range p (ok .range) j (takes-found .0) (nextOf now j) (free .living .left))
+
+          pub takes-note : (r < 65536) × (cost ≤ 15) × (w < 16) × (length ends ≡ 16)
+          takes-note = (omega (arith, begun-early g (z .begun)), cost-range .1, takes-known .1, z .timed .long)
+
+          pub takes-next : {pool′ : List ℕ} → Put j false pool pool′ → {idlers′ : ℕ} → Marked w false idlers idlers′ → {ends′ : List ℕ}
+              → Noted r cost w ends ends′ → {left′ : ℕ} → Rest left left′ → {x : ℕ} → x ≡ j
+              → InTakes p n r left′ weighs peak idlers′ (set workers w (Holding x)) ends′ progress pool′ rows
+          unfolding given
+          takes-next {pool′} put {idlers′} marked {ends′} noted l {x} e =
+              let q = z .manned in
+              let d = z .done in
+              rw e (record {
+                state = z .state;
+                begun = z .begun;
+                on = z .on;
+                past = suc w;
+                ahead = takes-known .0;
+                walk = left-next (z .walk) low l;
+                timed = rw takes-it (record {
+                  long = noted .long;
+                  small = noted .small n (takes-known .0) (z .timed .small);
+                  each = λ u c h b. by-cases (ℕ-discrete u w) (λ v. rw v (own c b))
+                      (λ v. noted .others c u v ∙ z .timed .each u c h b
+                      ∙ ap (λ y. slot r (restIn p (now .next) (now .spent) y) c) (sym (getD-set-other (now .workers) w u (Holding j) Idle v)));
+                });
+                manned = rw takes-it (record {
+                  seated = ap (λ ws. set ws w (Holding j)) (q .seated);
+                  weighed = q .weighed;
+                  highest = q .highest;
+                  idle = crewed-mark isIdle (now .workers) Idle (Holding j) (q .idle) seat marked (takes-known .0);
+                });
+                done = rw takes-it (record {
+                  progressed = d .progressed;
+                  rowed = d .rowed;
+                  pooled = record {
+                    long = put .long;
+                    waiting = λ y h. by-cases (ℕ-discrete y j)
+                        (λ u. rw u (put-here put (takes-found .1) ∙ sym out))
+                        (λ u. put-other put y (omega (arith, jobs-range p ok)) u ∙ d .pooled .waiting y h ∙ sym (waits-on y h u));
+                    past = λ y h b. put-other put y b (λ u. omega (arith, takes-found .0)) ∙ d .pooled .past y h b;
+                    counts = λ y h. put .same y ∙ d .pooled .counts y h;
+                  };
+                });
+              })
+            where
+              -- an idle worker stood nowhere
+              nowhere : (c : ℕ) → c < 16 → member (getD ends c 0) w ≡ false
+              nowhere c b = z .timed .each w c (takes-known .1) b ∙ none (workerOf now w) (idle .1)
+                where
+                  none : (y : Worker) → handsIn y ≡ 0 → slot r (restIn p (now .next) (now .spent) y) c ≡ false
+                  none Idle e = refl
+                  none (Holding i) e = absurd (omega arith)
+                  none (Waiting v m) e = refl
+
+              own : (c : ℕ) → c < 16 → member (getD ends′ c 0) w ≡ slot r (restOf p (given w j now) w) c
+              own c b =
+                  let hand = getD-set-same (now .workers) w (Holding j) Idle seat in
+                  noted .here (cost-range .0) c b ∙ ap (either (eqb c ((r + cost) % 16))) (nowhere c b) ∙ either-false (eqb c ((r + cost) % 16))
+                  ∙ sym (ap (λ x. both x (eqb c ((r + cost) % 16))) (lt-ltb 0 cost (cost-range .0)))
+                  ∙ ap (λ m. slot r m c) rest-is ∙ ap (λ y. slot r (restIn p (now .next) (now .spent) y) c) (sym hand)
 
     -- the set is empty
-    pub takes-none : First pool 256 → InTakes p n r 0 a workers progress pool rows
+    pub takes-none : First pool 256 → InTakes p n r 0 weighs peak idlers workers ends progress pool rows
     takes-none f = record {
       state = z .state;
       begun = z .begun;
@@ -252,22 +254,24 @@ module _ {p : Plan} {n : ℕ} {plan : List ℕ} (g : Fitted p n plan) where
       past = n;
       ahead = le-refl n;
       walk = record { small = pow-pos n; past = λ u h. member-none u; each = λ u l h. absurd (omega arith) };
+      timed = rw same (z .timed);
       manned = rw same (z .manned);
       done = rw same (z .done);
     }
       where
-        none : lowest (waits p (now .next) (now .workers)) (below (length p)) ≡ 0
-        none = finds-one _ (length p) _ 0 (finds _ (length p)) (record {
-          none = λ e u l t. true≢false (sym (true-of _ t) ∙ sym (z .done .pooled .waiting u l) ∙ f .none u (omega (arith, jobs-range p ok)) (omega (arith, jobs-range p ok)));
-          some = λ u e. absurd (omega arith);
-        })
+        none : (j : ℕ) → ¬ Free p (now .next) (now .workers) j
+        none j free =
+            let l = free .living .below in
+            let few = jobs-range p ok in
+            true≢false (sym (true-of _ (waits-by p ok (now .next) (now .workers) j free)) ∙ sym (z .done .pooled .waiting j l)
+            ∙ f .none j (omega arith) (omega arith))
 
         takes-nothing : (k : ℕ) → take p k now ≡ now
         takes-nothing k = go (holds (workerOf now k)) refl
           where
             go : (b : Bool) → holds (workerOf now k) ≡ b → take p k now ≡ now
             go true e = take-holds p k now e
-            go false e = take-lowest p k now e ∙ ap (λ x. giving k x now) none
+            go false e = take-lowest p k now e ∙ ap (λ x. giving k x now) (lowest-none p ok now none)
 
         from : (d : ℕ) → at (d + z .past) ≡ now
         from zero = ap at (omega arith)
@@ -279,23 +283,13 @@ module _ {p : Plan} {n : ℕ} {plan : List ℕ} (g : Fitted p n plan) where
         same = let h = z .ahead in ap at (let e : n ≡ (n - z .past) + z .past = omega arith in e) ∙ from (n - z .past)
 
     -- nobody is left
-    pub takes-round : left ≡ 0 → Between p n r a workers progress pool rows
+    pub takes-round : left ≡ 0 → Between p n r weighs peak idlers workers ends progress pool rows
     takes-round none =
         let same : at n ≡ now = fold-skip-end at (take p) (takes-more p ended-in) (rw none at (z .walk)) rests (z .ahead) refl in
-        record { state = at n; begun = begins; manned = rw same (z .manned); done = rw same (z .done) }
-      where
-        t : Trace p n (suc r) (at n .workers) (turning 0) (at n)
-        t = Trace.all-took (trace-to n (le-refl n))
-
-        begins : Begun p n (suc r) (at n)
-        begins = by (z .begun .fuel) refl
-          where
-            by : (k : ℕ) → z .begun .fuel ≡ k → Begun p n (suc r) (at n)
-            by zero e = absurd (omega (arith, z .begun .enough, round-most (begun-fit g) t))
-            by (suc k) e = record {
-              trace = t;
-              fuel = k;
-              left = z .begun .left ∙ ap (λ k. rounds k p n ended-in) e ∙ rounds-on p n k ended-in (z .on)
-                  ∙ ap (rounds k p n) (round-is p n (suc r) ended-in (trace-counted (g .some) trace-over .rounds));
-              enough = omega (arith, z .begun .enough);
-            }
+        record {
+          state = at n;
+          begun = begun-next g (z .begun) (z .on);
+          timed = rw same (z .timed);
+          manned = rw same (z .manned);
+          done = rw same (z .done);
+        }

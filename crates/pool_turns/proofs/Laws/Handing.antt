@@ -47,7 +47,7 @@ use Rattle.turns.specs.Progress.{missingAt, missingTo, Progressed}
 use Rattle.turns.proofs.Laws.Missing.{missing-ready, ready-missing}
 use Rattle.turns.proofs.Laws.Weights.{weight-small, weight-spawn, weight-end, weight-same}
 use Rattle.pool_turns.specs.Pooled.{heirs, Counts, Pooled}
-use Rattle.pool_turns.specs.Moments.{Moment, Held, Acting, Weighed, Between, Sent, Settling, Ending, Buried, Acted, afterOf, freshOf}
+use Rattle.pool_turns.specs.Moments.{Moment, Held, Acting, Weighed, Between, Sent, Settling, Ending, Buried, Acted, afterOf, unspent}
 use Rattle.pool_turns.proofs.Laws.Heirs.{heirs-most, heirs-spawn, heirs-spawn-other, heirs-same}
 use Rattle.pool_turns.proofs.Laws.Running.{run-manned, held-hand, held-act, held-seat}
 use Rattle.pool_turns.proofs.Laws.Sending.{put-here, put-other}
@@ -117,7 +117,7 @@ module _ {k j : ℕ} {plan : List ℕ} {m : Moment} (a : Held k j plan m) where
 
   -- what was acted, from what the worker is left as
   pub acted : (x : Turned) → x .worker ≡ handAfter p after ws j i → x .weight ≡ weight p after → {progress pool : List ℕ}
-      → Progressed p after (freshOf m j) progress → Pooled p after (set ws (m .worker) (x .worker)) pool → Acted j x progress pool m
+      → Progressed p after (unspent p) progress → Pooled p after (set ws (m .worker) (x .worker)) pool → Acted j x progress pool m
   unfolding finished
   acted x e w g q = record {
     worker = e ∙ sym (getD-set-same ws (m .worker) (handAfter p after ws j i) Idle (held-seat a));

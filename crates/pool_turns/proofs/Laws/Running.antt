@@ -3,7 +3,7 @@
 --   run-small                      == the round and the counts are small
 --   held-hand, held-act            == the worker has the job; the action, as the theory of lines has it
 --   deedOf, held-finishing         == what finishing the action is given
---   held-unpaid                    == it has rounds left, and takes few
+--   held-seat                      == the worker is in the list
 use Prim.Native.Nat.{ℕ, suc, _≤_, _<_}
 use mathlib.Core.Path.{_≡_, refl, ap}
 use mathlib.Core.List.{List}
@@ -11,21 +11,18 @@ use native.Mathlib.Omega.{arith}
 use native.Mathlib.Nat.{le-refl}
 use lib.ListN.{length, getD}
 use lib.Seq.{getD-set-same, getD-set-other}
-use Rattle.plan.specs.Plan.{Plan, action, total}
-use Rattle.plan.specs.Sheet.{costAt}
-use Rattle.plan.proofs.Laws.Laid.{laid-cost}
-use Rattle.plan.proofs.Laws.Spawning.{cost-in-range}
+use Rattle.plan.specs.Plan.{Plan}
 use Rattle.courses.proofs.Laws.Pool.{Manned}
 use Rattle.courses.proofs.Laws.PlanShape.{shape}
 use Rattle.lines.proofs.Laws.Act.{Act}
 use Rattle.runs.proofs.Laws.Coursed.{handsIn, handsOf}
-use Rattle.pools.specs.State.{State, nextOf, spentOf}
-use Rattle.pools.proofs.Laws.Coursed.{Fit, Sized, trace-sized, trace-manned, trace-unpaid}
+use Rattle.pools.specs.State.{State, nextOf}
+use Rattle.pools.proofs.Laws.Coursed.{Fit, Sized, trace-sized, trace-manned}
 use Rattle.pools.proofs.Laws.Taking.{core}
 use Rattle.pools.proofs.Laws.Whole.{counts-small}
 use Rattle.turns.specs.Finish.{Deed, Finishing}
 use Rattle.turns.specs.Progress.{Progressed}
-use Rattle.pool_turns.specs.Moments.{Moment, At, afterOf, freshOf, Held}
+use Rattle.pool_turns.specs.Moments.{Moment, At, afterOf, unspent, Held}
 
 module _ {m : Moment} (run : At m) where
   pub run-fit : Fit (m .plan) (m .workers)
@@ -41,7 +38,7 @@ module _ {m : Moment} (run : At m) where
   run-small = let k = run .known in counts-small run-fit (run .trace) (omega arith)
 
 abbrev pub deedOf : Moment → ℕ → Deed
-deedOf m j = record { plan = m .plan; next = m .state .next; spent = freshOf m j }
+deedOf m j = record { plan = m .plan; next = m .state .next; spent = unspent (m .plan) }
 
 module _ {k j : ℕ} {plan : List ℕ} {m : Moment} (a : Held k j plan m) where
   abbrev p : Plan
@@ -65,21 +62,8 @@ module _ {k j : ℕ} {plan : List ℕ} {m : Moment} (a : Held k j plan m) where
         others = λ h f. getD-set-other (s .next) j h (suc (nextOf s j)) 0 f;
       }
 
-  pub held-finishing : {progress : List ℕ} → Progressed p (s .next) (freshOf m j) progress → Finishing k j plan progress (deedOf m j)
+  pub held-finishing : {progress : List ℕ} → Progressed p (s .next) (unspent p) progress → Finishing k j plan progress (deedOf m j)
   held-finishing g = record { planned = a .planned; act = held-act; here = a .here; progressed = g }
-
-  pub held-cost : costAt plan k ≡ action p j (nextOf s j) .cost
-  held-cost = rw (a .here) (laid-cost plan p (a .planned .laid) j (held-act .lives .below) (nextOf s j) (held-act .lives .left))
-
-  -- it has rounds left, and takes few
-  pub held-unpaid : (spentOf s j < costAt plan k) × (costAt plan k ≤ 15)
-  held-unpaid =
-      omega (
-        arith,
-        held-cost,
-        trace-unpaid (run-fit (a .run)) (a .run .trace) (m .worker) j held-hand,
-        cost-in-range p (a .planned .rules .range) j (held-act .lives .below) (nextOf s j) (held-act .lives .left),
-      )
 
   pub held-seat : m .worker < length (s .workers)
   held-seat = let k = a .run .known in omega (arith, run-sized (a .run) .workers, a .run .most)

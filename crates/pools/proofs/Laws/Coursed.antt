@@ -7,7 +7,8 @@
 --   Before, Stands == what holds before the taking of a round, and at each of its stages
 --   trace-stands  == it holds in every state of a run
 --   trace-manned, trace-course == what the theory knows of the hands among turns, and that they are those of a course
---   trace-unpaid  == a job that is held has rounds left; taking-goes == before a round job 0 has not ended
+--   trace-unpaid  == a job that is held has rounds left; taking-goes == before a round job 0 has not ended;
+--                   taking-fresh == and no round is spent on the action of a job that nobody has
 use Prim.Native.Nat.{ℕ, zero, suc, _*_, _≤_, _<_}
 use mathlib.Core.Path.{_≡_, refl, ap, sym, _∙_}
 use mathlib.Core.Logic.{_⊎_, inl, inr, _≢_, ⊎-elim, by-cases}
@@ -252,6 +253,17 @@ module _ {p : Plan} {n : ℕ} (fit : Fit p n) where
   before-goes : {r : ℕ} {b : ℕ → ℕ} (s : State) → Before p n r b (core s) → nextOf s 0 < size p 0
   before-goes s (first e z idle) = omega (arith, z .none 0, size-range p (fit .plan) 0 (jobs-range p (fit .plan) .0))
   before-goes s (after e t q) = q
+
+  -- no round is spent on the next action of a job that nobody has
+  before-fresh : {r : ℕ} (b : List Worker) (s : State) → ((w j : ℕ) → handsOf b w ≡ suc j → handsOf (s .workers) w ≡ suc j)
+      → Before p n r (handsOf b) (core s) → (j : ℕ) → ((w : ℕ) → handsOf (s .workers) w ≢ suc j) → spentOf s j ≡ 0
+  before-fresh b s keeps (first e z idle) j none = z .fresh j
+  before-fresh b s keeps (after e t q) j none = ⊎-elim (λ z. z)
+      (λ l. let (w, x, y) = pool-manned p n (fit .plan) (fit .some) t .begun j l in absurd (none w (keeps w j y))) (eq-zero-or-pos (spentOf s j))
+
+  pub taking-fresh : {r k : ℕ} {b : List Worker} {s : State} → Trace p n r b (taking k) s → (j : ℕ) → ((w : ℕ) → handsOf (s .workers) w ≢ suc j)
+      → spentOf s j ≡ 0
+  taking-fresh {b = b} {s} t = let (o, z) = trace-stands t in before-fresh b s (o .keeps) z
 
   pub taking-goes : {r k : ℕ} {b : List Worker} {s : State} → Trace p n r b (taking k) s → nextOf s 0 < size p 0
   taking-goes {s = s} t = before-goes s (trace-stands t .1)
