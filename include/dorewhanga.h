@@ -7,8 +7,8 @@
  * A plan is cut into jobs (threads), and each job is a row of actions (instructions). An action takes as many rounds as
  * its cost says, 1 to 15. It may spawn a job, and may send a join to an action of its job's parent. A job has a frame, a
  * weight in units of 64 KiB that is held while the job lives. Up to 16 workers run a plan: they steal jobs from one
- * another, or take them from one pool. It is proved, in crates/cabi, that each function answers and writes, for every input, what the definitions in
- * crates/NAME/specs give.
+ * another, or take them from one pool. It is proved, in crates/cabi, that each function answers and writes, for every
+ * input, what the definitions in crates/NAME/specs give.
  *
  * Plan bytes, bits taken most significant first: form 8 bits (1 or 2), jobs 9; then for each job its frame 16 and action
  * count 8, and for each of its actions a spawn bit, the child's number 8 if it is 1, a join bit, the target's position 8
@@ -84,11 +84,11 @@ typedef struct {
                           has a longest of 0 */
 } dw_measures;
 
-/* Of dw_run and of dw_pool, for every list of choices: longest <= rounds <= work and peak <= workers x path. With one worker rounds is work and
-   peak is path. With more workers than parallel, (workers - parallel) x longest <= idle + rest. Of the requests,
-   steals + bare + idle_victim were answered, and the others still wait as the run ends. Of dw_pool alone:
-   workers x rounds <= work + (workers - 1) x longest, so idle <= (workers - 1) x longest; and requests, steals, bare and
-   idle_victim are 0. */
+/* Of dw_run and of dw_pool, for every list of choices: longest <= rounds <= work and peak <= workers x path. With one
+   worker rounds is work and peak is path. With more workers than parallel, (workers - parallel) x longest <= idle + rest.
+   Of the requests, steals + bare + idle_victim were answered, and the others still wait as the run ends. Of dw_pool
+   alone: workers x rounds <= work + (workers - 1) x longest, so idle <= (workers - 1) x longest; and requests, steals,
+   bare and idle_victim are 0. */
 typedef struct {
     uint32_t refused;
     uint32_t rounds;      /* the last round */

@@ -4,6 +4,8 @@
 --   ReadOff plan schedule w == the workers and rows w stand in front in the schedule of the plan that the bytes hold, in its form
 --   SameRun s t n choices  == "both run to equal tallies and equal rounds and workers", for plan bytes s and t and one P and list
 --   EqualRuns              == so do a plan and what it is turned into, from either side and for every P and list
+--   SamePool s t n         == the same of the runs from a pool, for plan bytes s and t and one P; their measures stand in SameRun
+--   EqualPools             == so do a plan and what it is turned into, from either side and for every P
 use Prim.Native.Nat.{ℕ}
 use mathlib.Core.Path.{_≡_}
 use mathlib.Core.List.{List}
@@ -18,7 +20,9 @@ use Rattle.courses.specs.Schedule.{scheduleLength, readSchedule}
 use Rattle.courses.specs.Schedule.{Written as Rows}
 use Rattle.runs.specs.declared.tally.Tally.{Tally}
 use Rattle.runs.specs.Run.{runOf}
+use Rattle.pools.specs.Run.{poolOf}
 use Rattle.scheduler.specs.Entry.{runInto}
+use Rattle.pool_runner.specs.Entry.{poolInto}
 use Rattle.own.specs.RoundTrip.{back}
 
 abbrev pub oldBack : List ℕ → List ℕ → List ℕ → Written
@@ -47,3 +51,17 @@ EqualRuns =
     (s bytes : List ℕ) (m n : ℕ) (choices : List ℕ)
     → (toForm2 s bytes .answer ≡ accepted m → SameRun s (take m (toForm2 s bytes .buffer)) n choices)
     × (toForm1 s bytes .answer ≡ accepted m → SameRun s (take m (toForm1 s bytes .buffer)) n choices)
+
+pub record SamePool (s t : List ℕ) (n : ℕ) : Type 0 where
+  -- both are turned down with one number, or run to one state: one tally and one list of rows
+  pub run : poolOf s n ≡ poolOf t n
+  -- whatever is lent for each schedule, where the entry accepts both: the tallies that it returns are equal, and so are the workers and
+  -- rows that are read off what it writes
+  pub told : (a b : List ℕ) (x y : Tally) → poolInto s n a .answer ≡ accepted x → poolInto t n b .answer ≡ accepted y
+      → (x ≡ y) × ((w : Rows) × ReadOff s (poolInto s n a .schedule) w × ReadOff t (poolInto t n b .schedule) w)
+
+abbrev pub EqualPools : Type 0
+EqualPools =
+    (s bytes : List ℕ) (m n : ℕ)
+    → (toForm2 s bytes .answer ≡ accepted m → SamePool s (take m (toForm2 s bytes .buffer)) n)
+    × (toForm1 s bytes .answer ≡ accepted m → SamePool s (take m (toForm1 s bytes .buffer)) n)

@@ -7,4 +7,5 @@ pub mod Rounds
 pub mod Taking
 pub mod Beginning
 pub mod Noting
+pub mod Marks
 pub mod Answers

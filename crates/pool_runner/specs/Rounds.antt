@@ -4,12 +4,15 @@
 --                       many joins enter each action, and n workers can run it
 --   PoolLeft n t rows p == the counts are those of the run of p, and the rows those of its schedule
 --   Noted round cost w ends ends′ == in the calendar ends′ worker w works on an action of that cost from the round after `round` on
+--   Marks round marks ends == d is a member of the set of marks where actions end in the d-th round after that one, by the calendar; none
+--                       ends in that round itself
 --   tallyOf n rounds worked peak == the counts of so many rounds of n workers, in so many turns of which an action was worked on
 --   Answered form n before r after p == the answer r and the schedule `after` are those of a run of p, and all that is owed of it holds; the
 --                       checker accepts the schedule, whatever bytes hold p in that form
 use Prim.Native.Nat.{ℕ, _+_, _-_, _*_, _%_, _^_, _≤_, _<_}
 use mathlib.Core.Path.{_≡_}
 use mathlib.Core.Logic.{_≢_}
+use mathlib.Core.Bool.{false, not}
 use mathlib.Core.List.{List}
 use lib.Dec.{eqb}
 use lib.ListN.{length, getD, take}
@@ -44,6 +47,11 @@ pub record Noted (round cost w : ℕ) (ends ends′ : List ℕ) : Type 0 where
   pub others : (c u : ℕ) → u ≢ w → member (getD ends′ c 0) u ≡ member (getD ends c 0) u
   pub none : cost ≡ 0 → (c : ℕ) → member (getD ends′ c 0) w ≡ member (getD ends c 0) w
   pub here : 1 ≤ cost → (c : ℕ) → c < 16 → member (getD ends′ c 0) w ≡ either (eqb c ((round + cost) % 16)) (member (getD ends c 0) w)
+
+pub record Marks (round marks : ℕ) (ends : List ℕ) : Type 0 where
+  pub small : marks < 2 ^ 16
+  pub here : member marks 0 ≡ false
+  pub each : (d : ℕ) → d < 16 → member marks d ≡ not (eqb (getD ends ((round + d) % 16) 0) 0)
 
 abbrev pub tallyOf : ℕ → ℕ → ℕ → ℕ → Tally
 tallyOf n rounds worked peak = record {

@@ -6,7 +6,7 @@ ghost use lib.ListN.{length};
 ghost use Rattle.plan.specs.Contract.{Some, _⇒_, before, after};
 ghost use Rattle.crew.specs.Crew.{member, Marked};
 ghost use Rattle.rounds.specs.Account.{isIdle};
-ghost use Rattle.pool_runner.specs.Rounds.{PoolGiven, PoolLeft, Noted, tallyOf};
+ghost use Rattle.pool_runner.specs.Rounds.{PoolGiven, PoolLeft, Noted, Marks, tallyOf};
 use crew::set::lowest;
 use crew::set::others;
 use crew::set::rest;
@@ -34,16 +34,18 @@ use turns::rows::Rows;
 // Whose actions end in which round: the set of those of round r stands at r % 16, for no action takes more than 15.
 type Calendar = [u32; 16];
 
-// Worker w works on an action of that cost from the round after `round` on, or on none where the cost is 0.
-fn note(ends: &mut Calendar, round: usize, cost: usize, w: usize)
+// Worker w works on an action of that cost from the round after `round` on, or on none where the cost is 0. Of the set of marks, d is a
+// member where actions end d rounds after that one.
+fn note(marks: u32, ends: &mut Calendar, round: usize, cost: usize, w: usize) -> u32
     requires { ⌜ (round < 65536) × (cost ≤ 15) × (w < 16) × (length (now ends) ≡ 16) ⌝ }
-    ensures { λ _. ⌜ Noted round cost w (before ends) (after ends) ⌝ }
+    ensures { λ m. ⌜ Noted round cost w (before ends) (after ends) × (Marks round marks (before ends) → Marks round m (after ends)) ⌝ }
 {
     if cost == 0 {
-        return;
+        return marks;
     }
     let at = (round + cost) % 16;
     ends[at] = with(ends[at], w);
+    with(marks, cost)
 }
 
 // The set of the idle workers after the turn of worker w, which held a job.
@@ -94,17 +96,16 @@ pub fn run_pool(
     start_progress(actions, entering, &mut progress);
     let mut pool = [0u64; 260];
     let mut ends = [0u32; 16];
-    note(&mut ends, 0, cost_at(plan, 0), 0);
+    let mut marks = note(0, &mut ends, 0, cost_at(plan, 0), 0);
     let mut weight = frame_of(plan, 0);
     let mut peak = weight;
     let mut idlers = others(n);
     let mut r = 0usize;
     loop {
-        r += 1;
-        while ends[r % 16] == 0 {
-            r += 1;
-        }
-        // Those whose actions end in this round take their turns.
+        // The next round in which actions end, and those whose actions they are take their turns.
+        let by = lowest(marks);
+        r += by;
+        marks = rest(marks) >> (by as u32);
         let mut left = ends[r % 16];
         ends[r % 16] = 0;
         while left != 0 {
@@ -116,7 +117,7 @@ pub fn run_pool(
             weight = after.weight;
             peak = larger(peak, weight);
             idlers = idle_after(idlers, w, worker);
-            note(&mut ends, r, rounds_of(worker, plan, &progress), w);
+            marks = note(marks, &mut ends, r, rounds_of(worker, plan, &progress), w);
             left = rest(left);
         }
         // Job 0's actions stand below the first place of job 1: it has ended where so many are done.
@@ -134,7 +135,7 @@ pub fn run_pool(
                 remove(&mut pool, j);
                 workers[w] = Worker::Holding(byte(j));
                 idlers = without(idlers, w);
-                note(&mut ends, r, next_cost(j, plan, &progress), w);
+                marks = note(marks, &mut ends, r, next_cost(j, plan, &progress), w);
                 left = rest(left);
             }
         }

@@ -1,20 +1,24 @@
 -- The calendar with one worker noted in it.
 --   noted-none == a cost of 0 notes nothing
 --   noted-here == the worker comes into the set of the round in which its action ends
+--   marks-none == the marks of an empty calendar; marks-here == those with that round marked
 use Prim.Native.Nat.{ℕ, _+_, _%_, _^_, _≤_, _<_}
 use mathlib.Core.Path.{_≡_, refl, ap, sym, _∙_}
 use mathlib.Core.Logic.{_≢_, by-cases}
-use mathlib.Core.Bool.{Bool, true, false}
+use mathlib.Core.Bool.{Bool, true, false, true≢false, not}
 use mathlib.Core.List.{List}
 use native.Mathlib.Omega.{arith}
 use native.Mathlib.Decide.{ℕ-discrete}
 use borrow.Author.Tests.{eq-eqb, ne-eqb}
 use lib.Dec.{eqb}
-use lib.ListN.{length, getD, set, length-set}
+use lib.Pow.{pow-pos}
+use lib.ListN.{length, getD, set, replicate, length-set}
 use lib.Seq.{getD-set-same, getD-set-other}
 use Rattle.plan.specs.Test.{either}
+use Rattle.plan.proofs.Laws.Lists.{zeros-at}
 use Rattle.crew.specs.Crew.{member, whether, Marked}
-use Rattle.pool_runner.specs.Rounds.{Noted}
+use Rattle.crew.proofs.Laws.Members.{member-none}
+use Rattle.pool_runner.specs.Rounds.{Noted, Marks}
 
 pub noted-none : {round cost w : ℕ} {ends : List ℕ} → length ends ≡ 16 → cost ≡ 0 → Noted round cost w ends ends
 noted-none long e = record {
@@ -50,3 +54,27 @@ module _ (round cost w : ℕ) (ends : List ℕ) (long : length ends ≡ 16) (som
         (λ e. ap (λ y. member y w) (apart c e)
         ∙ sym (ap (λ t. either t (member (getD ends c 0) w)) (ne-eqb c ((round + cost) % 16) (λ z. e (z ∙ sym is)))));
   }
+
+  -- the set of that round is not empty
+  filled : x ≢ 0
+  filled e =
+      true≢false (sym (m .each w ∙ ap (λ t. whether t true (member (getD ends at 0) w)) (eq-eqb w w refl)) ∙ ap (λ y. member y w) e ∙ member-none w)
+
+  pub marks-here : {marks marks′ : ℕ} → cost ≤ 15 → Marked cost true marks marks′ → Marks round marks ends → Marks round marks′ (set ends at x)
+  marks-here {marks} {marks′} few k s = record {
+    small = k .small 16 (omega arith) (s .small);
+    here = k .each 0 ∙ ap (λ t. whether t true (member marks 0)) (ne-eqb 0 cost (λ e. some (sym e))) ∙ s .here;
+    each = λ d b. by-cases (ℕ-discrete d cost)
+        (λ e. k .each d ∙ ap (λ t. whether t true (member marks d)) (eq-eqb d cost e)
+        ∙ sym (ap (λ c. not (eqb (getD (set ends at x) c 0) 0)) (ap (λ d. (round + d) % 16) e ∙ sym is)
+        ∙ ap (λ y. not (eqb y 0)) same ∙ ap not (ne-eqb x 0 filled)))
+        (λ f. k .each d ∙ ap (λ t. whether t true (member marks d)) (ne-eqb d cost f) ∙ s .each d b
+        ∙ sym (ap (λ y. not (eqb y 0)) (apart ((round + d) % 16) (λ e. f (let z : d ≡ cost = omega arith in z)))));
+  }
+
+pub marks-none : Marks 0 0 (replicate 16 0)
+marks-none = record {
+  small = pow-pos 16;
+  here = member-none 0;
+  each = λ d b. member-none d ∙ sym (ap (λ y. not (eqb y 0)) (zeros-at 16 ((0 + d) % 16)));
+}
