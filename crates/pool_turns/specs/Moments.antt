@@ -34,7 +34,7 @@ use Rattle.runs.specs.State.{holds}
 use Rattle.pools.specs.State.{State, nextOf, spentOf, workerOf}
 use Rattle.pools.specs.Take.{waits}
 use Rattle.pools.specs.Turn.{handAfter, finished, turnOf}
-use Rattle.pools.specs.Trace.{Stage, turning, Trace}
+use Rattle.pools.specs.Trace.{turning, Trace}
 use Rattle.pool_set.specs.Pool.{pooled}
 use Rattle.turns.specs.declared.turn.Turned.{Turned}
 use Rattle.turns.specs.Finish.{Deed}

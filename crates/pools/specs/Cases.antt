@@ -3,7 +3,7 @@
 --   Case == plan bytes, P, the counts and the rows; passes c == the meanings give the case's counts and rows
 --   pool-cases == the examples
 use Prim.Native.Nat.{ℕ}
-use mathlib.Core.Bool.{Bool, true, false}
+use mathlib.Core.Bool.{Bool, false}
 use mathlib.Core.List.{List, [], _∷_}
 use lib.Dec.{eqb}
 use Rattle.plan.specs.Refusal.{Outcome, refused, accepted}

@@ -6,7 +6,7 @@
 --   lone p next q   == job q "has no living child"
 --   start p         == how a run begins: job 0 is in the pool and every worker is idle, and every count is 0 but the peak
 use Prim.Native.Nat.{ℕ}
-use mathlib.Core.Bool.{Bool, true, false, not}
+use mathlib.Core.Bool.{Bool, false, not}
 use mathlib.Core.List.{List}
 use lib.ListN.{length, getD, replicate}
 use lib.Dec.{eqb, leb}

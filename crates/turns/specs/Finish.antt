@@ -8,7 +8,7 @@ use Prim.Native.Nat.{ℕ, suc}
 use mathlib.Core.Path.{_≡_}
 use mathlib.Core.Bool.{Bool}
 use mathlib.Core.List.{List}
-use lib.ListN.{length, getD, set}
+use lib.ListN.{getD, set}
 use Rattle.plan.specs.Plan.{Plan}
 use Rattle.plan.specs.Sheet.{Planned}
 use Rattle.courses.specs.Row.{place}

@@ -15,7 +15,7 @@ use Rattle.plan.specs.Reader.{readPlan, Read}
 use Rattle.plan.specs.Found.{ReadPlan}
 use Rattle.plan.proofs.Laws.Valid.{total-range}
 use Rattle.plan_measure.specs.declared.Measures.{Measures}
-use Rattle.plan_measure.specs.Measure.{work, longest, heaviest, measured, measuresOf}
+use Rattle.plan_measure.specs.Measure.{longest, measuresOf}
 use Rattle.runs.specs.Setting.{setting}
 use Rattle.runs.specs.declared.tally.Tally.{Tally}
 use Rattle.runs.specs.Run.{run, admitted, runOf}

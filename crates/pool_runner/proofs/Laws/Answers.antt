@@ -29,12 +29,10 @@ use Rattle.scheduler.specs.Written.{Words, ScheduleWritten}
 use Rattle.scheduler.proofs.Laws.RunBytes.{Fitting, Told, rowed-told, made-fits, made-words, made-written}
 use Rattle.rounds.proofs.Laws.Beginning.{in-few}
 use Rattle.rounds.specs.Rounds.{RunIn}
-use Rattle.pools.specs.State.{State}
 use Rattle.pools.specs.Run.{pool as poolOf, admitted}
-use Rattle.pools.specs.Claim.{Bounded}
 use Rattle.pools.proofs.Laws.Claimed.{pool-bounds, pool-long, pool-done, pool-front, pool-bounded, pool-checked}
 use Rattle.pools.proofs.Laws.Coursed.{Fit}
-use Rattle.pool_runner.specs.Entry.{madeOf, readInto, poolInto, Claimed}
+use Rattle.pool_runner.specs.Entry.{readInto, poolInto, Claimed}
 use Rattle.pool_runner.specs.Rounds.{PoolGiven, PoolLeft, Answered}
 
 -- what is answered to the bytes; where there was no run the claim says nothing

@@ -5,7 +5,7 @@
 use Prim.Native.Nat.{ℕ, zero, suc, _+_, _-_, _%_, _^_, _≤_, _<_}
 use mathlib.Core.Path.{_≡_, refl, sym, ap, ap₂, _∙_}
 use mathlib.Core.Logic.{_≢_, by-cases}
-use mathlib.Core.Bool.{Bool, true, false}
+use mathlib.Core.Bool.{false}
 use mathlib.Core.List.{List}
 use native.Mathlib.Nat.{le-refl}
 use native.Mathlib.Omega.{arith}
@@ -13,25 +13,23 @@ use native.Mathlib.Decide.{ℕ-discrete}
 use lib.Dec.{T, eqb}
 use lib.Pow.{pow-pos}
 use lib.ListN.{length, getD, set, replicate}
-use lib.Seq.{getD-set-same, getD-set-other}
 use borrow.Author.Tests.{lt-leb, lt-ltb}
 use Rattle.plan.specs.Plan.{Plan, size, action}
 use Rattle.plan.specs.Rules.{Accepted}
 use Rattle.plan.specs.Sheet.{frameOf, costAt}
-use Rattle.plan.specs.Test.{both, either, below}
+use Rattle.plan.specs.Test.{both, either}
 use Rattle.plan.proofs.Laws.Lists.{false-of, zeros-at}
 use Rattle.plan.proofs.Laws.Laid.{laid-cost}
 use Rattle.plan.proofs.Laws.Spawning.{cost-in-range}
 use Rattle.plan.proofs.Laws.Valid.{jobs-range, size-range}
 use Rattle.plan_measure.specs.Measure.{work}
 use Rattle.courses.proofs.Laws.Start.{none-weight}
-use Rattle.runs.specs.declared.worker.Worker.{Worker}
 use Rattle.runs.specs.declared.worker.Worker.the-variants.{Idle, Holding}
 use Rattle.runs.specs.State.{holds}
-use Rattle.runs.proofs.Laws.Coursed.{handsIn, handsOf}
+use Rattle.runs.proofs.Laws.Coursed.{handsOf}
 use Rattle.pools.specs.State.{State, nextOf, spentOf, workerOf, start}
-use Rattle.pools.specs.Take.{lowest, waits, given, giving, take, takes}
-use Rattle.pools.specs.Run.{ended, rounds, pool as poolOf}
+use Rattle.pools.specs.Take.{waits, given, giving, take, takes}
+use Rattle.pools.specs.Run.{rounds, pool as poolOf}
 use Rattle.pools.specs.Trace as Trace
 use Rattle.pools.specs.Trace.{taking, turning, Trace}
 use Rattle.pools.proofs.Laws.Coursed.{Fit, none-done, none-spent, start-idle, start-begins, first-born, root-lives, root-ready, trace-stands, taking-goes}

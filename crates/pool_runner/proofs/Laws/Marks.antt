@@ -6,12 +6,12 @@
 use Prim.Native.Nat.{ℕ, zero, suc, _+_, _-_, _/_, _%_, _^_, _≤_, _<_}
 use mathlib.Core.Path.{_≡_, refl, sym, ap, subst, _∙_}
 use mathlib.Core.Logic.{_≢_, by-cases}
-use mathlib.Core.Bool.{Bool, true, false, true≢false, not}
+use mathlib.Core.Bool.{true, false, true≢false, not}
 use mathlib.Core.List.{List}
-use native.Mathlib.Nat.{le-refl, div-one, div-le-self, div-div-eq-div-mul, pow-succ'}
+use native.Mathlib.Nat.{div-one, div-le-self, div-div-eq-div-mul, pow-succ'}
 use native.Mathlib.Omega.{arith}
 use native.Mathlib.Decide.{ℕ-discrete, decLt}
-use borrow.Author.Tests.{eqb-true, eq-eqb, ne-eqb, lt-ltb}
+use borrow.Author.Tests.{eq-eqb, ne-eqb, lt-ltb}
 use lib.Dec.{eqb}
 use lib.ListN.{length, getD, set}
 use lib.Seq.{getD-set-same, getD-set-other}
@@ -20,12 +20,12 @@ use Rattle.plan.specs.Test.{both}
 use Rattle.courses.proofs.Laws.Pool.{pool-busy}
 use Rattle.runs.specs.declared.worker.Worker.{Worker}
 use Rattle.runs.proofs.Laws.Coursed.{hands-is}
-use Rattle.pools.specs.State.{State, workerOf}
+use Rattle.pools.specs.State.{workerOf}
 use Rattle.pools.proofs.Laws.Coursed.{Fit, trace-manned}
 use Rattle.crew.specs.Crew.{member, whether, Lowest, Rest}
 use Rattle.crew.proofs.Laws.Members.{member-none, member-small}
 use Rattle.pool_runner.specs.Rounds.{Marks}
-use Rattle.pool_runner.proofs.Laws.Standing.{Fitted, restOf, slot, Between, Waits}
+use Rattle.pool_runner.proofs.Laws.Standing.{Fitted, restOf, Between, Waits}
 use Rattle.pool_runner.proofs.Laws.Timing.{rest-most, rest-some}
 use Rattle.pool_runner.proofs.Laws.Rounds.{begun-fit, waits-begin, waits-on}
 

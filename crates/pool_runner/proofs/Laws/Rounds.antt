@@ -11,13 +11,13 @@
 use Prim.Native.Nat.{ℕ, zero, suc, _+_, _-_, _*_, _%_, _≤_, _<_, max}
 use mathlib.Core.Path.{_≡_, refl, sym, ap, ap₂, _∙_}
 use mathlib.Core.Logic.{_≢_, ⊎-elim, by-cases}
-use mathlib.Core.Bool.{Bool, true, false, true≢false, not}
+use mathlib.Core.Bool.{Bool, true, false}
 use mathlib.Core.List.{List}
 use native.Mathlib.Nat.{le-refl, zero-add, eq-zero-or-pos}
 use native.Mathlib.Numerals.{add-one}
 use native.Mathlib.Omega.{arith}
 use native.Mathlib.Decide.{ℕ-discrete}
-use borrow.Author.Tests.{le-leb, lt-leb, eqb-true, eqb-false, eq-eqb, ne-eqb, lt-ltb}
+use borrow.Author.Tests.{le-leb, lt-leb, eqb-true, eqb-false, lt-ltb}
 use lib.Dec.{eqb, ltb}
 use lib.ListN.{length, getD, set}
 use lib.Seq.{getD-set-same, set-getD}
@@ -33,10 +33,10 @@ use Rattle.runs.specs.declared.tally.Tally.{Tally}
 use Rattle.runs.specs.declared.worker.Worker.{Worker}
 use Rattle.runs.specs.declared.worker.Worker.the-variants.{Idle, Holding, Waiting}
 use Rattle.runs.specs.State.{holds}
-use Rattle.runs.proofs.Laws.Coursed.{handsIn, handsOf, hands-is}
+use Rattle.runs.proofs.Laws.Coursed.{handsIn, handsOf}
 use Rattle.pools.specs.State.{State, nextOf, spentOf, workerOf}
-use Rattle.pools.specs.Take.{take, takes}
-use Rattle.pools.specs.Turn.{turn, turnOf, turns, finished}
+use Rattle.pools.specs.Take.{takes}
+use Rattle.pools.specs.Turn.{turnOf, turns, finished}
 use Rattle.pools.specs.Run.{ended, rounds, pool as poolOf}
 use Rattle.pools.specs.Trace as Trace
 use Rattle.pools.specs.Trace.{taking, turning, Trace}
@@ -47,20 +47,19 @@ use Rattle.pools.proofs.Laws.Tallies.{trace-counted, numbered-late}
 use Rattle.pools.proofs.Laws.Whole.{takes-trace, turns-trace, round-is, rounds-on, rounds-stop, round-most, counts-small}
 use Rattle.crew.specs.Crew.{Lowest, Rest, Marked, member}
 use Rattle.crew.proofs.Laws.Crews.{crewed-mark}
-use Rattle.crew.proofs.Laws.Members.{member-none, member-small}
-use Rattle.crew.proofs.Laws.Walks.{Crewed, Left, left-start, left-known, left-ahead, left-test, left-none, left-next, left-over}
+use Rattle.crew.proofs.Laws.Members.{member-none}
+use Rattle.crew.proofs.Laws.Walks.{Left, left-start, left-known, left-ahead, left-test, left-none, left-next, left-over}
 use Rattle.turns.specs.declared.turn.Turned.{Turned}
 use Rattle.turns.specs.Finish.{Deed}
 use Rattle.turns.specs.Progress.{doneOf}
 use Rattle.rounds.specs.Account.{isIdle}
-use Rattle.rounds.proofs.Laws.Standing.{idleIn}
-use Rattle.pool_turns.specs.Moments.{Moment, After, Turning, TurnTaken, Having, Leaving, costOf}
+use Rattle.pool_turns.specs.Moments.{Moment, After, Turning, TurnTaken, Leaving, costOf}
 use Rattle.pool_runner.specs.Rounds.{PoolLeft, Noted, tallyOf}
 use Rattle.pool_runner.proofs.Laws.Standing.{Fitted, restIn, restOf, slot, Timed, Manned, Done, Begun, Between, Waits, Passing, dueIn}
 use Rattle.pool_runner.proofs.Laws.Standing.{InTurns, InTakes, afterTurns, over}
 use Rattle.pool_runner.proofs.Laws.Takes.{takes-still}
-use Rattle.pool_runner.proofs.Laws.Seats.{turns-later, trace-quiet}
-use Rattle.pool_runner.proofs.Laws.Timing.{Calm, calm-none, calm-on, rest-most, rest-some, rest-others, turn-calm, slot-at}
+use Rattle.pool_runner.proofs.Laws.Seats.{turns-later}
+use Rattle.pool_runner.proofs.Laws.Timing.{Calm, calm-none, calm-on, rest-most, rest-others, turn-calm, slot-at}
 use Rattle.pool_runner.proofs.Laws.Timing.{passing-none, passing-calm, passing-all}
 
 pub either-false : (b : Bool) → either b false ≡ b

@@ -1,4 +1,5 @@
--- How the runner's objects stand for a run from a pool, at the head of each of the four loops of `run_pool`.
+-- How the runner's objects stand for a run from a pool, at the head of each of the three loops of `run_pool`, and before a round that
+-- may be passed over.
 --   Fitted p n plan    == the array holds the plan p, and n workers can run it; fitted == so it is of what a run is given
 --   restIn, restOf     == how many rounds the action that a worker works on still takes, or 0 where it has none
 --   slot r m c         == an action that takes m more rounds after round r ends in a round that stands at place c of the calendar
@@ -11,8 +12,8 @@
 --   Throughout A       == A holds of every plan that a run may have been given, and there is one; one-of, go-on == of that one, and from one
 --                         such fact to the next
 --   afterTurns, over, afterTakes == the state after the turns of the workers below k; after all turns; after the takings of the workers below k
---   Between, Waits, InTurns, InTakes == the loops' invariants: between two rounds; before a round; among a round's turns, and among the
---                         takings behind them
+--   Between, Waits, InTurns, InTakes == how they stand between two rounds; before a round; among a round's turns, and among the takings
+--                         behind them
 use Prim.Native.Nat.{ℕ, suc, _+_, _-_, _%_, _^_, _≤_, _<_}
 use mathlib.Core.Path.{_≡_}
 use mathlib.Core.Bool.{Bool, false, not}

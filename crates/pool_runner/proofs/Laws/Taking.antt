@@ -8,15 +8,15 @@
 use Prim.Native.Nat.{ℕ, zero, suc, _+_, _-_, _%_, _≤_, _<_}
 use mathlib.Core.Path.{_≡_, refl, sym, ap, _∙_}
 use mathlib.Core.Logic.{_≢_, by-cases}
-use mathlib.Core.Bool.{Bool, true, false, true≢false, not}
+use mathlib.Core.Bool.{Bool, true, false, true≢false}
 use mathlib.Core.List.{List}
 use native.Mathlib.Nat.{le-refl}
 use native.Mathlib.Omega.{arith}
 use native.Mathlib.Decide.{ℕ-discrete, decLt}
 use borrow.Author.Tests.{lt-ltb}
-use lib.Dec.{T, eqb}
+use lib.Dec.{eqb}
 use lib.Pow.{pow-pos}
-use lib.ListN.{length, getD, set, replicate}
+use lib.ListN.{length, getD, set}
 use lib.Seq.{getD-set-same, getD-set-other}
 use Rattle.plan.specs.Plan.{Plan, action}
 use Rattle.plan.specs.Rules.{Accepted}
@@ -31,7 +31,7 @@ use Rattle.runs.proofs.Laws.Coursed.{handsIn, handsOf, hands-is}
 use Rattle.pools.specs.State.{State, nextOf, spentOf, workerOf}
 use Rattle.pools.specs.Take.{lowest, waits, given, giving, take, takes}
 use Rattle.pools.specs.Trace as Trace
-use Rattle.pools.specs.Trace.{taking, turning, Trace}
+use Rattle.pools.specs.Trace.{taking, Trace}
 use Rattle.pools.proofs.Laws.Coursed.{trace-stands, taking-fresh}
 use Rattle.pools.proofs.Laws.Lowest.{Finds, finds, finds-one}
 use Rattle.pools.proofs.Laws.Taking.{Took}
@@ -41,7 +41,7 @@ use Rattle.crew.specs.Crew.{Lowest, Rest, Marked, member}
 use Rattle.crew.proofs.Laws.Crews.{crewed-mark}
 use Rattle.crew.proofs.Laws.Folds.{fold-skip-next, fold-skip-end}
 use Rattle.crew.proofs.Laws.Members.{member-none}
-use Rattle.crew.proofs.Laws.Walks.{Left, left-known, left-ahead, left-test, left-next}
+use Rattle.crew.proofs.Laws.Walks.{left-known, left-ahead, left-test, left-next}
 use Rattle.pool_set.specs.Pool.{pooled, First, Put}
 use Rattle.rounds.specs.Account.{isIdle}
 use Rattle.rounds.proofs.Laws.Standing.{idleIn}

@@ -5,18 +5,18 @@
 --   turn-calm      == a turn in which no action ends is such, and takes one round off what is left
 --   slot-at        == the place at which an action stands tells when it ends
 --   passing-none, passing-calm, passing-all == the calendar before the first turn, over a turn in which no action ends, and after the last
-use Prim.Native.Nat.{ℕ, zero, suc, _+_, _-_, _%_, _≤_, _<_, max}
+use Prim.Native.Nat.{ℕ, zero, suc, _+_, _-_, _%_, _≤_, _<_}
 use mathlib.Core.Path.{_≡_, refl, ap, ap₂, sym, _∙_}
 use mathlib.Core.Logic.{_≢_, by-cases}
-use mathlib.Core.Bool.{Bool, true, false, true≢false}
+use mathlib.Core.Bool.{false}
 use mathlib.Core.List.{List}
 use native.Mathlib.Omega.{arith}
 use native.Mathlib.Nat.{le-refl}
 use native.Mathlib.Decide.{ℕ-discrete, decLt}
-use borrow.Author.Tests.{eq-eqb, ne-eqb, lt-ltb, le-ltb, eqb-true}
+use borrow.Author.Tests.{eq-eqb, ne-eqb, lt-ltb, le-ltb}
 use lib.Dec.{eqb, ltb}
 use lib.Pow.{pow-pos}
-use lib.ListN.{length, getD, set, length-set}
+use lib.ListN.{getD, set, length-set}
 use lib.Seq.{getD-set-same, getD-set-other}
 use Rattle.plan.specs.Plan.{Plan, action}
 use Rattle.plan.specs.Test.{both}
@@ -26,9 +26,9 @@ use Rattle.courses.proofs.Laws.Pool.{terms}
 use Rattle.courses.proofs.Laws.Weighs.{course-weighs}
 use Rattle.runs.specs.declared.worker.Worker.{Worker}
 use Rattle.runs.specs.declared.worker.Worker.the-variants.{Idle, Holding, Waiting}
-use Rattle.runs.proofs.Laws.Coursed.{handsIn, handsOf}
+use Rattle.runs.proofs.Laws.Coursed.{handsIn}
 use Rattle.pools.specs.State.{State, nextOf, spentOf, workerOf}
-use Rattle.pools.specs.Turn.{worked, finished, turn, idled, turnOf, turns}
+use Rattle.pools.specs.Turn.{worked, finished, idled, turnOf}
 use Rattle.pools.specs.Trace.{turning, Trace}
 use Rattle.pools.proofs.Laws.Coursed.{Fit, trace-sized, trace-manned, trace-course, trace-unpaid}
 use Rattle.pools.proofs.Laws.Passing.{turn-cases, turn-worked}

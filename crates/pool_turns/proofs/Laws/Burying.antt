@@ -8,15 +8,14 @@
 use Prim.Native.Nat.{ℕ, suc, _-_, _≤_, _<_}
 use mathlib.Core.Path.{_≡_, refl, ap, sym, _∙_}
 use mathlib.Core.Logic.{_≢_, by-cases}
-use mathlib.Core.Bool.{Bool, true, false, true≢false}
+use mathlib.Core.Bool.{true, false, true≢false}
 use mathlib.Core.List.{List}
 use native.Mathlib.Omega.{arith}
 use native.Mathlib.Decide.{ℕ-discrete}
 use borrow.Author.Tests.{eqb-true, eqb-false}
 use lib.Dec.{T, eqb}
 use lib.ListN.{length, getD, set}
-use Rattle.plan.specs.Plan.{Plan, parent}
-use Rattle.plan.specs.Rules.{Accepted}
+use Rattle.plan.specs.Plan.{parent}
 use Rattle.plan.specs.Sheet.{parentOf}
 use Rattle.plan.proofs.Laws.Lists.{true-of, of-true}
 use Rattle.plan.proofs.Laws.Valid.{jobs-range, older}
@@ -26,13 +25,12 @@ use Rattle.lines.proofs.Laws.Leaves.{ready-of}
 use Rattle.lines.proofs.Laws.Shape.{Lone}
 use Rattle.runs.specs.declared.worker.Worker.{Worker}
 use Rattle.runs.specs.declared.worker.Worker.the-variants.{Idle, Holding}
-use Rattle.runs.proofs.Laws.Coursed.{handsIn, handsOf}
 use Rattle.pools.specs.Take.{waits}
 use Rattle.pools.specs.Turn.{heirless}
 use Rattle.pools.proofs.Laws.Passing.{hand-raised, hand-dead, heirless-is, heirless-by}
 use Rattle.pools.proofs.Laws.Tests.{Free, lone-is, lone-by, waits-is, waits-by}
 use Rattle.pool_set.specs.Pool.{pooled, childrenOf, Put, Counted}
-use Rattle.pool_turns.specs.Pooled.{heirs, Counts, Pooled}
+use Rattle.pool_turns.specs.Pooled.{heirs, Counts}
 use Rattle.pool_turns.specs.Moments.{Moment, Held, Ending, Buried}
 use Rattle.pool_turns.proofs.Laws.Heirs.{heirs-lone, lone-heirs, heirs-end, heirs-end-other}
 use Rattle.pool_turns.proofs.Laws.Handing.{p, s, ws, i, after, ok, act, handed-self, handed-other, handed-none, held-none, between-pooled}

@@ -10,17 +10,17 @@
 --   act-child, act-room, act-heavier, act-spawns == it spawns one: the child, its count, its weight, and what is left
 --   settle-ending, settle-lighter, settle-ends == it spawns none and the job ends
 --   settle-room, settle-goes, settle-stalls == .. the job goes on, or stalls
-use Prim.Native.Nat.{ℕ, suc, _+_, _*_, _-_, _≤_, _<_}
+use Prim.Native.Nat.{ℕ, suc, _+_, _-_, _≤_, _<_}
 use mathlib.Core.Path.{_≡_, refl, ap, sym, _∙_}
 use mathlib.Core.Logic.{_≢_, by-cases}
-use mathlib.Core.Bool.{Bool, true, false}
+use mathlib.Core.Bool.{true, false}
 use mathlib.Core.List.{List}
 use native.Mathlib.Omega.{arith}
 use native.Mathlib.Decide.{ℕ-discrete}
 use lib.Dec.{T}
 use lib.ListN.{length, getD, set}
 use lib.Seq.{getD-set-same, getD-set-other}
-use Rattle.plan.specs.Plan.{Plan, size, action, parent}
+use Rattle.plan.specs.Plan.{Plan, size, action}
 use Rattle.plan.specs.Rules.{Accepted}
 use Rattle.plan.specs.Sheet.{frameOf, firstOf, childAt}
 use Rattle.plan.specs.Test.{below}
@@ -28,7 +28,7 @@ use Rattle.plan.proofs.Laws.Lists.{true-of, false-of}
 use Rattle.plan.proofs.Laws.Counts.{equal-tests}
 use Rattle.plan.proofs.Laws.Laid.{laid-end, laid-child}
 use Rattle.plan.proofs.Laws.Placed.{place-below}
-use Rattle.plan.proofs.Laws.Valid.{jobs-range, size-range, frame-range, total-range, older, spawned-once}
+use Rattle.plan.proofs.Laws.Valid.{jobs-range, frame-range, total-range, older, spawned-once}
 use Rattle.courses.specs.Row.{place}
 use Rattle.courses.specs.Ready.{ready, weight}
 use Rattle.courses.proofs.Laws.PlanShape.{shape, shape-valid, ready-by}
@@ -36,7 +36,7 @@ use Rattle.lines.proofs.Laws.Act.{Act, spawner-goes, goes-lives}
 use Rattle.runs.specs.declared.worker.Worker.{Worker}
 use Rattle.runs.specs.declared.worker.Worker.the-variants.{Idle, Holding}
 use Rattle.runs.proofs.Laws.Coursed.{handsIn, handsOf}
-use Rattle.pools.specs.State.{State, nextOf, workerOf}
+use Rattle.pools.specs.State.{State, nextOf}
 use Rattle.pools.specs.Take.{waits}
 use Rattle.pools.specs.Turn.{handAfter, finished}
 use Rattle.pools.proofs.Laws.Passing.{hand-spawn, hand-goes, hand-stalls}
@@ -47,7 +47,7 @@ use Rattle.turns.specs.Progress.{missingAt, missingTo, Progressed}
 use Rattle.turns.proofs.Laws.Missing.{missing-ready, ready-missing}
 use Rattle.turns.proofs.Laws.Weights.{weight-small, weight-spawn, weight-end, weight-same}
 use Rattle.pool_turns.specs.Pooled.{heirs, Counts, Pooled}
-use Rattle.pool_turns.specs.Moments.{Moment, Held, Acting, Weighed, Between, Sent, Settling, Ending, Buried, Acted, afterOf, unspent}
+use Rattle.pool_turns.specs.Moments.{Moment, Held, Weighed, Between, Sent, Settling, Ending, Buried, Acted, afterOf, unspent}
 use Rattle.pool_turns.proofs.Laws.Heirs.{heirs-most, heirs-spawn, heirs-spawn-other, heirs-same}
 use Rattle.pool_turns.proofs.Laws.Running.{run-manned, held-hand, held-act, held-seat}
 use Rattle.pool_turns.proofs.Laws.Sending.{put-here, put-other}

@@ -3,24 +3,22 @@
 --   heirs-lone, lone-heirs  == none live exactly if no child of it lives
 --   heirs-most              == they are no more than the jobs
 --   heirs-spawn, heirs-end, heirs-same == the count after an action, in this order
-use Prim.Native.Nat.{ℕ, zero, suc, _-_, _≤_, _<_}
-use mathlib.Core.Path.{_≡_, refl, ap, sym, _∙_}
+use Prim.Native.Nat.{ℕ, suc, _-_, _≤_, _<_}
+use mathlib.Core.Path.{_≡_, refl, sym, _∙_}
 use mathlib.Core.Logic.{_≢_, by-cases}
-use mathlib.Core.Bool.{Bool, true, false}
 use mathlib.Core.List.{List, [], _∷_}
 use native.Mathlib.Omega.{arith}
-use native.Mathlib.Decide.{ℕ-discrete, decLt}
-use lib.Dec.{T, eqb, leb, eqb→eq, eqb-refl, leb→le, le→leb, T-not, not-T}
+use native.Mathlib.Decide.{ℕ-discrete}
+use lib.Dec.{T, eqb, leb, eqb→eq, eqb-refl, leb→le, le→leb}
 use lib.ListN.{length, getD, set}
 use Rattle.plan.specs.Test.{both, count, below}
 use Rattle.plan.specs.Plan.{Plan, size, action, parent, spawnAt}
 use Rattle.plan.specs.Rules.{Accepted}
 use Rattle.plan.proofs.Laws.Lists.{both-intro, both-left, both-right}
 use Rattle.plan.proofs.Laws.Counts.{decT, equal-tests, count-hit, count-miss, count-none, below-length, below-at}
-use Rattle.plan.proofs.Laws.Valid.{spawned-once, spawned-there, older}
-use Rattle.courses.specs.Ready.{living}
+use Rattle.plan.proofs.Laws.Valid.{spawned-once}
 use Rattle.courses.proofs.Laws.PlanShape.{shape, shape-valid, living-is, living-by}
-use Rattle.lines.proofs.Laws.Shape.{Living, Lone}
+use Rattle.lines.proofs.Laws.Shape.{Living}
 use Rattle.lines.proofs.Laws.Act.{Act, stays, goes-lives, lived, not-born, born-good}
 use Rattle.pools.specs.State.{lone}
 use Rattle.pools.proofs.Laws.Tests.{lone-is, lone-by}

@@ -23,15 +23,14 @@ use Rattle.plan.proofs.Laws.Valid.{jobs-range, older, spawned-once}
 use Rattle.courses.proofs.Laws.PlanShape.{shape, shape-valid}
 use Rattle.lines.proofs.Laws.Act.{Wakes, Act, stays, ready-stays, lived, was-ready, stalled, sender, parent-stays, not-born}
 use Rattle.runs.specs.declared.worker.Worker.{Worker}
-use Rattle.runs.specs.Turn.{wakes}
 use Rattle.runs.proofs.Laws.Coursed.{handsOf}
 use Rattle.runs.proofs.Laws.Waking.{woken-is, woken-by}
 use Rattle.pools.specs.State.{State, nextOf}
 use Rattle.pools.specs.Take.{waits}
-use Rattle.pools.proofs.Laws.Tests.{Free, waits-is, waits-by}
+use Rattle.pools.proofs.Laws.Tests.{waits-is, waits-by}
 use Rattle.pool_set.specs.Pool.{pooled, Put}
 use Rattle.turns.specs.Finish.{Finished}
-use Rattle.pool_turns.specs.Moments.{Moment, Held, Acting, Between, Sent, afterOf}
+use Rattle.pool_turns.specs.Moments.{Moment, Acting, Sent, afterOf}
 use Rattle.pool_turns.proofs.Laws.Running.{deedOf, run-manned, held-hand, held-act}
 
 module _ {j : ℕ} {b : Bool} {pool pool′ : List ℕ} (g : Put j b pool pool′) where

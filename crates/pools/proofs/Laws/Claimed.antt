@@ -5,12 +5,12 @@
 --   pool-front   == it stands in front in the bytes that the run leaves
 --   pool-bounded == so the bounds hold of the rows that are read off the schedule, whatever follows this
 --   pool-claim   == and of all that is accepted
-use Prim.Native.Nat.{ℕ, _+_, _-_, _*_, _≤_, _<_, _^_}
+use Prim.Native.Nat.{ℕ, _+_, _-_, _*_, _≤_, _<_}
 use mathlib.Core.Path.{_≡_, refl, sym, ap, _∙_}
 use mathlib.Core.Bool.{Bool, true, false}
 use mathlib.Core.List.{List, _++_}
 use native.Mathlib.Omega.{arith}
-use native.Mathlib.Nat.{le-refl, le-trans, one-mul}
+use native.Mathlib.Nat.{le-refl, one-mul}
 use lib.Dec.{T, leb→le}
 use lib.ListN.{length, take}
 use lib.Seq.{take-at}
@@ -24,7 +24,6 @@ use Rattle.plan.proofs.Laws.Valid.{total-range}
 use Rattle.plan_measure.specs.Measure.{work, longest, heaviest}
 use Rattle.plan_measure.proofs.Laws.Parallel.{quotient, spare-turns}
 use Rattle.courses.specs.Schedule.{scheduleBytes, scheduleLength, readSchedule, keeps, ruled, judgedBy, checked, roundBits}
-use Rattle.courses.proofs.Laws.Course.{Course}
 use Rattle.courses.proofs.Laws.Kept.{course-ended}
 use Rattle.courses.proofs.Laws.Order.{course-row, course-keeps, course-least, course-last}
 use Rattle.courses.proofs.Laws.Peak.{course-space, peak-above, course-peak, peak-least, peak-most}
@@ -35,16 +34,13 @@ use Rattle.lines.proofs.Laws.Progress.{all-done}
 use Rattle.courses.proofs.Laws.ScheduleBytes.{Small, schedule-read, schedule-length}
 use Rattle.courses.proofs.Laws.Worked.{turns-all}
 use Rattle.runs.proofs.Laws.Admitted.{workers-range}
-use Rattle.runs.proofs.Laws.Coursed.{handsOf}
-use Rattle.pools.specs.State.{State, nextOf}
-use Rattle.pools.specs.Run.{ended, pool}
-use Rattle.pools.specs.Trace.{turning, Trace}
-use Rattle.pools.specs.Claim.{Bounds, Bounded, Claim, PoolClaim}
-use Rattle.pools.proofs.Laws.Taking.{core}
+use Rattle.pools.specs.State.{nextOf}
+use Rattle.pools.specs.Run.{pool}
+use Rattle.pools.specs.Claim.{Bounded, Claim, PoolClaim}
 use Rattle.pools.proofs.Laws.Coursed.{Fit, trace-sized, trace-manned, trace-course}
 use Rattle.pools.proofs.Laws.Tallies.{trace-counted}
 use Rattle.pools.proofs.Laws.Greedy.{idle-most}
-use Rattle.pools.proofs.Laws.Whole.{Finished, round-most, run-trace}
+use Rattle.pools.proofs.Laws.Whole.{round-most, run-trace}
 
 module _ {p : Plan} {n : ℕ} (fit : Fit p n) where
   grows : (r r′ : ℕ) → r ≤ r′ → n * heaviest p ≤ n * heaviest p

@@ -9,24 +9,23 @@
 --   trace-manned, trace-course == what the theory knows of the hands among turns, and that they are those of a course
 --   trace-unpaid  == a job that is held has rounds left; taking-goes == before a round job 0 has not ended;
 --                   taking-fresh == and no round is spent on the action of a job that nobody has
-use Prim.Native.Nat.{ℕ, zero, suc, _*_, _≤_, _<_}
+use Prim.Native.Nat.{ℕ, zero, suc, _≤_, _<_}
 use mathlib.Core.Path.{_≡_, refl, ap, sym, _∙_}
-use mathlib.Core.Logic.{_⊎_, inl, inr, _≢_, ⊎-elim, by-cases}
-use mathlib.Core.Bool.{Bool, true, false}
+use mathlib.Core.Logic.{_⊎_, _≢_, ⊎-elim, by-cases}
 use mathlib.Core.List.{List}
 use native.Mathlib.Omega.{arith}
 use native.Mathlib.Nat.{le-refl, eq-zero-or-pos}
-use native.Mathlib.Decide.{decLt, ℕ-discrete}
-use lib.Dec.{T, nleb→lt}
-use lib.ListN.{length, getD, set, replicate, length-replicate, length-set}
-use Rattle.plan.specs.Plan.{Plan, job, size, total, parent, spawnAt}
+use native.Mathlib.Decide.{decLt}
+use lib.Dec.{nleb→lt}
+use lib.ListN.{length, getD, replicate, length-replicate, length-set}
+use Rattle.plan.specs.Plan.{Plan, size, total, parent}
 use Rattle.plan.specs.Rules.{Accepted}
 use Rattle.plan.proofs.Laws.Lists.{zeros-at}
 use Rattle.plan.proofs.Laws.Spawning.{cost-in-range}
 use Rattle.plan.proofs.Laws.Valid.{jobs-range, size-range, join-target}
 use Rattle.courses.specs.Row.{noRow}
 use Rattle.courses.proofs.Laws.Course as Course
-use Rattle.courses.proofs.Laws.Course.{Core, nextIn, spentIn, Begins, Works, Ends, Course}
+use Rattle.courses.proofs.Laws.Course.{Core, nextIn, Begins, Course}
 use Rattle.courses.proofs.Laws.Steps.{worked-works, finished-ends}
 use Rattle.courses.proofs.Laws.Kept.{course-kept}
 use Rattle.courses.proofs.Laws.Weighs.{course-weighs}
@@ -36,13 +35,12 @@ use Rattle.lines.proofs.Laws.Shape.{Living, Ready}
 use Rattle.runs.specs.declared.worker.Worker.{Worker}
 use Rattle.runs.specs.declared.worker.Worker.the-variants.{Idle, Holding, Waiting}
 use Rattle.runs.proofs.Laws.Coursed.{handsIn, handsOf}
-use Rattle.pools.specs.State.{State, nextOf, spentOf, workerOf, start}
+use Rattle.pools.specs.State.{State, nextOf, spentOf, start}
 use Rattle.pools.specs.Take.{take}
-use Rattle.pools.specs.Turn.{worked, finished, turn, idled, turnOf}
-use Rattle.pools.specs.Run.{ended}
+use Rattle.pools.specs.Turn.{worked, finished, idled, turnOf}
 use Rattle.pools.specs.Trace as Trace
 use Rattle.pools.specs.Trace.{Stage, taking, turning, Trace}
-use Rattle.pools.proofs.Laws.Taking.{core, Same, same-core, take-keeps, Took, took-none, took-next, took-takes}
+use Rattle.pools.proofs.Laws.Taking.{core, same-core, take-keeps, Took, took-none, took-next, took-takes}
 use Rattle.pools.proofs.Laws.Passing.{costOf, turn-worked, turn-finished, turn-cases, hand-passes}
 
 pub record Fit (p : Plan) (n : ℕ) : Type 0 where

@@ -10,14 +10,14 @@ use mathlib.Core.Path.{_≡_, refl, ap, sym, _∙_}
 use mathlib.Core.Logic.{_⊎_, inl, inr, _≢_, ⊎-elim, by-cases}
 use mathlib.Core.List.{List}
 use native.Mathlib.Omega.{arith}
-use native.Mathlib.Nat.{le-refl, le-trans, eq-zero-or-pos, mul-suc, mul-zero, mul-le-mul-left}
+use native.Mathlib.Nat.{le-refl, eq-zero-or-pos, mul-suc, mul-le-mul-left}
 use native.Mathlib.Decide.{ℕ-discrete, decLt, decLe}
 use lib.ListN.{length, getD}
 use lib.Seq.{getD-set-same, getD-set-other}
 use Rattle.plan.specs.Plan.{Plan, size, action, parent, spawnAt}
 use Rattle.plan.specs.Rules.{Accepted}
 use Rattle.plan.proofs.Laws.Spawning.{cost-in-range}
-use Rattle.plan.proofs.Laws.Valid.{jobs-range, size-range, older, spawned-there}
+use Rattle.plan.proofs.Laws.Valid.{jobs-range, older, spawned-there}
 use Rattle.plan_measure.specs.Measure.{longest}
 use Rattle.plan_measure.specs.Times.{ends, begins}
 use Rattle.plan_measure.proofs.Laws.Times.{begins-spawn, begins-first, begins-before, ends-next, ends-sent, longest-ends}
@@ -35,7 +35,7 @@ use Rattle.pools.specs.Trace.{Stage, taking, turning, Trace}
 use Rattle.pools.proofs.Laws.Tests.{Free, unheld-or}
 use Rattle.pools.proofs.Laws.Taking.{take-keeps}
 use Rattle.pools.proofs.Laws.Passing.{turn-cases}
-use Rattle.pools.proofs.Laws.Coursed.{Fit, Sized, none-done, none-spent, trace-sized, trace-stands, trace-manned, trace-course, taking-goes}
+use Rattle.pools.proofs.Laws.Coursed.{Fit, Sized, trace-sized, trace-stands, trace-manned, trace-course, taking-goes}
 use Rattle.pools.proofs.Laws.Tallies.{vacant, idles, turn-took, idles-least, idles-most}
 
 abbrev pub Grows : State → State → ℕ → Type 0

@@ -5,16 +5,14 @@
 --   hand-passes  == what the theory of courses asks of what a worker has after a turn that finished an action
 use Prim.Native.Nat.{ℕ, zero, suc, _≤_, _<_}
 use mathlib.Core.Path.{_≡_, refl, ap, sym, _∙_}
-use mathlib.Core.Logic.{_⊎_, inl, inr, _≢_, ⊎-elim, by-cases}
-use mathlib.Core.Bool.{Bool, true, false}
+use mathlib.Core.Logic.{_⊎_, _≢_, ⊎-elim, by-cases}
 use mathlib.Core.List.{List}
 use native.Mathlib.Omega.{arith}
 use native.Mathlib.Decide.{decLt}
 use borrow.Author.Tests.{lt-ltb, le-ltb}
-use lib.Dec.{T, leb, ltb, leb→le, le→leb}
+use lib.Dec.{T, leb, leb→le, le→leb}
 use lib.ListN.{length, getD, set}
 use lib.Seq.{getD-set-same, getD-set-other}
-use Rattle.plan.specs.Test.{both}
 use Rattle.plan.specs.Plan.{Plan, size, action, parent}
 use Rattle.plan.specs.Rules.{Accepted}
 use Rattle.plan.proofs.Laws.Lists.{both-intro, both-left, both-right, true-of, false-of}
@@ -24,10 +22,9 @@ use Rattle.courses.specs.Ready.{ready}
 use Rattle.courses.proofs.Laws.PlanShape.{shape, shape-valid, ready-is, ready-by}
 use Rattle.courses.proofs.Laws.Pool.{Has, child, same, raised, Passes}
 use Rattle.lines.proofs.Laws.Shape.{Lone}
-use Rattle.lines.proofs.Laws.Act.{Goes}
 use Rattle.lines.proofs.Laws.Progress.{ends}
 use Rattle.runs.specs.declared.worker.Worker.{Worker}
-use Rattle.runs.specs.declared.worker.Worker.the-variants.{Idle, Holding, Waiting}
+use Rattle.runs.specs.declared.worker.Worker.the-variants.{Idle, Holding}
 use Rattle.runs.proofs.Laws.Coursed.{handsIn, handsOf}
 use Rattle.pools.specs.State.{State, nextOf, spentOf, unheld, lone}
 use Rattle.pools.specs.Turn.{heirless, handAfter, worked, finished, turn}

@@ -5,7 +5,7 @@
 --   idles-least, idles-most == where one is idle there is such a worker; where one has a job not all are
 use Prim.Native.Nat.{ℕ, zero, suc, _+_, _-_, _*_, _≤_, _<_}
 use mathlib.Core.Path.{_≡_, refl, ap, sym, _∙_}
-use mathlib.Core.Logic.{_⊎_, inl, inr, by-cases}
+use mathlib.Core.Logic.{by-cases}
 use mathlib.Core.List.{List}
 use native.Mathlib.Omega.{arith}
 use native.Mathlib.Nat.{mul-one, mul-suc, not-suc-le-zero}
@@ -17,7 +17,7 @@ use Rattle.runs.specs.declared.worker.Worker.{Worker}
 use Rattle.runs.specs.declared.worker.Worker.the-variants.{Idle, Holding, Waiting}
 use Rattle.runs.proofs.Laws.Coursed.{handsIn, handsOf}
 use Rattle.pools.specs.State.{State, start}
-use Rattle.pools.specs.Turn.{worked, finished, turn, idled, turnOf}
+use Rattle.pools.specs.Turn.{worked, finished, idled, turnOf}
 use Rattle.pools.specs.Trace as Trace
 use Rattle.pools.specs.Trace.{Stage, taking, turning, Trace}
 use Rattle.pools.proofs.Laws.Taking.{take-keeps}

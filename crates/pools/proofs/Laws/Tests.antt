@@ -4,15 +4,15 @@
 --   lone-is, lone-by     == no child of it lives
 --   Free p next ws j     == job j lives, is ready and nobody of ws holds it
 --   waits-is, waits-by   == so it is of the jobs that are in the pool and ready
-use Prim.Native.Nat.{ℕ, zero, suc, _≤_, _<_}
-use mathlib.Core.Path.{_≡_, refl, ap, sym, _∙_}
+use Prim.Native.Nat.{ℕ, zero, suc, _<_}
+use mathlib.Core.Path.{_≡_, refl, ap}
 use mathlib.Core.Logic.{_⊎_, inl, inr, _≢_}
 use mathlib.Core.Bool.{Bool, true, false, not}
 use mathlib.Core.List.{List, [], _∷_}
 use native.Mathlib.Omega.{arith}
 use lib.Dec.{T, eqb, leb, eqb→eq, eqb-refl, leb→le, le→leb, T-not, not-T}
 use lib.ListN.{length, getD}
-use Rattle.plan.specs.Test.{both, all, below}
+use Rattle.plan.specs.Test.{both}
 use Rattle.plan.specs.Plan.{Plan, parent}
 use Rattle.plan.specs.Rules.{Accepted}
 use Rattle.plan.proofs.Laws.Lists.{both-intro, both-left, both-right}

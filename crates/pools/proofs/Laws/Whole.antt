@@ -5,7 +5,7 @@
 --   counts-small   == the round and the counts are small
 --   run-trace      == a run ends in such a state: T1 rounds are enough
 use Prim.Native.Nat.{ℕ, zero, suc, _+_, _*_, _≤_, _<_}
-use mathlib.Core.Path.{_≡_, refl, ap, sym, _∙_}
+use mathlib.Core.Path.{_≡_, refl, ap}
 use mathlib.Core.Bool.{Bool, true, false}
 use mathlib.Core.List.{List}
 use native.Mathlib.Nat.{le-refl, mul-le-mul}
@@ -16,7 +16,7 @@ use Rattle.plan.proofs.Laws.Spawning.{cost-in-range}
 use Rattle.plan_measure.specs.Measure.{work}
 use Rattle.plan_measure.proofs.Laws.Work.{work-range}
 use Rattle.courses.proofs.Laws.Pool.{terms}
-use Rattle.courses.proofs.Laws.Worked.{price, turns-most, course-most}
+use Rattle.courses.proofs.Laws.Worked.{turns-most, course-most}
 use Rattle.courses.proofs.Laws.Price.{price-work}
 use Rattle.runs.specs.declared.worker.Worker.{Worker}
 use Rattle.pools.specs.State.{State, nextOf, start}
@@ -24,9 +24,9 @@ use Rattle.pools.specs.Take.{takes}
 use Rattle.pools.specs.Turn.{turns}
 use Rattle.pools.specs.Run.{ended, round, rounds, pool}
 use Rattle.pools.specs.Trace as Trace
-use Rattle.pools.specs.Trace.{Stage, taking, turning, Trace}
+use Rattle.pools.specs.Trace.{taking, turning, Trace}
 use Rattle.pools.proofs.Laws.Coursed.{Fit, trace-course, taking-goes}
-use Rattle.pools.proofs.Laws.Tallies.{Counted, trace-counted, numbered-late}
+use Rattle.pools.proofs.Laws.Tallies.{trace-counted, numbered-late}
 
 abbrev pub Finished : Plan → ℕ → State → Type 0
 Finished p n s = (r : ℕ) × (b : List Worker) × Trace p n r b (turning n) s × (ended p s ≡ true) × (s .tally .rounds ≡ r)

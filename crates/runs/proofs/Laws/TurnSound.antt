@@ -6,11 +6,11 @@
 use Prim.Native.Nat.{ℕ, zero, suc, _≤_, _<_}
 use mathlib.Core.Path.{_≡_, refl, ap, sym, _∙_}
 use mathlib.Core.Logic.{inl, inr, _≢_, by-cases}
-use mathlib.Core.Bool.{Bool, true, false, not}
+use mathlib.Core.Bool.{Bool, true, false}
 use mathlib.Core.List.{List, [], _∷_, cons-ne-nil}
 use native.Mathlib.Omega.{arith}
 use native.Mathlib.Decide.{ℕ-discrete}
-use lib.Dec.{T, ltb, ltb→lt, lt→ltb, T-not, not-T}
+use lib.Dec.{T, ltb, ltb→lt, lt→ltb}
 use lib.ListN.{length, getD, length-set}
 use lib.Seq.{getD-set-same, getD-set-other}
 use Rattle.runs.specs.declared.worker.Worker.{Worker}
@@ -19,15 +19,14 @@ use Rattle.plan.specs.Test.{both}
 use Rattle.plan.specs.Plan.{Plan, size, action, parent}
 use Rattle.runs.specs.State.{State, nextOf, workerOf, dequeOf, spentOf}
 use Rattle.courses.specs.Ready.{ready}
-use Rattle.runs.specs.Turn.{wakes, woken, Seat, takeBottom, seatAfter, turn, idled, turnOf, worked, finished}
+use Rattle.runs.specs.Turn.{wakes, woken, Seat, takeBottom, seatAfter, idled, turnOf, worked, finished}
 use Rattle.runs.specs.Parts.{afterOf, aboveOf}
 use Rattle.lines.proofs.Laws.Shape.{Living, Ready, Chain}
 use Rattle.lines.proofs.Laws.Member.{put}
-use Rattle.lines.proofs.Laws.Act.{Goes, goes?, Wakes, wakes?, Act, wakes-iff, stalled, sender}
+use Rattle.lines.proofs.Laws.Act.{Goes, goes?, Wakes, wakes?, Act, stalled}
 use Rattle.lines.proofs.Laws.Turn.{turnLine, turn-spawn, turn-none, turn-good}
 use Rattle.plan.proofs.Laws.Lists.{both-intro, both-left, both-right}
 use Rattle.plan.specs.Rules.{Accepted}
-use Rattle.plan.proofs.Laws.Valid.{older, join-target}
 use Rattle.courses.proofs.Laws.PlanShape.{shape, shape-valid, ready-is, ready-by}
 use Rattle.runs.proofs.Laws.Lined.{lineIn, lineOf, Sound, line-of, held-in, held-below, line-stored, line-other}
 use Rattle.runs.proofs.Laws.Turns.{turn-cases}

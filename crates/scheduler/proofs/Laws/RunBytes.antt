@@ -15,7 +15,7 @@ use lib.ListN.{length, getD, drop}
 use lib.Dec.{T}
 use Rattle.fields.specs.Field.{pack}
 use Rattle.plan.specs.Plan.{Plan, size, total}
-use Rattle.plan.specs.Rules.{Accepted, costsFit}
+use Rattle.plan.specs.Rules.{costsFit}
 use Rattle.plan.proofs.Laws.Placed.{locate}
 use Rattle.plan.proofs.Laws.Valid.{total-range}
 use Rattle.courses.specs.Row.{Row, noRow}

@@ -4,18 +4,17 @@
 --   send-still                        == it wakes no parent
 --   send-pushing, send-wakes          == it does: the parent goes on the deque
 use Prim.Native.Nat.{ℕ, _<_}
-use mathlib.Core.Path.{_≡_, refl, sym, _∙_}
+use mathlib.Core.Path.{_≡_, sym, _∙_}
 use mathlib.Core.Bool.{Bool, true, false}
 use mathlib.Core.List.{List, []}
 use native.Mathlib.Omega.{arith}
 use lib.Dec.{T}
-use lib.ListN.{length, getD}
 use lib.Seq.{set-getD}
 use Rattle.plan.specs.Plan.{Plan, parent}
 use Rattle.plan.specs.Rules.{Accepted}
 use Rattle.plan.specs.Sheet.{parentOf}
 use Rattle.plan.proofs.Laws.Lists.{of-true}
-use Rattle.plan.proofs.Laws.Valid.{jobs-range, older, join-target}
+use Rattle.plan.proofs.Laws.Valid.{older}
 use Rattle.lines.proofs.Laws.Act.{sender}
 use Rattle.courses.proofs.Laws.PlanShape.{shape-valid}
 use Rattle.runs.specs.State.{State, nextOf, dequeOf}

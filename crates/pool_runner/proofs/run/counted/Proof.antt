@@ -3,7 +3,6 @@ use Prim.Native.Nat.{_*_, _≤_}
 use mathlib.Core.Path.{refl}
 use native.Mathlib.Nat.{mul-le-mul}
 use native.Mathlib.Omega.{arith}
-use Rattle.pool_runner.specs.Rounds.{tallyOf}
 use borrow.Author.Needs.{needs}
 use Rattle.pool_runner.proofs.run.counted.Statement.{statement}
 use Rattle.pool_runner.proofs.run.counted.Tie as tie

@@ -1,5 +1,5 @@
 -- `turn::rounds_of` meets its contract.
-use mathlib.Core.Path.{_≡_, sym, ap, _∙_}
+use mathlib.Core.Path.{sym, ap, _∙_}
 use Rattle.runs.specs.declared.worker.Worker.the-variants.{Holding}
 use Rattle.pool_turns.specs.Moments.{costOf}
 use borrow.Author.Needs.{needs}
