@@ -2,7 +2,8 @@
 --   State           == the next position of each job and how many rounds were spent on the action there (L5), the workers, the rows in plan
 --                      order, the tally. A worker holds a job or is idle: in a pool none ever waits with a request
 --   unheld ws j     == nobody of the workers ws holds job j
---   inPool p next ws j == job j is in the pool, where next gives how many actions of each job are done, and the workers are ws: "Ready and stalled jobs that nobody holds wait in one pool."
+--   inPool p next ws j == job j is in the pool, where next gives how many actions of each job are done, and the workers are ws: "Ready and
+--                      stalled jobs that nobody holds wait in one pool."
 --   lone p next q   == job q "has no living child"
 --   start p         == how a run begins: job 0 is in the pool and every worker is idle, and every count is 0 but the peak
 use Prim.Native.Nat.{ℕ}
