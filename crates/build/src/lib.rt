@@ -1,4 +1,5 @@
 // What `buildrun` does with its input (document 01, "Cases"): P, the choice count, the choices, and the plan behind them.
+#![tactic(auto)]
 ghost use Rattle.std.specs.Prelude.{◌≡◌};
 ghost use Rattle.plan.specs.Contract.{Some, ◌⇒◌, before};
 ghost use Rattle.build.specs.Build.{ran_with, build_of, built_of, Claimed};
@@ -12,7 +13,7 @@ use plan_measure::measure_read;
 use scheduler::run::{Ran, run_read};
 
 // The twelve counts that are printed.
-#[derive(Drop)]
+#[derive(Clone, Copy)]
 pub struct Counts {
     pub rounds: u32,
     pub actions: u32,
@@ -28,7 +29,7 @@ pub struct Counts {
     pub idle_victim: u32,
 }
 
-#[derive(Drop)]
+#[derive(Clone, Copy)]
 pub enum Built {
     Refused(Refusal),
     Counted(Counts),

@@ -1,5 +1,6 @@
 // Reads P, the choice count, the choices and a plan from standard input, runs the plan, and prints the counts of the run, or
 // the number of the refusal (document 01, "Cases"). The work is `build::build`.
+#![tactic(auto)]
 use build::{Built, Counts, build};
 use numbers::units8;
 

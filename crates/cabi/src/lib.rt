@@ -1,5 +1,6 @@
 // The library for C and Rust (include/dorewhanga.h). Each function hands its input on to the entry of its name and gives the
 // answer as plain numbers: the refusal's number first, 0 for none, then what was asked for, or 0s.
+#![tactic(auto)]
 ghost use Rattle.std.specs.Prelude.{◌≡◌};
 ghost use Rattle.plan.specs.Refusal.{number_of};
 ghost use Rattle.plan_measure.specs.Measure.{measures};
@@ -25,14 +26,14 @@ use pool_runner::entry::pool;
 use scheduler::run::{Ran, run};
 
 #[repr(C)]
-#[derive(Drop)]
+#[derive(Clone, Copy)]
 pub struct DwCount {
     pub refused: u32,
     pub count: u32,
 }
 
 #[repr(C)]
-#[derive(Drop)]
+#[derive(Clone, Copy)]
 pub struct DwMeasures {
     pub refused: u32,
     pub total: u32,
@@ -44,7 +45,7 @@ pub struct DwMeasures {
 }
 
 #[repr(C)]
-#[derive(Drop)]
+#[derive(Clone, Copy)]
 pub struct DwTally {
     pub refused: u32,
     pub rounds: u32,

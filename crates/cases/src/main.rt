@@ -3,6 +3,7 @@
 // the list is a kind, the name of a file of data/, for a table the form that it is to be closed in, for a room two numbers, for a
 // pair the frame, for a pool the worker count, and for `into1`, `into2`, a pair and a pool the room, where not the whole buffer is
 // lent. Files, list and answers are written by tools/cases.rs.
+#![tactic(auto)]
 mod builds;
 mod forms;
 mod pairs;

@@ -1,5 +1,6 @@
 // The checker (document 01, "Schedule"): whether a schedule's bytes are well formed for a plan and keep the rules of a run.
 // It relies on what the crates below promise, and cites their laws only.
+#![tactic(auto)]
 ghost use Rattle.std.specs.Prelude.{◌≡◌};
 ghost use Rattle.courses.specs.Schedule.{checked};
 ghost use Rattle.checker.specs.Answer.{judged_of};
@@ -17,7 +18,7 @@ mod rows;
 mod rules;
 mod senders;
 
-#[derive(Drop)]
+#[derive(Clone, Copy)]
 pub enum Judged {
     Refused(Refusal),
     Accepted,

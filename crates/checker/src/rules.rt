@@ -15,7 +15,7 @@ use plan::sheet::{Sheet, cost_at, first_of, parent_of, spawn_of};
 
 // Where the walk over the actions stands: the job, the place where its actions end, and the round that the span of the action at
 // hand must begin after, where that is of the job: the last round of the action before it there, or of the job's spawn, or 0.
-#[derive(Drop)]
+#[derive(Clone, Copy)]
 struct Standing {
     job: usize,
     end: usize,

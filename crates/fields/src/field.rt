@@ -8,14 +8,14 @@ ghost use Rattle.fields.specs.Sink.{Sound, Room, Put, Done};
 use numbers::long8;
 
 // A field and the next place, or that the bits ran out.
-#[derive(Drop)]
+#[derive(Clone, Copy)]
 pub enum Field {
     RanOut,
     Cut { value: u32, next: usize },
 }
 
 // The four bytes from some byte on as one number, with zeros for those behind the end, and how many of their bits are there.
-#[derive(Drop)]
+#[derive(Clone, Copy)]
 pub struct Window {
     pub bits: u64,
     pub held: usize,
@@ -107,7 +107,7 @@ pub fn cut(s: &[u8], at: usize, width: usize) -> Field
 }
 
 // What is written of a row of fields: the whole bytes, and the bits that do not fill one yet, at the top of 32.
-#[derive(Drop)]
+#[derive(Clone, Copy)]
 pub struct Sink {
     pub bytes: usize,
     pub held: u64,

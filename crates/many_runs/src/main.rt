@@ -1,10 +1,11 @@
 // Runs the inputs of `buildrun` that standard input holds and compares what comes of each with the answer beside it, which a
 // second runner gave (compare/src/bin/runs.rs). An input is its length in two bytes, high first, and its bytes; an answer is a
 // refusal's number or 0, and the twelve counts in four bytes each, in the order in which `buildrun` prints them.
+#![tactic(auto)]
 use build::{Built, Counts, build};
 use numbers::{units8, wide8};
 
-#[derive(Drop)]
+#[derive(Clone, Copy)]
 enum Came {
     End,
     Same,

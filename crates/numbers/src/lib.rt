@@ -1,5 +1,7 @@
 // Numbers from one width to another, once for each pair of types, and the larger of two. `as` stands in a function of its own where
 // the prover is to be told that an element of an array is below the end of its type.
+#![tactic(auto)]
+
 ghost use Rattle.std.specs.Prelude.{◌≡◌, ◌<◌, max};
 
 // As an index.

@@ -12,7 +12,7 @@ use crate::sheet::{Sheet, set_action};
 use fields::field::{Field, Window, cut_in, window_at};
 
 // Where reading goes on.
-#[derive(Drop)]
+#[derive(Clone, Copy)]
 pub enum Progress {
     Refused(Refusal),
     At(usize),

@@ -14,7 +14,7 @@ use crate::sheet::{Sheet, set_first, set_frame};
 use fields::field::{Field, cut};
 
 // What reading answers: the plan's form and counts, or why there is none.
-#[derive(Drop)]
+#[derive(Clone, Copy)]
 pub enum Found {
     Refused(Refusal),
     Plan {
@@ -25,14 +25,14 @@ pub enum Found {
 }
 
 // A count of actions, and where reading goes on: of a job, where its actions begin, and of all jobs so far, where the last one ends.
-#[derive(Drop)]
+#[derive(Clone, Copy)]
 pub enum Header {
     Refused(Refusal),
     Is { size: usize, next: usize },
 }
 
 // The form, the job count, the action count, and where the fill bits begin.
-#[derive(Drop)]
+#[derive(Clone, Copy)]
 pub enum Body {
     Refused(Refusal),
     Is {

@@ -1,4 +1,5 @@
 // Plan bytes turned into the other form (document 02, L6).
+#![tactic(auto)]
 ghost use Rattle.std.specs.Prelude.{◌≡◌};
 ghost use Rattle.plan.specs.Contract.{Some, ◌⇒◌, before, after};
 ghost use Rattle.plan.specs.Rules.{costs_fit};

@@ -1,4 +1,5 @@
 // The measures of a plan (document 01, "Plan"; document 02, L5 and L7): its number of actions, T1, T∞, S1, and T1 divided by T∞.
+#![tactic(auto)]
 ghost use Rattle.std.specs.Prelude.{suc, ◌≡◌, length};
 ghost use Rattle.plan.specs.Contract.{Some, ◌⇒◌, before, after};
 ghost use Rattle.plan.specs.Sheet.{target_at, PlanIn};
@@ -12,7 +13,7 @@ use plan::refusal::Refusal;
 use plan::sheet::{PLACES, Sheet, child_at, cost_at, first_of, frame_of, parent_of, target_at};
 
 // The number of actions, T1, T∞, S1, and T1 divided by T∞: the quotient and what remains.
-#[derive(Drop)]
+#[derive(Clone, Copy)]
 pub struct Measures {
     pub total: u32,
     pub work: u32,
@@ -22,7 +23,7 @@ pub struct Measures {
     pub rest: u32,
 }
 
-#[derive(Drop)]
+#[derive(Clone, Copy)]
 pub enum Measured {
     Refused(Refusal),
     Of(Measures),

@@ -1,4 +1,6 @@
 // The open table (document 01, "Plan"; document 02, L5): a plan's bytes into a table, and a table into a plan's bytes.
+#![tactic(auto)]
+
 ghost use Rattle.std.specs.Prelude.{◌≡◌};
 ghost use Rattle.plan.specs.Contract.{Some, ◌⇒◌, before, after};
 ghost use Rattle.plan_writer.specs.Written.{encoded, answer_of};

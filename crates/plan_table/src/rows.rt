@@ -85,7 +85,7 @@ pub fn table_rules(table: &[u16]) -> bool
 }
 
 // How many jobs the first rows of a table hold.
-#[derive(Drop)]
+#[derive(Clone, Copy)]
 pub enum Jobs {
     Refused(Refusal),
     Count(usize),

@@ -1,4 +1,6 @@
 // Writing plan bytes from a plan that was read, taken over or put together (document 01, "Plan"; document 02, L5).
+#![tactic(auto)]
+
 ghost use Rattle.std.specs.Prelude.{◌≡◌, ℕ, ◌^◌, ◌≤◌, ◌<◌, ◌++◌, length, drop};
 ghost use Rattle.fields.specs.Field.{bits_of, number};
 ghost use Rattle.fields.specs.Sink.{Sound, Room, Put};
@@ -15,7 +17,7 @@ use plan::refusal::Refusal;
 use plan::sheet::{Sheet, child_at, cost_at, first_of, frame_of, job_at, target_at};
 
 // The number of units written, rows of a table or bytes of a plan, or why nothing was.
-#[derive(Drop)]
+#[derive(Clone, Copy)]
 pub enum Answer {
     Refused(Refusal),
     Count(usize),

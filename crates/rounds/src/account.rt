@@ -13,7 +13,7 @@ use runs::tally::Tally;
 use runs::worker::Worker;
 use turns::count::{acted, idled, no_counts, with_miss, with_request, with_steal};
 
-#[derive(Drop)]
+#[derive(Clone, Copy)]
 pub struct Account {
     pub weight: u32,
     pub holders: u32,

@@ -26,7 +26,7 @@ pub fn lay(account: Account, w: usize, v: usize, lines: &mut Lines) -> Account
 }
 
 // What a service leaves: the worker that was served, what was taken for it, and the account.
-#[derive(Drop)]
+#[derive(Clone, Copy)]
 pub struct Served {
     pub who: usize,
     pub taken: Taken,

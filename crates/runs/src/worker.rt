@@ -1,5 +1,5 @@
 // A worker (document 01, "Worker and round"): it holds a job, waits with a request on a named victim, or is idle.
-#[derive(Drop)]
+#[derive(Clone, Copy)]
 pub enum Worker {
     Idle,
     Holding(u8),

@@ -16,7 +16,7 @@ use rounds::run::run_rounds;
 use runs::tally::Tally;
 
 // The counts of a run, or why there was none.
-#[derive(Drop)]
+#[derive(Clone, Copy)]
 pub enum Ran {
     Refused(Refusal),
     Done(Tally),

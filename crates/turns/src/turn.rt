@@ -11,7 +11,7 @@ use plan::sheet::{Sheet, child_at, first_of, frame_of, parent_of};
 use runs::worker::Worker;
 
 // What a turn leaves of the worker, and the weight of the living frames after it.
-#[derive(Drop)]
+#[derive(Clone, Copy)]
 pub struct Turned {
     pub worker: Worker,
     pub weight: u32,
