@@ -11,7 +11,7 @@ use native.Mathlib.Omega.{arith}
 use lib.ListN.{length, take, drop, length-append}
 use lib.Seq.{length-take-le, drop-drop}
 use Rattle.fields.specs.declared.field.Sink.{Sink}
-use Rattle.fields.specs.Field.{bits_of, bits}
+use Rattle.fields.specs.Field.{bits_of}
 use Rattle.fields.specs.Sink.{sink_bits, Sound, Put}
 use Rattle.fields.proofs.Laws.Bits.{bits_of_length, bits_length}
 
