@@ -1,7 +1,7 @@
 // What `buildrun` does with its input (document 01, "Cases"): P, the choice count, the choices, and the plan behind them.
 #![tactic(auto)]
 ghost use Rattle.std.specs.Prelude.{◌≡◌};
-ghost use Rattle.plan.specs.Contract.{Some, ◌⇒◌, before};
+ghost use Rattle.plan.specs.Contract.{Some, ◌⇒◌};
 ghost use Rattle.build.specs.Build.{ran_with, build_of, built_of, Claimed};
 ghost use Rattle.build.specs.Parts.{BuildIn, BuiltFrom};
 
@@ -46,7 +46,7 @@ fn build_read(
     entering: &[u8; 2048],
 ) -> Built
     requires { Some (BuildIn form jobs actions plan.now entering.now) }
-    ensures { BuildIn form jobs actions (before plan) (before entering) ⇒ BuiltFrom form workers (before choices) result }
+    ensures { BuildIn form jobs actions plan.now entering.now ⇒ BuiltFrom form workers choices.now result }
 {
     let mut schedule = [0u8; 5124];
     match run_read(
@@ -81,7 +81,7 @@ fn build_read(
 
 // Reads the plan, runs it and measures it.
 fn build_plan(workers: u32, choices: &[u8], plan: &[u8]) -> Built
-    ensures { built_of result ≡ ran_with (before plan) workers (before choices) }
+    ensures { built_of result ≡ ran_with plan.now workers choices.now }
 {
     let mut sheet = [0u16; PLACES];
     let mut entering = [0u8; 2048];

@@ -1,7 +1,6 @@
 // The buckets that the rows of a schedule lie in, by the block of rounds that a row's last round is of and by its worker, each row
 // in the chain of its bucket, and whether two rows clash.
 ghost use Rattle.std.specs.Prelude.{◌-◌, ◌≤◌, ◌<◌, ◌≡◌, length};
-ghost use Rattle.plan.specs.Contract.{before, after};
 ghost use Rattle.checker.specs.Chains.{entry, Entered};
 ghost use Rattle.checker.specs.Buckets.{more_of, bucket_of, Met};
 
@@ -28,7 +27,7 @@ pub fn bucket_of(block: usize, worker: usize, stride: usize) -> usize
 // The latest row of the bucket of a block and a worker, as its place plus 1, or 0.
 pub fn latest_in(last: &[u16; 4096], block: usize, worker: usize, stride: usize) -> usize
     requires { (block < 4294967296) × (worker < 16) × (stride ≤ 4096) }
-    ensures { result ≡ entry (before last) (bucket_of stride block worker) }
+    ensures { result ≡ entry last.now (bucket_of stride block worker) }
 {
     wide16(last[bucket_of(block, worker, stride)])
 }
@@ -36,7 +35,7 @@ pub fn latest_in(last: &[u16; 4096], block: usize, worker: usize, stride: usize)
 // The place before another in its chain, each as a place plus 1, or 0.
 pub fn back_from(earlier: &[u16; 2048], at: usize) -> usize
     requires { (1 ≤ at) × (at ≤ 2048) }
-    ensures { result ≡ entry (before earlier) (at - 1) }
+    ensures { result ≡ entry earlier.now (at - 1) }
 {
     wide16(earlier[at - 1])
 }
@@ -44,7 +43,7 @@ pub fn back_from(earlier: &[u16; 2048], at: usize) -> usize
 // Row k comes first in the chain of its bucket.
 pub fn enter(k: usize, bucket: usize, last: &mut [u16; 4096], earlier: &mut [u16; 2048])
     requires { (k < 2048) × (bucket < 4096) × (length last.old ≡ 4096) × (length earlier.old ≡ 2048) }
-    ensures { Entered k bucket (before last) (before earlier) (after last) (after earlier) }
+    ensures { Entered k bucket last.old earlier.old last.new earlier.new }
 {
     earlier[k] = last[bucket];
     last[bucket] = (k + 1) as u16;
@@ -53,7 +52,7 @@ pub fn enter(k: usize, bucket: usize, last: &mut [u16; 4096], earlier: &mut [u16
 // Whether row i clashes with another, which is given with its first round: they are of one worker and have a round in common.
 pub fn meets(rows: &Rows, i: usize, first: usize, row: usize, plan: &Sheet) -> bool
     requires { (i < 2048) × (row < 4294967296) }
-    ensures { Met (before rows) (before plan) i first row result }
+    ensures { Met rows.now plan.now i first row result }
 {
     let other = row_of(rows, i);
     if other % 16 != row % 16 {

@@ -1,6 +1,5 @@
 // The rounds that the rows seen so far take, in sets: of each bucket the 16 rounds of a block as bits, the first lowest.
 ghost use Rattle.std.specs.Prelude.{◌+◌, ◌/◌, ◌%◌, ◌≤◌, ◌<◌, ◌≡◌, length};
-ghost use Rattle.plan.specs.Contract.{before, after};
 ghost use Rattle.checker.specs.Rows.{span_from};
 ghost use Rattle.checker.specs.Busy.{Put, Taken};
 
@@ -10,7 +9,7 @@ use numbers::units16;
 // Puts rounds of a block into the set of a bucket: whether none of them was there.
 fn put(busy: &mut [u16; 4096], bucket: usize, rounds: u32) -> bool
     requires { (bucket < 4096) × (rounds < 65536) × (length busy.old ≡ 4096) }
-    ensures { Put bucket rounds (before busy) (after busy) result }
+    ensures { Put bucket rounds busy.old busy.new result }
 {
     let there = units16(busy[bucket]);
     busy[bucket] = (there | rounds) as u16;
@@ -22,7 +21,7 @@ fn put(busy: &mut [u16; 4096], bucket: usize, rounds: u32) -> bool
 // form 1, sets would save nothing, and none are kept.
 pub fn take(more: usize, first: usize, row: usize, stride: usize, busy: &mut [u16; 4096]) -> bool
     requires { (first ≤ row / 16) × (row / 16 < first + 16) × (row < 4294967296) × (stride ≤ 4096) × (length busy.old ≡ 4096) }
-    ensures { Taken more stride (span_from first row) (before busy) (after busy) result }
+    ensures { Taken more stride (span_from first row) busy.old busy.new result }
 {
     if more == 0 {
         return false;

@@ -1,7 +1,6 @@
 // The form of a schedule's bytes (document 01, "Schedule"; document 02, L5): "Form 8 bits .., workers 5, actions 12, 7 zero bits;
 // then per action, in plan order, round 12 bits .. and worker 4"; in form 2 a round has 16 bits, and zero bits fill the last byte.
 ghost use Rattle.std.specs.Prelude.{◌≡◌, ◌+◌, ◌*◌, ◌≤◌, ◌<◌, length};
-ghost use Rattle.plan.specs.Contract.{before, after};
 ghost use Rattle.courses.specs.Schedule.{round_bits};
 ghost use Rattle.checker.specs.Rows.{pair, word};
 ghost use Rattle.checker.specs.Formed.{Formed, Headed, WordsTold};
@@ -14,7 +13,7 @@ use plan::reader::filled;
 // The worker count of a header of a form for so many actions, or 0 where the header is not well formed: a worker count of 0 is
 // not.
 fn header(form: u32, schedule: &[u8], actions: usize) -> usize
-    ensures { Headed form (before schedule) actions result }
+    ensures { Headed form schedule.now actions result }
 {
     let Field::Cut {
         value: written,
@@ -66,7 +65,7 @@ fn row_width(form: u32) -> usize
 // The two bytes of row k, where each row has two.
 fn bytes_at(schedule: &[u8], k: usize) -> u32
     requires { 5 + 2 * k < length schedule.now }
-    ensures { (result ≡ pair (before schedule) k) × (result < 65536) }
+    ensures { (result ≡ pair schedule.now k) × (result < 65536) }
 {
     units8(schedule[4 + 2 * k]) * 256 + units8(schedule[5 + 2 * k])
 }
@@ -74,7 +73,7 @@ fn bytes_at(schedule: &[u8], k: usize) -> u32
 // The bits of row k, which are there, as one number.
 fn row_at(width: usize, schedule: &[u8], k: usize) -> u32
     requires { (width ≤ 20) × (k ≤ 2048) × (32 + width * k + width ≤ 8 * length schedule.now) }
-    ensures { result ≡ word width (before schedule) k }
+    ensures { result ≡ word width schedule.now k }
 {
     if width == 16 {
         return bytes_at(schedule, k);
@@ -88,7 +87,7 @@ fn row_at(width: usize, schedule: &[u8], k: usize) -> u32
 // Reads the rows, unless one has a round of 0.
 fn read_rows(width: usize, schedule: &[u8], actions: usize, rows: &mut Rows) -> bool
     requires { (width ≤ 20) × (actions ≤ 2048) × (32 + width * actions ≤ 8 * length schedule.now) × (length rows.old ≡ 2048) }
-    ensures { WordsTold width (before schedule) actions (after rows) result }
+    ensures { WordsTold width schedule.now actions rows.new result }
 {
     let mut k = 0;
     while k < actions {
@@ -105,7 +104,7 @@ fn read_rows(width: usize, schedule: &[u8], actions: usize, rows: &mut Rows) -> 
 // Reads the schedule's rows and tells its worker count where it is well formed for a plan of that form with so many actions, or 0.
 pub fn read_schedule(form: u32, schedule: &[u8], actions: usize, rows: &mut Rows) -> usize
     requires { (actions ≤ 2048) × (length rows.old ≡ 2048) }
-    ensures { Formed form (before schedule) actions result (after rows) }
+    ensures { Formed form schedule.now actions result rows.new }
 {
     let width = row_width(form);
     if schedule.len() != 4 + (width * actions + 7) / 8 {

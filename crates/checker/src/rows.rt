@@ -1,6 +1,5 @@
 // The rows of a schedule, each as one number: 16 times its round, and its worker (document 01, "Schedule").
 ghost use Rattle.std.specs.Prelude.{◌<◌, ◌≡◌};
-ghost use Rattle.plan.specs.Contract.{before};
 ghost use Rattle.checker.specs.Chains.{entry};
 
 use numbers::wide32;
@@ -10,7 +9,7 @@ pub type Rows = [u32; 2048];
 // Row k.
 pub fn row_of(rows: &Rows, k: usize) -> usize
     requires { k < 2048 }
-    ensures { (result ≡ entry (before rows) k) × (result < 4294967296) }
+    ensures { (result ≡ entry rows.now k) × (result < 4294967296) }
 {
     wide32(rows[k])
 }

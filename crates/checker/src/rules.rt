@@ -1,6 +1,6 @@
 // The rules of a schedule, over its rows and the plan's array (document 01, "Schedule"; document 02, L5).
 ghost use Rattle.std.specs.Prelude.{◌<◌, ◌≡◌};
-ghost use Rattle.plan.specs.Contract.{Some, ◌⇒◌, before};
+ghost use Rattle.plan.specs.Contract.{Some, ◌⇒◌};
 ghost use Rattle.courses.specs.Schedule.{keeps};
 ghost use Rattle.checker.specs.Given.{SpawnGiven, StandGiven, RulesGiven};
 ghost use Rattle.checker.specs.Rows.{span_at};
@@ -25,8 +25,8 @@ struct Standing {
 // The last round of the action that spawns job j, which is not job 0.
 fn spawn_round(rows: &Rows, j: usize, plan: &Sheet) -> usize
     requires { Some (SpawnGiven j rows.now plan.now) }
-    ensures { SpawnGiven j (before rows) (before plan)
-        ⇒ (λ t. result ≡ spawn_round t.plan (span_at (before rows) (before plan)) j) }
+    ensures { SpawnGiven j rows.now plan.now
+        ⇒ (λ t. result ≡ spawn_round t.plan (span_at rows.now plan.now) j) }
 {
     let spawn = first_of(plan, parent_of(plan, j)) + (spawn_of(plan, j) - 1);
     row_of(rows, spawn) / 16
@@ -35,8 +35,8 @@ fn spawn_round(rows: &Rows, j: usize, plan: &Sheet) -> usize
 // Where the walk stands at action k: in the job where it stood, or, past the end of that, at the beginning of the next.
 fn stand(rows: &Rows, k: usize, s: Standing, plan: &Sheet) -> Standing
     requires { Some (StandGiven k s rows.now plan.now) }
-    ensures { StandGiven k s (before rows) (before plan)
-        ⇒ (λ t. (k < result.end) × Stood t.plan (span_at (before rows) (before plan)) k result) }
+    ensures { StandGiven k s rows.now plan.now
+        ⇒ (λ t. (k < result.end) × Stood t.plan (span_at rows.now plan.now) k result) }
 {
     if k < s.end {
         return s;
@@ -50,7 +50,7 @@ fn stand(rows: &Rows, k: usize, s: Standing, plan: &Sheet) -> Standing
 // The first round of the span of row k, or 0 where that would begin before round 1 or the worker is not below the worker count.
 fn first_round(rows: &Rows, k: usize, workers: usize, plan: &Sheet) -> usize
     requires { k < 2048 }
-    ensures { FirstTold (span_at (before rows) (before plan) k) workers result }
+    ensures { FirstTold (span_at rows.now plan.now k) workers result }
 {
     let row = row_of(rows, k);
     let cost = cost_at(plan, k);
@@ -75,7 +75,7 @@ fn first_round(rows: &Rows, k: usize, workers: usize, plan: &Sheet) -> usize
 // only where a set of `busy` has a round of the row: else it clashes with no row before it.
 pub fn rules_kept(form: u32, workers: usize, actions: usize, rows: &Rows, plan: &Sheet) -> bool
     requires { Some (RulesGiven form workers actions rows.now plan.now) }
-    ensures { RulesGiven form workers actions (before rows) (before plan) ⇒ (λ t. result ≡ keeps t.plan workers t.rows) }
+    ensures { RulesGiven form workers actions rows.now plan.now ⇒ (λ t. result ≡ keeps t.plan workers t.rows) }
 {
     let mut latest = [0u16; 2049];
     let mut prior = [0u16; 2048];

@@ -1,6 +1,6 @@
 // The senders of joins, lined up by the action that each sends its join to.
 ghost use Rattle.std.specs.Prelude.{◌≤◌, ◌≡◌};
-ghost use Rattle.plan.specs.Contract.{Some, before, after};
+ghost use Rattle.plan.specs.Contract.{Some};
 ghost use Rattle.checker.specs.Chains.{entry, Chains};
 ghost use Rattle.checker.specs.Senders.{line_of, Sending, Unlined};
 
@@ -11,7 +11,7 @@ use plan::sheet::{Sheet, first_of, job_at, parent_of, target_at};
 // index, and what is looked up there is not used, since job 0 sends no join.
 fn line_of(k: usize, plan: &Sheet) -> usize
     requires { Some (Sending k plan.now) }
-    ensures { (result ≡ line_of (before plan) k) × (result ≤ 2048) }
+    ensures { (result ≡ line_of plan.now k) × (result ≤ 2048) }
 {
     let first = first_of(plan, parent_of(plan, job_at(plan, k)) % 256);
     let sent = target_at(plan, k);
@@ -22,7 +22,7 @@ fn line_of(k: usize, plan: &Sheet) -> usize
 // before it, each as its place plus 1 or 0.
 pub fn line_up(actions: usize, plan: &Sheet, latest: &mut [u16; 2049], prior: &mut [u16; 2048])
     requires { Some (Unlined actions plan.now latest.old prior.old) }
-    ensures { Chains actions (line_of (before plan)) (entry (after latest)) (entry (after prior)) }
+    ensures { Chains actions (line_of plan.now) (entry latest.new) (entry prior.new) }
 {
     let mut k = 0;
     while k < actions {

@@ -1,7 +1,7 @@
 // The requests at each of sixteen victims in one array: from place 0 on a line for each, four bits a worker, the oldest request lowest;
 // from place 16 on how many stand in each. Any place of a line is read and taken out at once.
 ghost use Rattle.std.specs.Prelude.{◌≡◌, [], ◌∷◌, ◌++◌, ℕ, ◌+◌, ◌-◌, ◌<◌, get_or};
-ghost use Rattle.plan.specs.Contract.{Some, ◌⇒◌, before, after};
+ghost use Rattle.plan.specs.Contract.{Some, ◌⇒◌};
 ghost use Rattle.crew.specs.Line.{Lined, without, waiting_at, LiningUp, LinedUp, Leaving, Gone, Beside};
 
 pub type Lines = [u64; 32];
@@ -36,7 +36,7 @@ fn closed_up(line: u64, len: u64, i: u64) -> u64
 // How many requests wait at victim v.
 pub fn waiting_at(lines: &Lines, v: usize) -> u64
     requires { v < 16 }
-    ensures { result ≡ waiting_at (before lines) v }
+    ensures { result ≡ waiting_at lines.now v }
 {
     lines[LEN + v]
 }
@@ -44,7 +44,7 @@ pub fn waiting_at(lines: &Lines, v: usize) -> u64
 // Worker w's request goes behind the others at victim v.
 pub fn line_up(lines: &mut Lines, v: usize, w: usize)
     requires { Some (LiningUp v w lines.old) }
-    ensures { (LiningUp v w (before lines) ⇒ LinedUp v w (after lines)) × Beside v (before lines) (after lines) }
+    ensures { (LiningUp v w lines.old ⇒ LinedUp v w lines.new) × Beside v lines.old lines.new }
 {
     let len = waiting_at(lines, v);
     lines[v] = behind(lines[v], len, w);
@@ -54,7 +54,7 @@ pub fn line_up(lines: &mut Lines, v: usize, w: usize)
 // The request at place i of the line at victim v leaves it: its worker.
 pub fn leave_line(lines: &mut Lines, v: usize, i: u64) -> usize
     requires { Some (Leaving v i lines.old) }
-    ensures { (Leaving v i (before lines) ⇒ Gone v i result (after lines)) × Beside v (before lines) (after lines) }
+    ensures { (Leaving v i lines.old ⇒ Gone v i result lines.new) × Beside v lines.old lines.new }
 {
     let line = lines[v];
     let len = waiting_at(lines, v);

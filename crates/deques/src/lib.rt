@@ -2,7 +2,7 @@
 // jobs each has. A deque has its top job first and its bottom job last.
 #![tactic(auto)]
 ghost use Rattle.std.specs.Prelude.{◌≡◌, ◌+◌, ◌*◌, ◌<◌, set};
-ghost use Rattle.plan.specs.Contract.{Some, ◌⇒◌, before, after};
+ghost use Rattle.plan.specs.Contract.{Some, ◌⇒◌};
 ghost use Rattle.deques.specs.Dequed.{top_at, len_at, job_at, Dequed, Pushing, Pushed, TookBottom, TookTop};
 
 use numbers::wide8;
@@ -18,21 +18,21 @@ const LEN: usize = 4112;
 // Where deque w begins, how many jobs it has, and its job at place i.
 fn top_of(deques: &Deques, w: usize) -> usize
     requires { w < 16 }
-    ensures { (result ≡ top_at (before deques) w) × (result < 256) }
+    ensures { (result ≡ top_at deques.now w) × (result < 256) }
 {
     wide8(deques[TOP + w])
 }
 
 fn len_of(deques: &Deques, w: usize) -> usize
     requires { w < 16 }
-    ensures { (result ≡ len_at (before deques) w) × (result < 256) }
+    ensures { (result ≡ len_at deques.now w) × (result < 256) }
 {
     wide8(deques[LEN + w])
 }
 
 fn job_at(deques: &Deques, w: usize, i: usize) -> u8
     requires { (w < 16) × (i < 256) }
-    ensures { result ≡ job_at (before deques) w i }
+    ensures { result ≡ job_at deques.now w i }
 {
     deques[w * 256 + i]
 }
@@ -40,7 +40,7 @@ fn job_at(deques: &Deques, w: usize, i: usize) -> u8
 // Deque w begins at this place now.
 fn set_top(deques: &mut Deques, w: usize, at: usize)
     requires { (w < 16) × (at < 256) }
-    ensures { after deques ≡ set (before deques) (4096 + w) at }
+    ensures { deques.new ≡ set deques.old (4096 + w) at }
 {
     deques[TOP + w] = at as u8;
 }
@@ -48,7 +48,7 @@ fn set_top(deques: &mut Deques, w: usize, at: usize)
 // It has so many jobs now.
 fn set_len(deques: &mut Deques, w: usize, n: usize)
     requires { (w < 16) × (n < 256) }
-    ensures { after deques ≡ set (before deques) (4112 + w) n }
+    ensures { deques.new ≡ set deques.old (4112 + w) n }
 {
     deques[LEN + w] = n as u8;
 }
@@ -56,7 +56,7 @@ fn set_len(deques: &mut Deques, w: usize, n: usize)
 // Job j stands at its place i now.
 fn set_job(deques: &mut Deques, w: usize, i: usize, j: u8)
     requires { (w < 16) × (i < 256) }
-    ensures { after deques ≡ set (before deques) (w * 256 + i) j }
+    ensures { deques.new ≡ set deques.old (w * 256 + i) j }
 {
     deques[w * 256 + i] = j;
 }
@@ -65,7 +65,7 @@ fn set_job(deques: &mut Deques, w: usize, i: usize, j: u8)
 // is put on, so none stands at a place above its number, and the places never run out.
 pub fn push(deques: &mut Deques, w: usize, j: u8)
     requires { Some (Pushing w j deques.old) }
-    ensures { Pushing w j (before deques) ⇒ Pushed w j (after deques) }
+    ensures { Pushing w j deques.old ⇒ Pushed w j deques.new }
 {
     let n = len_of(deques, w);
     if n == 0 {
@@ -81,7 +81,7 @@ pub fn push(deques: &mut Deques, w: usize, j: u8)
 // Takes the bottom job of deque w: the worker that then holds it, or has none.
 pub fn take_bottom(deques: &mut Deques, w: usize) -> Worker
     requires { Some (Dequed deques.old) × (w < 16) }
-    ensures { Dequed (before deques) ⇒ TookBottom w result (after deques) }
+    ensures { Dequed deques.old ⇒ TookBottom w result deques.new }
 {
     let n = len_of(deques, w);
     if n == 0 {
@@ -95,7 +95,7 @@ pub fn take_bottom(deques: &mut Deques, w: usize) -> Worker
 // Takes the top of victim v's deque: its top job, or which of the two misses it is. `held` says whether the victim holds a job.
 pub fn take_top(deques: &mut Deques, v: usize, held: bool) -> Taken
     requires { Some (Dequed deques.old) × (v < 16) }
-    ensures { Dequed (before deques) ⇒ TookTop v held result (after deques) }
+    ensures { Dequed deques.old ⇒ TookTop v held result deques.new }
 {
     let n = len_of(deques, v);
     if n == 0 {

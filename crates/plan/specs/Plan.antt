@@ -8,7 +8,7 @@
 --   Placed       == an action with its job and position; placed p == all of them, in job then position order
 --   spawner p c  == the first action that spawns job c; parent p c and spawn_at p c == its job and position
 --   entering p q t == how many joins enter the action at position t of job q
-use Rattle.std.specs.Prelude.{ℕ, zero, suc, ◌+◌, Bool, true, false, List, [], ◌∷◌, ◌++◌, length, get_or, eqb, leb}
+use Rattle.std.specs.Prelude.{ℕ, suc, ◌+◌, Bool, true, false, List, [], ◌∷◌, ◌++◌, length, get_or, eqb, leb}
 use Rattle.plan.specs.Test.{both, count}
 
 pub record Action : Type 0 where

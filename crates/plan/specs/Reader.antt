@@ -11,7 +11,7 @@
 --   plan_at s           == "form 8 bits ..; jobs 9; then per job ..", up to its last action
 --   fills s at         == "Zero bits fill the last byte; nothing follows"
 --   read_plan s         == what the bytes s hold, or the refusal
-use Rattle.std.specs.Prelude.{ℕ, zero, suc, ◌+◌, ◌*◌, Bool, true, false, List, [], ◌∷◌, length, drop, eqb, leb, ltb}
+use Rattle.std.specs.Prelude.{ℕ, zero, suc, ◌+◌, ◌*◌, Bool, true, false, List, [], ◌∷◌, length, drop, eqb, ltb}
 use Rattle.plan.specs.Refusal.{Outcome, refused, accepted}
 use Rattle.plan.specs.Test.{both, either}
 use Rattle.plan.specs.Plan.{Action, Job, Plan}

@@ -4,9 +4,9 @@
 --   spawn_rules p == refusal 4 does not apply
 --   join_rules p  == refusal 5 does not apply
 --   Accepted p   == the plan is in range and keeps the spawn and the join rules; whether its costs fit a form is told apart
-use Rattle.std.specs.Prelude.{ℕ, zero, suc, ◌-◌, Bool, true, false, List, length, T, eqb, leb, ltb}
+use Rattle.std.specs.Prelude.{ℕ, zero, suc, ◌-◌, Bool, true, false, length, T, eqb, leb, ltb}
 use Rattle.plan.specs.Test.{both, either, all, count, below}
-use Rattle.plan.specs.Plan.{Action, Job, Plan, Placed, job, size, action, total, placed, parent, spawn_at, entering}
+use Rattle.plan.specs.Plan.{Action, Job, Plan, Placed, size, action, total, placed, parent, spawn_at, entering}
 
 -- document 02, L5: "a cost of 4 bits, 1 to 15"
 abbrev pub cost_in_range : Action → Bool

@@ -4,7 +4,7 @@ ghost use Rattle.std.specs.Prelude.{◌≡◌, ◌^◌, ◌≤◌, ◌<◌};
 ghost use Rattle.fields.specs.Field.{step_of};
 ghost use Rattle.fields.specs.FieldParts.{Windowed};
 ghost use Rattle.plan.specs.Reader.{number_at};
-ghost use Rattle.plan.specs.Contract.{◌⇒◌, before, after};
+ghost use Rattle.plan.specs.Contract.{◌⇒◌};
 ghost use Rattle.plan.specs.Action.{cost_field, ActionRead};
 
 use crate::refusal::Refusal;
@@ -50,7 +50,7 @@ fn cost_in(form: u32, w: Window, at: usize) -> Field
 // Reads the action at place `at`, as one of job j, into place k.
 pub fn read_action(s: &[u8], at: usize, form: u32, j: usize, k: usize, plan: &mut Sheet) -> Progress
     requires { (at < 2 ^ 17) × (j < 256) × (k < 2048) }
-    ensures { ActionRead form (before s) at j k (before plan) (after plan) result }
+    ensures { ActionRead form s.now at j k plan.old plan.new result }
 {
     let i = at / 8;
     let w = window_at(s, i);

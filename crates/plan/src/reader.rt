@@ -1,7 +1,6 @@
 // Reading plan bytes into a plan's array (document 01, "Plan" and "Turned down"; document 02, L5).
 ghost use Rattle.std.specs.Prelude.{◌≡◌, ◌+◌, ◌*◌, ◌^◌, ◌≤◌, ◌<◌, length};
 ghost use Rattle.plan.specs.Reader.{is_form, jobs_at, plan_at, fills};
-ghost use Rattle.plan.specs.Contract.{before, after};
 ghost use Rattle.plan.specs.Entering.{Unentered};
 ghost use Rattle.plan.specs.Sheet.{Blank};
 ghost use Rattle.plan.specs.Progress.{ActionsRead, HeaderRead, JobRead, formed, PlanRead};
@@ -54,7 +53,7 @@ fn read_actions(
     plan: &mut Sheet,
 ) -> Progress
     requires { (at + 22 * count < 2 ^ 17) × (j < 256) × (from + count ≤ 2048) }
-    ensures { ActionsRead form (before s) at j from count (before plan) (after plan) result }
+    ensures { ActionsRead form s.now at j from count plan.old plan.new result }
 {
     let mut place = at;
     let mut k = from;
@@ -76,7 +75,7 @@ fn read_actions(
 // Reads a job's frame and action count, where `earlier` actions came before it.
 fn read_header(s: &[u8], at: usize, j: usize, earlier: usize, plan: &mut Sheet) -> Header
     requires { (at < 2 ^ 16) × (j < 256) × (earlier ≤ 2048) }
-    ensures { HeaderRead (before s) at j earlier (before plan) (after plan) result }
+    ensures { HeaderRead s.now at j earlier plan.old plan.new result }
 {
     let Field::Cut {
         value: weight,
@@ -105,7 +104,7 @@ fn read_header(s: &[u8], at: usize, j: usize, earlier: usize, plan: &mut Sheet) 
 // Reads job j, and tells how many actions there are up to its end.
 fn read_job(s: &[u8], at: usize, form: u32, j: usize, earlier: usize, plan: &mut Sheet) -> Header
     requires { (at < 2 ^ 16) × (j < 256) × (earlier ≤ 2048) }
-    ensures { JobRead form (before s) at j earlier (before plan) (after plan) result }
+    ensures { JobRead form s.now at j earlier plan.old plan.new result }
 {
     match read_header(s, at, j, earlier, plan) {
         Header::Refused(cause) => Header::Refused(cause),
@@ -125,7 +124,7 @@ fn read_job(s: &[u8], at: usize, form: u32, j: usize, earlier: usize, plan: &mut
 // Reads all jobs.
 fn read_jobs(s: &[u8], at: usize, form: u32, jobs: usize, plan: &mut Sheet) -> Body
     requires { (at ≤ 17) × (jobs ≤ 256) }
-    ensures { PlanRead (formed form (jobs_at form (before s) jobs 0 at)) (before plan) (after plan) result }
+    ensures { PlanRead (formed form (jobs_at form s.now jobs 0 at)) plan.old plan.new result }
 {
     let mut place = at;
     let mut actions = 0;
@@ -162,7 +161,7 @@ pub fn is_form(form: u32) -> bool
 
 // Reads the form and the job count, and then the jobs.
 fn read_body(s: &[u8], plan: &mut Sheet) -> Body
-    ensures { PlanRead (plan_at (before s)) (before plan) (after plan) result }
+    ensures { PlanRead (plan_at s.now) plan.old plan.new result }
 {
     let Field::Cut {
         value: form,
@@ -190,7 +189,7 @@ fn read_body(s: &[u8], plan: &mut Sheet) -> Body
 // Zero bits fill the last byte, and nothing follows.
 pub fn filled(s: &[u8], at: usize) -> bool
     requires { (at < 2 ^ 16) × (at ≤ 8 * length s.now) }
-    ensures { result ≡ fills (before s) at }
+    ensures { result ≡ fills s.now at }
 {
     let fill = (8 - at % 8) % 8;
     let Field::Cut { value, next } = cut(s, at, fill) else {
@@ -206,7 +205,7 @@ pub fn filled(s: &[u8], at: usize) -> bool
 // then 6, 4, 5. `entering` then has how many joins enter each action.
 pub fn read_into(s: &[u8], plan: &mut Sheet, entering: &mut [u8; 2048]) -> Found
     requires { Blank plan.old × Unentered entering.old }
-    ensures { ReadInto (before s) result (after plan) (after entering) }
+    ensures { ReadInto s.now result plan.new entering.new }
 {
     match read_body(s, plan) {
         Body::Refused(cause) => Found::Refused(cause),

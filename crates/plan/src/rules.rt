@@ -1,6 +1,6 @@
 // The spawn rules and the join rules of a plan, over its array (document 01, "Plan").
 ghost use Rattle.std.specs.Prelude.{suc, ◌≤◌, ◌<◌, ◌≡◌, length, T};
-ghost use Rattle.plan.specs.Contract.{Some, ◌⇒◌, before, after};
+ghost use Rattle.plan.specs.Contract.{Some, ◌⇒◌};
 ghost use Rattle.plan.specs.Plan.{total};
 ghost use Rattle.plan.specs.Rules.{spawn_rules, join_rules};
 ghost use Rattle.plan.specs.Sheet.{child_at, target_at, LaidIn, SpawnedIn};
@@ -25,7 +25,7 @@ fn grown(count: usize, more: bool) -> usize
 // actions that branches on it would cost more than this list.
 fn note_spawns(actions: usize, plan: &Sheet, list: &mut [u16; 2048]) -> usize
     requires { (actions ≤ 2048) × (length list.old ≡ 2048) }
-    ensures { Listed (child_at (before plan)) actions result (after list) }
+    ensures { Listed (child_at plan.now) actions result list.new }
 {
     let mut count = 0;
     let mut k = 0;
@@ -40,7 +40,7 @@ fn note_spawns(actions: usize, plan: &Sheet, list: &mut [u16; 2048]) -> usize
 // Records the job that action k spawns, or tells that it may not spawn it.
 fn spawn_rule(jobs: usize, k: usize, plan: &mut Sheet) -> bool
     requires { Some (SpawnAt jobs k plan.old) }
-    ensures { SpawnAt jobs k (before plan) ⇒ SpawnTold (suc k) result (after plan) }
+    ensures { SpawnAt jobs k plan.old ⇒ SpawnTold (suc k) result plan.new }
 {
     let c = child_at(plan, k) - 1;
     if jobs <= c {
@@ -61,7 +61,7 @@ fn spawn_rule(jobs: usize, k: usize, plan: &mut Sheet) -> bool
 // No action breaks a rule of its own spawn.
 fn spawns_kept(jobs: usize, actions: usize, plan: &mut Sheet) -> bool
     requires { Some (LaidIn jobs actions plan.old) }
-    ensures { LaidIn jobs actions (before plan) ⇒ (λ p. SpawnTold (total p) result (after plan) p) }
+    ensures { LaidIn jobs actions plan.old ⇒ (λ p. SpawnTold (total p) result plan.new p) }
 {
     let mut list = [0u16; 2048];
     let count = note_spawns(actions, plan, &mut list);
@@ -78,7 +78,7 @@ fn spawns_kept(jobs: usize, actions: usize, plan: &mut Sheet) -> bool
 // Every job but 0 was spawned.
 fn all_spawned(jobs: usize, plan: &Sheet) -> bool
     requires { jobs ≤ 256 }
-    ensures { AllTold jobs (before plan) result }
+    ensures { AllTold jobs plan.now result }
 {
     let mut c = 1;
     while c < jobs {
@@ -94,8 +94,8 @@ fn all_spawned(jobs: usize, plan: &Sheet) -> bool
 // spawned it and where.
 pub fn spawn_rules(jobs: usize, actions: usize, plan: &mut Sheet) -> bool
     requires { Some (LaidIn jobs actions plan.old) }
-    ensures { LaidIn jobs actions (before plan)
-        ⇒ (λ p. (result ≡ spawn_rules p) × (T result → SpawnedIn jobs actions (after plan) p)) }
+    ensures { LaidIn jobs actions plan.old
+        ⇒ (λ p. (result ≡ spawn_rules p) × (T result → SpawnedIn jobs actions plan.new p)) }
 {
     if !spawns_kept(jobs, actions, plan) {
         return false;
@@ -106,7 +106,7 @@ pub fn spawn_rules(jobs: usize, actions: usize, plan: &mut Sheet) -> bool
 // Lists the actions that send a join, and says how many there are.
 fn note_joins(actions: usize, plan: &Sheet, list: &mut [u16; 2048]) -> usize
     requires { (actions ≤ 2048) × (length list.old ≡ 2048) }
-    ensures { Listed (target_at (before plan)) actions result (after list) }
+    ensures { Listed (target_at plan.now) actions result list.new }
 {
     let mut count = 0;
     let mut k = 0;
@@ -122,7 +122,7 @@ fn note_joins(actions: usize, plan: &Sheet, list: &mut [u16; 2048]) -> usize
 // 1, so that one is later than the other where its number is larger.
 fn join_rule(k: usize, plan: &Sheet, entering: &mut [u8; 2048]) -> bool
     requires { Some (JoinAt k plan.now entering.old) }
-    ensures { JoinAt k (before plan) (before entering) ⇒ JoinTold (suc k) result (after entering) }
+    ensures { JoinAt k plan.now entering.old ⇒ JoinTold (suc k) result entering.new }
 {
     let t = target_at(plan, k);
     let j = job_at(plan, k);
@@ -150,7 +150,7 @@ fn join_rule(k: usize, plan: &Sheet, entering: &mut [u8; 2048]) -> bool
 // No action breaks a rule of its own join.
 fn joins_kept(actions: usize, plan: &Sheet, entering: &mut [u8; 2048]) -> bool
     requires { Some (JoinsFrom actions plan.now entering.old) }
-    ensures { JoinsFrom actions (before plan) (before entering) ⇒ (λ p. JoinTold (total p) result (after entering) p) }
+    ensures { JoinsFrom actions plan.now entering.old ⇒ (λ p. JoinTold (total p) result entering.new p) }
 {
     let mut list = [0u16; 2048];
     let count = note_joins(actions, plan, &mut list);
@@ -167,7 +167,7 @@ fn joins_kept(actions: usize, plan: &Sheet, entering: &mut [u8; 2048]) -> bool
 // The last action of every job but 0 sends a join.
 fn lasts_send(jobs: usize, plan: &Sheet) -> bool
     requires { Some (LastsIn jobs plan.now) }
-    ensures { LastsTold jobs (before plan) result }
+    ensures { LastsTold jobs plan.now result }
 {
     let mut j = 1;
     while j < jobs {
@@ -183,8 +183,8 @@ fn lasts_send(jobs: usize, plan: &Sheet) -> bool
 // job 0's sends one. Where they do, `entering` tells of each action how many enter it.
 pub fn join_rules(jobs: usize, actions: usize, plan: &Sheet, entering: &mut [u8; 2048]) -> bool
     requires { Some (SpawnedIn jobs actions plan.now) × Unentered entering.old }
-    ensures { SpawnedIn jobs actions (before plan)
-        ⇒ (λ p. (result ≡ join_rules p) × (T result → Entered p (after entering) × (length (after entering) ≡ 2048))) }
+    ensures { SpawnedIn jobs actions plan.now
+        ⇒ (λ p. (result ≡ join_rules p) × (T result → Entered p entering.new × (length entering.new ≡ 2048))) }
 {
     if !lasts_send(jobs, plan) {
         return false;

@@ -1,7 +1,6 @@
 // A plan as one array: its numbers, each kind from a fixed place on. What goes by an action's place in plan order ends in `_at`,
 // what goes by a job's number in `_of`.
 ghost use Rattle.std.specs.Prelude.{◌≡◌, ◌<◌};
-ghost use Rattle.plan.specs.Contract.{before, after};
 ghost use Rattle.plan.specs.Sheet.{child_at, target_at, frame_of, first_of, parent_of, spawn_of, job_at, cost_at};
 ghost use Rattle.plan.specs.Sheet.{with_action, with_frame, with_first, with_spawner};
 
@@ -32,7 +31,7 @@ const COST: usize = 7169;
 // The number of the job that the action at place k spawns, plus 1, or 0.
 pub fn child_at(plan: &Sheet, k: usize) -> usize
     requires { k < 2048 }
-    ensures { (result ≡ child_at (before plan) k) × (result < 65536) }
+    ensures { (result ≡ child_at plan.now k) × (result < 65536) }
 {
     wide16(plan[k])
 }
@@ -40,7 +39,7 @@ pub fn child_at(plan: &Sheet, k: usize) -> usize
 // The position in its job's parent that the action at place k sends its join to, plus 1, or 0.
 pub fn target_at(plan: &Sheet, k: usize) -> usize
     requires { k < 2048 }
-    ensures { (result ≡ target_at (before plan) k) × (result < 65536) }
+    ensures { (result ≡ target_at plan.now k) × (result < 65536) }
 {
     wide16(plan[TARGET + k])
 }
@@ -48,7 +47,7 @@ pub fn target_at(plan: &Sheet, k: usize) -> usize
 // The job of the action at place k.
 pub fn job_at(plan: &Sheet, k: usize) -> usize
     requires { k < 2048 }
-    ensures { (result ≡ job_at (before plan) k) × (result < 65536) }
+    ensures { (result ≡ job_at plan.now k) × (result < 65536) }
 {
     wide16(plan[JOB + k])
 }
@@ -56,7 +55,7 @@ pub fn job_at(plan: &Sheet, k: usize) -> usize
 // The cost of the action at place k.
 pub fn cost_at(plan: &Sheet, k: usize) -> usize
     requires { k < 2048 }
-    ensures { (result ≡ cost_at (before plan) k) × (result < 65536) }
+    ensures { (result ≡ cost_at plan.now k) × (result < 65536) }
 {
     wide16(plan[COST + k])
 }
@@ -64,7 +63,7 @@ pub fn cost_at(plan: &Sheet, k: usize) -> usize
 // The weight of job j's frame.
 pub fn frame_of(plan: &Sheet, j: usize) -> u32
     requires { j < 256 }
-    ensures { (result ≡ frame_of (before plan) j) × (result < 65536) }
+    ensures { (result ≡ frame_of plan.now j) × (result < 65536) }
 {
     units16(plan[FRAME + j])
 }
@@ -72,7 +71,7 @@ pub fn frame_of(plan: &Sheet, j: usize) -> u32
 // The place of job j's first action, or that of the end where j is the number of jobs.
 pub fn first_of(plan: &Sheet, j: usize) -> usize
     requires { j < 257 }
-    ensures { (result ≡ first_of (before plan) j) × (result < 65536) }
+    ensures { (result ≡ first_of plan.now j) × (result < 65536) }
 {
     wide16(plan[FIRST + j])
 }
@@ -80,7 +79,7 @@ pub fn first_of(plan: &Sheet, j: usize) -> usize
 // The job that spawns job j, where that is noted.
 pub fn parent_of(plan: &Sheet, j: usize) -> usize
     requires { j < 256 }
-    ensures { (result ≡ parent_of (before plan) j) × (result < 65536) }
+    ensures { (result ≡ parent_of plan.now j) × (result < 65536) }
 {
     wide16(plan[PARENT + j])
 }
@@ -88,7 +87,7 @@ pub fn parent_of(plan: &Sheet, j: usize) -> usize
 // The position of job j's spawn in its parent, plus 1, or 0 where none is noted.
 pub fn spawn_of(plan: &Sheet, j: usize) -> usize
     requires { j < 256 }
-    ensures { (result ≡ spawn_of (before plan) j) × (result < 65536) }
+    ensures { (result ≡ spawn_of plan.now j) × (result < 65536) }
 {
     wide16(plan[SPAWNED + j])
 }
@@ -96,7 +95,7 @@ pub fn spawn_of(plan: &Sheet, j: usize) -> usize
 // The action at place k is one of job j, with its child and its target, each plus 1 or 0, and its cost.
 pub fn set_action(plan: &mut Sheet, k: usize, j: usize, child: u16, target: u16, cost: u16)
     requires { (k < 2048) × (j < 256) }
-    ensures { after plan ≡ with_action (before plan) k j child target cost }
+    ensures { plan.new ≡ with_action plan.old k j child target cost }
 {
     plan[k] = child;
     plan[TARGET + k] = target;
@@ -107,7 +106,7 @@ pub fn set_action(plan: &mut Sheet, k: usize, j: usize, child: u16, target: u16,
 // The weight of job j's frame.
 pub fn set_frame(plan: &mut Sheet, j: usize, weight: u16)
     requires { j < 256 }
-    ensures { after plan ≡ with_frame (before plan) j weight }
+    ensures { plan.new ≡ with_frame plan.old j weight }
 {
     plan[FRAME + j] = weight;
 }
@@ -115,7 +114,7 @@ pub fn set_frame(plan: &mut Sheet, j: usize, weight: u16)
 // The place of job j's first action, or that of the end.
 pub fn set_first(plan: &mut Sheet, j: usize, k: usize)
     requires { (j < 257) × (k < 65536) }
-    ensures { after plan ≡ with_first (before plan) j k }
+    ensures { plan.new ≡ with_first plan.old j k }
 {
     plan[FIRST + j] = k as u16;
 }
@@ -123,7 +122,7 @@ pub fn set_first(plan: &mut Sheet, j: usize, k: usize)
 // Notes that job j is spawned by job q, at a position that is given plus 1.
 pub fn set_spawner(plan: &mut Sheet, j: usize, q: usize, position: usize)
     requires { (j < 256) × (q < 256) × (position < 65536) }
-    ensures { after plan ≡ with_spawner (before plan) j q position }
+    ensures { plan.new ≡ with_spawner plan.old j q position }
 {
     plan[PARENT + j] = q as u16;
     plan[SPAWNED + j] = position as u16;

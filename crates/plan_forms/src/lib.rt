@@ -1,7 +1,7 @@
 // Plan bytes turned into the other form (document 02, L6).
 #![tactic(auto)]
 ghost use Rattle.std.specs.Prelude.{◌≡◌};
-ghost use Rattle.plan.specs.Contract.{Some, ◌⇒◌, before, after};
+ghost use Rattle.plan.specs.Contract.{Some, ◌⇒◌};
 ghost use Rattle.plan.specs.Rules.{costs_fit};
 ghost use Rattle.plan.specs.Sheet.{Blank, PlanIn};
 ghost use Rattle.plan_writer.specs.Written.{answer_of};
@@ -17,7 +17,7 @@ use plan_writer::{Answer, encode};
 // Reads the plan that the bytes hold into its array, where they are of the form that is expected.
 fn read_as(form: u32, s: &[u8], plan: &mut Sheet) -> Found
     requires { Blank plan.old }
-    ensures { ReadAs form (before s) result (after plan) }
+    ensures { ReadAs form s.now result plan.new }
 {
     let Field::Cut { value, .. } = cut(s, 0, 8) else {
         return Found::Refused(Refusal::RanOut);
@@ -32,7 +32,7 @@ fn read_as(form: u32, s: &[u8], plan: &mut Sheet) -> Found
 // Whether every action costs 1.
 fn costs_one(jobs: usize, actions: usize, plan: &Sheet) -> bool
     requires { Some (PlanIn jobs actions plan.now) }
-    ensures { PlanIn jobs actions (before plan) ⇒ (λ p. result ≡ costs_fit 1 p) }
+    ensures { PlanIn jobs actions plan.now ⇒ (λ p. result ≡ costs_fit 1 p) }
 {
     let mut k = 0;
     while k < actions {

@@ -1,7 +1,7 @@
 // The measures of a plan (document 01, "Plan"; document 02, L5 and L7): its number of actions, T1, T∞, S1, and T1 divided by T∞.
 #![tactic(auto)]
 ghost use Rattle.std.specs.Prelude.{suc, ◌≡◌, length};
-ghost use Rattle.plan.specs.Contract.{Some, ◌⇒◌, before, after};
+ghost use Rattle.plan.specs.Contract.{Some, ◌⇒◌};
 ghost use Rattle.plan.specs.Sheet.{target_at, PlanIn};
 ghost use Rattle.plan_measure.specs.Measure.{measures_of, measures, told, Divided};
 ghost use Rattle.plan_measure.specs.Measure.{work as workOf, longest as longestOf, heaviest as heaviestOf};
@@ -32,7 +32,7 @@ pub enum Measured {
 // T1: the costs of the actions, added up.
 pub fn work(actions: usize, plan: &Sheet) -> u32
     requires { Some (ActionsOf actions plan.now) }
-    ensures { ActionsOf actions (before plan) ⇒ (λ p. result ≡ workOf p) }
+    ensures { ActionsOf actions plan.now ⇒ (λ p. result ≡ workOf p) }
 {
     let mut sum = 0;
     let mut k = 0;
@@ -46,7 +46,7 @@ pub fn work(actions: usize, plan: &Sheet) -> u32
 // S1: each job's path weight is its frame and its parent's path weight.
 fn heaviest(jobs: usize, plan: &Sheet) -> u32
     requires { Some (PlanOf jobs plan.now) }
-    ensures { PlanOf jobs (before plan) ⇒ (λ p. result ≡ heaviestOf p) }
+    ensures { PlanOf jobs plan.now ⇒ (λ p. result ≡ heaviestOf p) }
 {
     let root = frame_of(plan, 0);
     let mut path = [0u32; 256];
@@ -74,8 +74,8 @@ fn send_join(
     late: &mut [u16; 2048],
 )
     requires { (length late.old ≡ 2048) × SendGiven k (suc k) base spawned (target_at plan.now) (at time.now) }
-    ensures { (length (after late) ≡ 2048)
-        × Sent k (suc k) base spawned (target_at (before plan)) (at (before time)) (at (before late)) (at (after late)) }
+    ensures { (length late.new ≡ 2048)
+        × Sent k (suc k) base spawned (target_at plan.now) (at time.now) (at late.old) (at late.new) }
 {
     let sent = target_at(plan, k);
     if sent == 0 {
@@ -96,8 +96,8 @@ fn send_joins(
     late: &mut [u16; 2048],
 )
     requires { (length late.old ≡ 2048) × SendGiven from end base spawned (target_at plan.now) (at time.now) }
-    ensures { (length (after late) ≡ 2048)
-        × Sent from end base spawned (target_at (before plan)) (at (before time)) (at (before late)) (at (after late)) }
+    ensures { (length late.new ≡ 2048)
+        × Sent from end base spawned (target_at plan.now) (at time.now) (at late.old) (at late.new) }
 {
     let mut k = from;
     while k < end {
@@ -116,8 +116,8 @@ fn pass_child(
     late: &mut [u16; 2048],
 )
     requires { (length late.old ≡ 2048) × PassGiven k base spawned plan.now (at time.now) }
-    ensures { (length (after late) ≡ 2048)
-        × Passed k base spawned (before plan) (at (before time)) (at (before late)) (at (after late)) }
+    ensures { (length late.new ≡ 2048)
+        × Passed k base spawned plan.now (at time.now) (at late.old) (at late.new) }
 {
     let child = child_at(plan, k);
     if child == 0 {
@@ -143,7 +143,7 @@ fn time_job(
     late: &mut [u16; 2048],
 ) -> u16
     requires { Some (JobGiven base end plan.now time.old late.old) }
-    ensures { JobGiven base end (before plan) (before time) (before late) ⇒ JobTimed result (after time) (after late) }
+    ensures { JobGiven base end plan.now time.old late.old ⇒ JobTimed result time.new late.new }
 {
     let mut done = 0;
     let mut k = base;
@@ -160,7 +160,7 @@ fn time_job(
 // those below it. Times are at most T∞, which is at most 15 × 2,048: 16 bits halve the arrays.
 fn longest(jobs: usize, plan: &Sheet) -> u32
     requires { Some (PlanOf jobs plan.now) }
-    ensures { PlanOf jobs (before plan) ⇒ (λ p. result ≡ longestOf p) }
+    ensures { PlanOf jobs plan.now ⇒ (λ p. result ≡ longestOf p) }
 {
     let mut time = [0u16; 2048];
     let mut late = [0u16; 2048];
@@ -182,7 +182,7 @@ fn longest(jobs: usize, plan: &Sheet) -> u32
 // The measures of the plan that the array holds. T∞ is at least 1.
 pub fn measure_read(jobs: usize, actions: usize, plan: &Sheet) -> Measures
     requires { Some (PlanIn jobs actions plan.now) }
-    ensures { PlanIn jobs actions (before plan) ⇒ (λ p. result ≡ measures_of p) }
+    ensures { PlanIn jobs actions plan.now ⇒ (λ p. result ≡ measures_of p) }
 {
     let sum = work(actions, plan);
     let most = longest(jobs, plan);

@@ -2,7 +2,7 @@
 // plan as soon as that is read, then the second. That it keeps all rules is proved and not tested.
 #![tactic(auto)]
 ghost use Rattle.std.specs.Prelude.{◌≡◌, ◌+◌, ◌≤◌, ◌<◌, length, take};
-ghost use Rattle.plan.specs.Contract.{Some, ◌⇒◌, before, after};
+ghost use Rattle.plan.specs.Contract.{Some, ◌⇒◌};
 ghost use Rattle.plan.specs.Plan.{job, total};
 ghost use Rattle.plan.specs.Progress.{with_job, with_jobs};
 ghost use Rattle.plan.specs.Sheet.{child_at, cost_at, with_action};
@@ -29,7 +29,7 @@ fn raised_child(d: usize, child: usize) -> usize
 // Where an action sends its join, plus 1, once its plan stands below the new root.
 fn target_under(plan: &Sheet, k: usize) -> usize
     requires { k < 2048 }
-    ensures { (result ≡ target_under (before plan) k) × (result < 65536) }
+    ensures { (result ≡ target_under plan.now k) × (result < 65536) }
 {
     if k + 1 == first_of(plan, 1) {
         return 5;
@@ -40,8 +40,8 @@ fn target_under(plan: &Sheet, k: usize) -> usize
 // Lays the action at place k of a plan at place `at`, as one of job `owner`; its child's number rises by d.
 fn lay_action(plan: &Sheet, k: usize, d: usize, at: usize, owner: usize, sheet: &mut Sheet)
     requires { ActionAt plan.now k d at owner }
-    ensures { after sheet ≡ with_action (before sheet) at owner
-        (raised_child d (child_at (before plan) k)) (target_under (before plan) k) (cost_at (before plan) k) }
+    ensures { sheet.new ≡ with_action sheet.old at owner
+        (raised_child d (child_at plan.now k)) (target_under plan.now k) (cost_at plan.now k) }
 {
     let child = raised_child(d, child_at(plan, k));
     let target = target_under(plan, k);
@@ -52,8 +52,8 @@ fn lay_action(plan: &Sheet, k: usize, d: usize, at: usize, owner: usize, sheet: 
 // Lays job j of a plan as job d + j, its actions as many places later as `from` says.
 fn lay_job(plan: &Sheet, j: usize, d: usize, from: usize, sheet: &mut Sheet)
     requires { Some (LaysJob d from j plan.now) }
-    ensures { LaysJob d from j (before plan)
-        ⇒ (λ p. after sheet ≡ with_job (before sheet) (from + total (take j p)) (d + j) (job (under d p) j)) }
+    ensures { LaysJob d from j plan.now
+        ⇒ (λ p. sheet.new ≡ with_job sheet.old (from + total (take j p)) (d + j) (job (under d p) j)) }
 {
     let end = first_of(plan, j + 1);
     let mut k = first_of(plan, j);
@@ -68,7 +68,7 @@ fn lay_job(plan: &Sheet, j: usize, d: usize, from: usize, sheet: &mut Sheet)
 // Lays all jobs of a plan, the first as job d, and their actions from place `from` on.
 fn lay_jobs(plan: &Sheet, jobs: usize, d: usize, from: usize, sheet: &mut Sheet)
     requires { Some (λ p. (jobs ≡ length p) × Lays d from plan.now p) }
-    ensures { Lays d from (before plan) ⇒ (λ p. jobs ≡ length p → after sheet ≡ with_jobs (before sheet) from d (under d p)) }
+    ensures { Lays d from plan.now ⇒ (λ p. jobs ≡ length p → sheet.new ≡ with_jobs sheet.old from d (under d p)) }
 {
     let mut j = 0;
     while j < jobs {
@@ -80,7 +80,7 @@ fn lay_jobs(plan: &Sheet, jobs: usize, d: usize, from: usize, sheet: &mut Sheet)
 // Lays the new root, where the first plan has so many jobs.
 fn lay_root(frame: u16, jobs: usize, sheet: &mut Sheet)
     requires { jobs ≤ 256 }
-    ensures { after sheet ≡ with_job (before sheet) 0 0 (new_root frame jobs) }
+    ensures { sheet.new ≡ with_job sheet.old 0 0 (new_root frame jobs) }
 {
     set_frame(sheet, 0, frame);
     set_action(sheet, 0, 0, 2, 0, 1);
@@ -109,7 +109,7 @@ fn within(frame: u32, jobs: usize, actions: usize) -> bool
 
 // Reads the first plan, and lays the new root and the plan below it, where that is within the limits.
 fn lay_first(s: &[u8], frame: u32, sheet: &mut Sheet) -> Found
-    ensures { Taken (before s) result (FirstLaid frame (before sheet) (after sheet)) }
+    ensures { Taken s.now result (FirstLaid frame sheet.old sheet.new) }
 {
     let mut plan = [0u16; PLACES];
     let mut entering = [0u8; 2048];
@@ -136,7 +136,7 @@ fn lay_first(s: &[u8], frame: u32, sheet: &mut Sheet) -> Found
 // Reads the second plan, and lays it from job d and place `from` on, where that is within the limits.
 fn lay_second(s: &[u8], frame: u32, d: usize, from: usize, sheet: &mut Sheet) -> Found
     requires { (d ≤ 257) × (from ≤ 2053) }
-    ensures { Taken (before s) result (SecondLaid frame d from (before sheet) (after sheet)) }
+    ensures { Taken s.now result (SecondLaid frame d from sheet.old sheet.new) }
 {
     let mut plan = [0u16; PLACES];
     let mut entering = [0u8; 2048];

@@ -2,7 +2,7 @@
 #![tactic(auto)]
 
 ghost use Rattle.std.specs.Prelude.{◌≡◌};
-ghost use Rattle.plan.specs.Contract.{Some, ◌⇒◌, before, after};
+ghost use Rattle.plan.specs.Contract.{Some, ◌⇒◌};
 ghost use Rattle.plan_writer.specs.Written.{encoded, answer_of};
 ghost use Rattle.plan_table.specs.Table.{to_table, to_plan, ruled};
 ghost use Rattle.plan_table.specs.GivenRows.{LaidAs};
@@ -38,8 +38,8 @@ pub fn plan_to_table(bytes: &[u8], rows: &mut [u16]) -> Answer
 // tells their number.
 fn close(form: u32, jobs: usize, rows: usize, plan: &mut Sheet, bytes: &mut [u8]) -> Answer
     requires { Some (LaidAs form jobs rows plan.old) }
-    ensures { LaidAs form jobs rows (before plan)
-        ⇒ (λ p. record { answer = answer_of result; buffer = after bytes } ≡ encoded form (ruled form p) (before bytes)) }
+    ensures { LaidAs form jobs rows plan.old
+        ⇒ (λ p. record { answer = answer_of result; buffer = bytes.new } ≡ encoded form (ruled form p) bytes.old) }
 {
     let mut entering = [0u8; 2048];
     if !spawn_rules(jobs, rows, plan) {

@@ -1,7 +1,7 @@
 // The rows of an open table (document 01, "Plan"; document 02, L5): their rules, and from rows to a plan and back.
 ghost use Rattle.std.specs.Prelude.{◌≡◌, ◌+◌, ◌*◌, ◌/◌, ◌%◌, ◌≤◌, ◌<◌, ◌++◌, length, drop, eqb};
 ghost use Rattle.plan.specs.Test.{both};
-ghost use Rattle.plan.specs.Contract.{Some, ◌⇒◌, before, after};
+ghost use Rattle.plan.specs.Contract.{Some, ◌⇒◌};
 ghost use Rattle.plan.specs.Sheet.{job_at, Blank};
 ghost use Rattle.plan_table.specs.Table.{table_of, row_rules, rows_of};
 ghost use Rattle.plan_table.specs.GivenRows.{RowsGiven, row_on, with_row, fits_at, TableKept, cost_stands, RowsTaken, RowTaken, Taken};
@@ -16,7 +16,7 @@ use plan::sheet::{
 // Writes the row of the action at place k.
 fn write_row(k: usize, plan: &Sheet, rows: &mut [u16])
     requires { (k < 2048) × (job_at plan.now k < 256) × (5 * k + 5 ≤ length rows.old) }
-    ensures { after rows ≡ with_row (before rows) (5 * k) (row_on (before plan) k) }
+    ensures { rows.new ≡ with_row rows.old (5 * k) (row_on plan.now k) }
 {
     let at = 5 * k;
     let j = job_at(plan, k);
@@ -30,7 +30,7 @@ fn write_row(k: usize, plan: &Sheet, rows: &mut [u16])
 // Writes the rows of the actions, in plan order.
 pub fn write_rows(actions: usize, plan: &Sheet, rows: &mut [u16])
     requires { Some (RowsGiven actions plan.now) × (5 * actions ≤ length rows.old) }
-    ensures { RowsGiven actions (before plan) ⇒ (λ p. after rows ≡ table_of p ++ drop (5 * actions) (before rows)) }
+    ensures { RowsGiven actions plan.now ⇒ (λ p. rows.new ≡ table_of p ++ drop (5 * actions) rows.old) }
 {
     let mut k = 0;
     while k < actions {
@@ -42,7 +42,7 @@ pub fn write_rows(actions: usize, plan: &Sheet, rows: &mut [u16])
 // A row may stand below the row before it.
 fn row_goes_on(table: &[u16], at: usize) -> bool
     requires { (at % 5 ≡ 0) × (at + 5 ≤ length table.now) }
-    ensures { result ≡ fits_at (before table) at }
+    ensures { result ≡ fits_at table.now at }
 {
     if 256 < table[at + 2] {
         return false;
@@ -66,7 +66,7 @@ fn row_goes_on(table: &[u16], at: usize) -> bool
 
 // The table has whole rows, at least one, and keeps its row rules.
 pub fn table_rules(table: &[u16]) -> bool
-    ensures { result ≡ both (eqb (length (before table) % 5) 0) (row_rules (rows_of (before table))) }
+    ensures { result ≡ both (eqb (length table.now % 5) 0) (row_rules (rows_of table.now)) }
 {
     if table.len() == 0 {
         return false;
@@ -108,7 +108,7 @@ fn cost_stands(form: u32, cost: u16) -> bool
 // the end of the rows taken, so a row that begins a job finds its own place there.
 fn take_row(form: u32, table: &[u16], k: usize, plan: &mut Sheet) -> bool
     requires { (k < length table.now / 5) × RowsTaken form table.now k plan.old }
-    ensures { RowTaken form (before table) k result (after plan) }
+    ensures { RowTaken form table.now k result plan.new }
 {
     let at = 5 * k;
     let number = wide16(table[at]);
@@ -135,7 +135,7 @@ fn take_row(form: u32, table: &[u16], k: usize, plan: &mut Sheet) -> bool
 // Takes the rows over into the array, and tells how many jobs they have.
 pub fn take_rows(form: u32, table: &[u16], plan: &mut Sheet) -> Jobs
     requires { TableKept table.now × (length table.now / 5 ≤ 2048) × Blank plan.old }
-    ensures { Taken form (rows_of (before table)) result (after plan) }
+    ensures { Taken form (rows_of table.now) result plan.new }
 {
     let rows = table.len() / 5;
     let mut k = 0;

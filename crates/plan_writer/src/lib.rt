@@ -4,7 +4,7 @@
 ghost use Rattle.std.specs.Prelude.{◌≡◌, ℕ, ◌^◌, ◌≤◌, ◌<◌, ◌++◌, length, drop};
 ghost use Rattle.fields.specs.Field.{bits_of, number};
 ghost use Rattle.fields.specs.Sink.{Sound, Room, Put};
-ghost use Rattle.plan.specs.Contract.{Some, ◌⇒◌, before, after};
+ghost use Rattle.plan.specs.Contract.{Some, ◌⇒◌};
 ghost use Rattle.plan.specs.Sheet.{RuledIn};
 ghost use Rattle.plan_writer.specs.Writer.{number_bits, plan_bits, plan_bytes};
 ghost use Rattle.plan_writer.specs.ActionBits.{Writable, fields_of, action_bits};
@@ -69,7 +69,7 @@ fn action_field(form: u32, child: usize, target: usize, cost: usize) -> u64
 // How many bits the plan's fields take in a form.
 fn plan_bits(form: u32, jobs: usize, actions: usize, plan: &Sheet) -> usize
     requires { Some (RuledIn jobs actions plan.now) }
-    ensures { (result < 65536) × (RuledIn jobs actions (before plan) ⇒ (λ p. result ≡ length (plan_bits form p))) }
+    ensures { (result < 65536) × (RuledIn jobs actions plan.now ⇒ (λ p. result ≡ length (plan_bits form p))) }
 {
     let mut bits = 17 + 24 * jobs;
     let mut k = 0;
@@ -91,7 +91,7 @@ fn put_fields(
 ) -> Sink
     requires { Sound out.old sink × (child ≤ 256) × (target ≤ 256) × (cost < 16)
         × Room out.old sink (length (fields_of form child target cost)) }
-    ensures { Put (before out) sink (fields_of form child target cost) (after out) result }
+    ensures { Put out.old sink (fields_of form child target cost) out.new result }
 {
     let value = action_field(form, child, target, cost);
     put(out, sink, value, action_bits(form, child, target))
@@ -100,14 +100,14 @@ fn put_fields(
 // A job's frame and its number of actions, as one field.
 fn put_header(out: &mut [u8], sink: Sink, frame: u32, size: usize) -> Sink
     requires { Sound out.old sink × (frame < 65536) × (size < 256) × Room out.old sink 24 }
-    ensures { Put (before out) sink (bits_of 16 frame ++ bits_of 8 size) (after out) result }
+    ensures { Put out.old sink (bits_of 16 frame ++ bits_of 8 size) out.new result }
 {
     put(out, sink, 256 * frame as u64 + size as u64, 24)
 }
 
 fn put_action(out: &mut [u8], sink: Sink, form: u32, k: usize, plan: &Sheet) -> Sink
     requires { Sound out.old sink × Writable plan.now k × Room out.old sink (length (action_bits form plan.now k)) }
-    ensures { Put (before out) sink (action_bits form (before plan) k) (after out) result }
+    ensures { Put out.old sink (action_bits form plan.now k) out.new result }
 {
     let j = job_at(plan, k);
     let start = first_of(plan, j);
@@ -135,8 +135,8 @@ fn put_action(out: &mut [u8], sink: Sink, form: u32, k: usize, plan: &Sheet) -> 
 // Writes the plan's bytes in a form, and tells how many they are.
 fn write_plan(out: &mut [u8], form: u32, jobs: usize, actions: usize, plan: &Sheet) -> usize
     requires { Some (WritesInto (length out.old) form jobs actions plan.now) }
-    ensures { RuledIn jobs actions (before plan)
-        ⇒ (λ p. (result ≡ length (plan_bytes form p)) × (after out ≡ plan_bytes form p ++ drop (length (plan_bytes form p)) (before out))) }
+    ensures { RuledIn jobs actions plan.now
+        ⇒ (λ p. (result ≡ length (plan_bytes form p)) × (out.new ≡ plan_bytes form p ++ drop (length (plan_bytes form p)) out.old)) }
 {
     let mut sink = put(
         out,
@@ -161,8 +161,8 @@ fn write_plan(out: &mut [u8], form: u32, jobs: usize, actions: usize, plan: &She
 // none need be noted.
 pub fn encode(form: u32, jobs: usize, actions: usize, plan: &Sheet, bytes: &mut [u8]) -> Answer
     requires { Some (RuledIn jobs actions plan.now) × (form < 256) }
-    ensures { RuledIn jobs actions (before plan)
-        ⇒ (λ p. record { answer = answer_of result; buffer = after bytes } ≡ encoded form (accepted p) (before bytes)) }
+    ensures { RuledIn jobs actions plan.now
+        ⇒ (λ p. record { answer = answer_of result; buffer = bytes.new } ≡ encoded form (accepted p) bytes.old) }
 {
     if bytes.len() < (plan_bits(form, jobs, actions, plan) + 7) / 8 {
         return Answer::Refused(Refusal::Short);

@@ -1,6 +1,6 @@
 // A whole run from a pool (document 02, L1; document 01, "Turned down").
 ghost use Rattle.std.specs.Prelude.{◌≡◌};
-ghost use Rattle.plan.specs.Contract.{Some, ◌⇒◌, before, after};
+ghost use Rattle.plan.specs.Contract.{Some, ◌⇒◌};
 ghost use Rattle.scheduler.specs.Entry.{ran_of};
 ghost use Rattle.scheduler.specs.RunRead.{RunsIn};
 ghost use Rattle.pool_runner.specs.Entry.{pool_into, Claimed};
@@ -24,8 +24,8 @@ fn pool_read(
     schedule: &mut [u8],
 ) -> Ran
     requires { Some (RunsIn form actions plan.now entering.now) }
-    ensures { RunsIn form actions (before plan) (before entering)
-        ⇒ Answered form workers (before schedule) result (after schedule) }
+    ensures { RunsIn form actions plan.now entering.now
+        ⇒ Answered form workers schedule.old result schedule.new }
 {
     if workers == 0 {
         return Ran::Refused(Refusal::Workers);

@@ -1,6 +1,6 @@
 // All rounds of a run from a pool (document 02, L1).
 ghost use Rattle.std.specs.Prelude.{◌≡◌, false, ◌*◌, ◌≤◌, ◌<◌, length};
-ghost use Rattle.plan.specs.Contract.{Some, ◌⇒◌, before, after};
+ghost use Rattle.plan.specs.Contract.{Some, ◌⇒◌};
 ghost use Rattle.crew.specs.Crew.{member, Marked};
 ghost use Rattle.rounds.specs.Account.{is_idle};
 ghost use Rattle.pool_runner.specs.Rounds.{PoolGiven, PoolLeft, Noted, Marks, tally_of};
@@ -24,7 +24,7 @@ type Calendar = [u32; 16];
 // member where actions end d rounds after that one.
 fn note(marks: u32, ends: &mut Calendar, round: usize, cost: usize, w: usize) -> u32
     requires { (round < 65536) × (cost ≤ 15) × (w < 16) × (length ends.old ≡ 16) }
-    ensures { Noted round cost w (before ends) (after ends) × (Marks round marks (before ends) → Marks round result (after ends)) }
+    ensures { Noted round cost w ends.old ends.new × (Marks round marks ends.old → Marks round result ends.new) }
 {
     if cost == 0 {
         return marks;
@@ -74,7 +74,7 @@ pub fn run_pool(
     rows: &mut Rows,
 ) -> Tally
     requires { Some (PoolGiven n actions plan.now entering.now) × (length rows.old ≡ 2048) }
-    ensures { PoolGiven n actions (before plan) (before entering) ⇒ PoolLeft n result (after rows) }
+    ensures { PoolGiven n actions plan.now entering.now ⇒ PoolLeft n result rows.new }
 {
     let mut workers = [Worker::Idle; 16];
     workers[0] = Worker::Holding(0);

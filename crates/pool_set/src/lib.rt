@@ -2,7 +2,6 @@
 // 4 + j how many children of job j live.
 #![tactic(auto)]
 ghost use Rattle.std.specs.Prelude.{◌≡◌, ◌≢◌, true, false, suc, ◌-◌, ◌<◌, eqb, length};
-ghost use Rattle.plan.specs.Contract.{before, after};
 ghost use Rattle.pool_set.specs.Pool.{pooled, children_of, Put, First, Counted};
 
 mod word;
@@ -14,7 +13,7 @@ const CHILDREN: usize = 4;
 // Job j comes into the set.
 pub fn add(pool: &mut Pool, j: usize)
     requires { (j < 256) × (length pool.old ≡ 260) }
-    ensures { Put j true (before pool) (after pool) }
+    ensures { Put j true pool.old pool.new }
 {
     pool[j / 64] = word::with(pool[j / 64], j % 64);
 }
@@ -22,7 +21,7 @@ pub fn add(pool: &mut Pool, j: usize)
 // Job j goes out of the set.
 pub fn remove(pool: &mut Pool, j: usize)
     requires { (j < 256) × (length pool.old ≡ 260) }
-    ensures { Put j false (before pool) (after pool) }
+    ensures { Put j false pool.old pool.new }
 {
     pool[j / 64] = word::without(pool[j / 64], j % 64);
 }
@@ -30,14 +29,14 @@ pub fn remove(pool: &mut Pool, j: usize)
 // Whether job j is in the set.
 pub fn contains(pool: &Pool, j: usize) -> bool
     requires { j < 256 }
-    ensures { result ≡ pooled (before pool) j }
+    ensures { result ≡ pooled pool.now j }
 {
     (pool[j / 64] >> (j % 64)) % 2 == 1
 }
 
 // The lowest job in the set, or 256 where the set is empty.
 pub fn first(pool: &Pool) -> usize
-    ensures { First (before pool) result }
+    ensures { First pool.now result }
 {
     if pool[0] != 0 {
         return word::lowest(pool[0]);
@@ -57,7 +56,7 @@ pub fn first(pool: &Pool) -> usize
 // One more child of job j lives.
 pub fn gain_child(pool: &mut Pool, j: usize)
     requires { (j < 256) × (length pool.old ≡ 260) × (children_of pool.old j < 256) }
-    ensures { Counted j (suc (children_of (before pool) j)) (before pool) (after pool) }
+    ensures { Counted j (suc (children_of pool.old j)) pool.old pool.new }
 {
     pool[CHILDREN + j] = pool[CHILDREN + j] + 1;
 }
@@ -65,8 +64,8 @@ pub fn gain_child(pool: &mut Pool, j: usize)
 // One child of job j lives no more: whether it was the last.
 pub fn lose_child(pool: &mut Pool, j: usize) -> bool
     requires { (j < 256) × (length pool.old ≡ 260) × (children_of pool.old j ≢ 0) }
-    ensures { Counted j (children_of (before pool) j - 1) (before pool) (after pool)
-        × (result ≡ eqb (children_of (before pool) j - 1) 0) }
+    ensures { Counted j (children_of pool.old j - 1) pool.old pool.new
+        × (result ≡ eqb (children_of pool.old j - 1) 0) }
 {
     let left = pool[CHILDREN + j] - 1;
     pool[CHILDREN + j] = left;

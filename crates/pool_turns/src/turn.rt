@@ -1,6 +1,6 @@
 // A worker's turn in a run from a pool (document 02, L1 and L5), with its row of the schedule.
 ghost use Rattle.std.specs.Prelude.{◌≡◌, get_or};
-ghost use Rattle.plan.specs.Contract.{Some, ◌⇒◌, before, after};
+ghost use Rattle.plan.specs.Contract.{Some, ◌⇒◌};
 ghost use Rattle.plan.specs.Plan.{action};
 ghost use Rattle.pool_turns.specs.Moments.{Acting, Sent, Weighed, Ending, Buried, Settling, Acted, Turning, TurnTaken};
 ghost use Rattle.pool_turns.specs.Moments.{Having, Leaving, cost_of};
@@ -17,7 +17,7 @@ use turns::turn::Turned;
 // The action at place k, the next one of job j, is done and sends its join; a stalled parent that it wakes is ready in the pool.
 fn send(k: usize, j: usize, plan: &Sheet, progress: &mut Progress, pool: &mut Pool)
     requires { Some (Acting k j plan.now progress.old pool.old) }
-    ensures { Acting k j (before plan) (before progress) (before pool) ⇒ Sent j (after progress) (after pool) }
+    ensures { Acting k j plan.now progress.old pool.old ⇒ Sent j progress.new pool.new }
 {
     if finish(k, j, plan, progress) {
         add(pool, parent_of(plan, j));
@@ -28,7 +28,7 @@ fn send(k: usize, j: usize, plan: &Sheet, progress: &mut Progress, pool: &mut Po
 // so that nobody holds it where it is in the set.
 fn bury(j: usize, plan: &Sheet, pool: &mut Pool) -> Worker
     requires { Some (Ending j plan.now pool.old) }
-    ensures { Ending j (before plan) (before pool) ⇒ Buried j result (after pool) }
+    ensures { Ending j plan.now pool.old ⇒ Buried j result pool.new }
 {
     if j == 0 {
         return Worker::Idle;
@@ -54,8 +54,8 @@ fn settle(
     pool: &mut Pool,
 ) -> Turned
     requires { Some (Settling k j weight plan.now progress.now pool.old) }
-    ensures { Settling k j weight (before plan) (before progress) (before pool)
-        ⇒ Acted j result (before progress) (after pool) }
+    ensures { Settling k j weight plan.now progress.now pool.old
+        ⇒ Acted j result progress.now pool.new }
 {
     if k + 1 == first_of(plan, j + 1) {
         let worker = bury(j, plan, pool);
@@ -87,8 +87,8 @@ fn act(
     pool: &mut Pool,
 ) -> Turned
     requires { Some (Weighed k j weight plan.now progress.old pool.old) }
-    ensures { Weighed k j weight (before plan) (before progress) (before pool)
-        ⇒ Acted j result (after progress) (after pool) }
+    ensures { Weighed k j weight plan.now progress.old pool.old
+        ⇒ Acted j result progress.new pool.new }
 {
     send(k, j, plan, progress, pool);
     let child = child_at(plan, k);
@@ -118,8 +118,8 @@ pub fn turn(
     rows: &mut Rows,
 ) -> Turned
     requires { Some (Turning worker round w weight plan.now progress.old pool.old rows.old) }
-    ensures { Turning worker round w weight (before plan) (before progress) (before pool) (before rows)
-        ⇒ TurnTaken worker result (after progress) (after pool) (after rows) }
+    ensures { Turning worker round w weight plan.now progress.old pool.old rows.old
+        ⇒ TurnTaken worker result progress.new pool.new rows.new }
 {
     // A worker whose turn it is holds a job, for the walk goes over those whose actions end and to no other: `else` is never taken.
     let Worker::Holding(held) = worker else {
@@ -134,7 +134,7 @@ pub fn turn(
 // How many rounds the next action of job j takes.
 pub fn next_cost(j: usize, plan: &Sheet, progress: &Progress) -> usize
     requires { Some (Having j plan.now progress.now) }
-    ensures { Having j (before plan) (before progress)
+    ensures { Having j plan.now progress.now
         ⇒ (λ d. result ≡ (action d.plan j (get_or d.next j 0)).cost) }
 {
     cost_at(plan, first_of(plan, j) + done_of(progress, j))
@@ -143,7 +143,7 @@ pub fn next_cost(j: usize, plan: &Sheet, progress: &Progress) -> usize
 // How many rounds the next action of the job that a worker has takes, or 0 where it has none.
 pub fn rounds_of(worker: Worker, plan: &Sheet, progress: &Progress) -> usize
     requires { Some (Leaving worker plan.now progress.now) }
-    ensures { Leaving worker (before plan) (before progress) ⇒ (λ d. result ≡ cost_of d.plan d.next worker) }
+    ensures { Leaving worker plan.now progress.now ⇒ (λ d. result ≡ cost_of d.plan d.next worker) }
 {
     match worker {
         Worker::Holding(j) => next_cost(wide8(j), plan, progress),

@@ -1,6 +1,6 @@
 // All rounds of a run (document 01, "Worker and round").
 ghost use Rattle.std.specs.Prelude.{◌≡◌, ℕ, suc, ◌%◌, ◌≤◌, ◌<◌, length};
-ghost use Rattle.plan.specs.Contract.{Some, ◌⇒◌, before, after};
+ghost use Rattle.plan.specs.Contract.{Some, ◌⇒◌};
 ghost use Rattle.rounds.specs.Rounds.{RunGiven, RunLeft};
 
 use crate::account::{opened, rested, turned};
@@ -37,8 +37,8 @@ pub fn run_rounds(
     rows: &mut Rows,
 ) -> Tally
     requires { Some (RunGiven n actions choices.now plan.now entering.now) × (length rows.old ≡ 2048) }
-    ensures { RunGiven n actions (before choices) (before plan) (before entering)
-        ⇒ RunLeft n (before choices) result (after rows) }
+    ensures { RunGiven n actions choices.now plan.now entering.now
+        ⇒ RunLeft n choices.now result rows.new }
 {
     let mut workers = [Worker::Idle; 16];
     workers[0] = Worker::Holding(0);

@@ -1,6 +1,6 @@
 // Requests and services, the second half of a round (document 01, "Worker and round"; document 02, L2).
 ghost use Rattle.std.specs.Prelude.{◌≡◌};
-ghost use Rattle.plan.specs.Contract.{Some, ◌⇒◌, before, after};
+ghost use Rattle.plan.specs.Contract.{Some, ◌⇒◌};
 ghost use Rattle.crew.specs.Crew.{member};
 ghost use Rattle.crew.specs.Line.{waiting_at, LiningUp, LinedUp, Gone, Beside};
 ghost use Rattle.runs.specs.Steal.{thief as thiefOf};
@@ -18,7 +18,7 @@ use runs::worker::Worker;
 // Worker w lays a request at victim v.
 pub fn lay(account: Account, w: usize, v: usize, lines: &mut Lines) -> Account
     requires { Some (LiningUp v w lines.old) × Countable account.tally }
-    ensures { (LiningUp v w (before lines) ⇒ LinedUp v w (after lines)) × Beside v (before lines) (after lines)
+    ensures { (LiningUp v w lines.old ⇒ LinedUp v w lines.new) × Beside v lines.old lines.new
         × LayNoted account w v result }
 {
     line_up(lines, v, w);
@@ -36,9 +36,9 @@ pub struct Served {
 // Victim v, which has requests, serves the oldest.
 pub fn serve(account: Account, v: usize, lines: &mut Lines, deques: &mut Deques) -> Served
     requires { Some (Serving account v lines.old) × Some (Dequed deques.old) }
-    ensures { (Serving account v (before lines) ⇒ Gone v 0 result.who (after lines)) × Beside v (before lines) (after lines)
-        × (Dequed (before deques) ⇒ TookTop v (member account.holders v) result.taken (after deques))
-        × ServiceNoted account v (waiting_at (after lines) v) result.who result.taken result.account }
+    ensures { (Serving account v lines.old ⇒ Gone v 0 result.who lines.new) × Beside v lines.old lines.new
+        × (Dequed deques.old ⇒ TookTop v (member account.holders v) result.taken deques.new)
+        × ServiceNoted account v (waiting_at lines.new v) result.who result.taken result.account }
 {
     let who = leave_line(lines, v, 0);
     let taken = take_top(deques, v, has(account.holders, v));

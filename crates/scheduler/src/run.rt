@@ -1,6 +1,6 @@
 // A whole run (document 01, "Worker and round" and "Turned down"; document 02, L5).
 ghost use Rattle.std.specs.Prelude.{◌≡◌};
-ghost use Rattle.plan.specs.Contract.{Some, ◌⇒◌, before, after};
+ghost use Rattle.plan.specs.Contract.{Some, ◌⇒◌};
 ghost use Rattle.runs.specs.Run.{choices_fit};
 ghost use Rattle.scheduler.specs.Entry.{run_into, ran_of, Claimed};
 ghost use Rattle.scheduler.specs.RunRead.{RunsIn, Answered};
@@ -24,7 +24,7 @@ pub enum Ran {
 
 // The largest choice, or 0 where there is none. A loop without a branch, which runs in wide steps.
 fn largest(choices: &[u8]) -> u8
-    ensures { result ≡ largest_of (before choices) }
+    ensures { result ≡ largest_of choices.now }
 {
     let mut most = 0u8;
     let mut i = 0;
@@ -37,7 +37,7 @@ fn largest(choices: &[u8]) -> u8
 
 // Every choice is below n, there are at most 4,096, and some where there is more than one worker.
 fn choices_fit(choices: &[u8], n: usize) -> bool
-    ensures { result ≡ choices_fit n (before choices) }
+    ensures { result ≡ choices_fit n choices.now }
 {
     if 4096 < choices.len() {
         return false;
@@ -59,8 +59,8 @@ pub fn run_read(
     schedule: &mut [u8],
 ) -> Ran
     requires { Some (RunsIn form actions plan.now entering.now) }
-    ensures { RunsIn form actions (before plan) (before entering)
-        ⇒ Answered form workers (before choices) (before schedule) result (after schedule) }
+    ensures { RunsIn form actions plan.now entering.now
+        ⇒ Answered form workers choices.now schedule.old result schedule.new }
 {
     if workers == 0 {
         return Ran::Refused(Refusal::Workers);

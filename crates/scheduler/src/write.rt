@@ -1,6 +1,5 @@
 // A schedule's bytes: the header, and the rows behind it.
 ghost use Rattle.std.specs.Prelude.{◌≡◌, ◌++◌, ◌+◌, ◌*◌, ◌≤◌, ◌<◌, length, drop};
-ghost use Rattle.plan.specs.Contract.{before, after};
 ghost use Rattle.courses.specs.Schedule.{round_bits, schedule_length};
 ghost use Rattle.scheduler.specs.Written.{header_bytes, rows_length, Words, RowsWritten, ScheduleWritten};
 
@@ -10,7 +9,7 @@ use turns::rows::{Rows, row_at};
 // The schedule's first four bytes.
 fn write_header(schedule: &mut [u8], form: u32, n: usize, actions: usize)
     requires { (form < 256) × (n ≤ 16) × (actions ≤ 2048) × (4 ≤ length schedule.old) }
-    ensures { after schedule ≡ header_bytes form n actions ++ drop 4 (before schedule) }
+    ensures { schedule.new ≡ header_bytes form n actions ++ drop 4 schedule.old }
 {
     schedule[0] = form as u8;
     schedule[1] = (n * 8 + actions / 512) as u8;
@@ -21,7 +20,7 @@ fn write_header(schedule: &mut [u8], form: u32, n: usize, actions: usize)
 // Writes the rows of a schedule of form 1, two bytes each: 12 bits of round and 4 of worker.
 fn write_narrow(out: &mut [u8], actions: usize, rows: &Rows)
     requires { (actions ≤ 2048) × (2 * actions ≤ length out.old) × Words 16 actions rows.now }
-    ensures { RowsWritten 16 actions (before rows) (before out) (after out) }
+    ensures { RowsWritten 16 actions rows.now out.old out.new }
 {
     let mut k = 0;
     while k < actions {
@@ -35,7 +34,7 @@ fn write_narrow(out: &mut [u8], actions: usize, rows: &Rows)
 // Writes the rows of a schedule of form 2, 20 bits each: 16 of round and 4 of worker.
 fn write_wide(out: &mut [u8], actions: usize, rows: &Rows)
     requires { (actions ≤ 2048) × (rows_length 20 actions ≤ length out.old) × Words 20 actions rows.now }
-    ensures { RowsWritten 20 actions (before rows) (before out) (after out) }
+    ensures { RowsWritten 20 actions rows.now out.old out.new }
 {
     let mut sink = Sink {
         bytes: 0,
@@ -54,7 +53,7 @@ fn write_wide(out: &mut [u8], actions: usize, rows: &Rows)
 fn write_rows(out: &mut [u8], form: u32, actions: usize, rows: &Rows)
     requires { (actions ≤ 2048) × (rows_length (round_bits form + 4) actions ≤ length out.old)
         × Words (round_bits form + 4) actions rows.now }
-    ensures { RowsWritten (round_bits form + 4) actions (before rows) (before out) (after out) }
+    ensures { RowsWritten (round_bits form + 4) actions rows.now out.old out.new }
 {
     if form == 1 {
         write_narrow(out, actions, rows);
@@ -67,7 +66,7 @@ fn write_rows(out: &mut [u8], form: u32, actions: usize, rows: &Rows)
 pub fn write_schedule(schedule: &mut [u8], form: u32, n: usize, actions: usize, rows: &Rows)
     requires { (form < 256) × (n ≤ 16) × (actions ≤ 2048) × (schedule_length form actions ≤ length schedule.old)
         × Words (round_bits form + 4) actions rows.now }
-    ensures { ScheduleWritten form n actions (before rows) (before schedule) (after schedule) }
+    ensures { ScheduleWritten form n actions rows.now schedule.old schedule.new }
 {
     write_header(schedule, form, n, actions);
     write_rows(&mut schedule[4..], form, actions, rows);

@@ -4,7 +4,6 @@
 // Their proofs, and those of the two that lend it, are walks by hand that know no count; whoever calls `acted` or `idled` passes a
 // tally by value and needs none.
 ghost use Rattle.std.specs.Prelude.{◌≡◌, ◌≤◌, ◌<◌};
-ghost use Rattle.plan.specs.Contract.{before, after};
 ghost use Rattle.turns.specs.Count.{Countable, Restable, with_idles, with_miss};
 ghost use Rattle.runs.specs.Tally.{no_counts, with_action, with_request, with_steal};
 
@@ -85,7 +84,7 @@ pub fn with_miss(t: Tally, bare: u32) -> Tally
 // `with_action` where the tally stands.
 fn count_action(t: &mut Tally, round: u32, weight: u32)
     requires { Countable t.old }
-    ensures { after t ≡ with_action (before t) round weight }
+    ensures { t.new ≡ with_action t.old round weight }
 {
     *t = with_action(*t, round, weight);
 }
@@ -93,7 +92,7 @@ fn count_action(t: &mut Tally, round: u32, weight: u32)
 // `with_idles` where the tally stands.
 fn count_idles(t: &mut Tally, round: u32, turns: u32)
     requires { Restable t.old turns }
-    ensures { after t ≡ with_idles (before t) round turns }
+    ensures { t.new ≡ with_idles t.old round turns }
 {
     *t = with_idles(*t, round, turns);
 }

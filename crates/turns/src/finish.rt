@@ -1,5 +1,5 @@
 // An action is done (document 01, "Worker and round", rule 1), in whatever kind of run.
-ghost use Rattle.plan.specs.Contract.{Some, ◌⇒◌, before, after};
+ghost use Rattle.plan.specs.Contract.{Some, ◌⇒◌};
 ghost use Rattle.turns.specs.Finish.{Finishing, Finished};
 
 use crate::progress::{Progress, count_done, done_of, take_join};
@@ -9,7 +9,7 @@ use plan::sheet::{Sheet, first_of, parent_of, target_at};
 // action.
 pub fn finish(k: usize, j: usize, plan: &Sheet, progress: &mut Progress) -> bool
     requires { Some (Finishing k j plan.now progress.old) }
-    ensures { Finishing k j (before plan) (before progress) ⇒ Finished j result (after progress) }
+    ensures { Finishing k j plan.now progress.old ⇒ Finished j result progress.new }
 {
     count_done(progress, j);
     let sent = target_at(plan, k);

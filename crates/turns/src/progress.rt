@@ -1,7 +1,6 @@
 // The progress of a run as one array: from 0 on how many actions of each of 256 jobs are done, from 256 on how many rounds were spent on
 // each job's next action, and from 512 on how many joins each of 2,048 actions misses.
 ghost use Rattle.std.specs.Prelude.{◌≡◌, ◌≢◌, ◌-◌, ◌≤◌, ◌<◌};
-ghost use Rattle.plan.specs.Contract.{before, after};
 ghost use Rattle.turns.specs.Progress.{done_of, with_done, spent_at, Spent, missing_at, with_missing};
 ghost use Rattle.plan.specs.Sheet.{cost_at};
 
@@ -17,7 +16,7 @@ const MISSING: usize = 512;
 // How many actions of job j are done.
 pub fn done_of(progress: &Progress, j: usize) -> usize
     requires { j < 256 }
-    ensures { (result ≡ done_of (before progress) j) × (result < 256) }
+    ensures { (result ≡ done_of progress.now j) × (result < 256) }
 {
     wide8(progress[j])
 }
@@ -25,7 +24,7 @@ pub fn done_of(progress: &Progress, j: usize) -> usize
 // One action more of job j is done.
 pub fn count_done(progress: &mut Progress, j: usize)
     requires { (j < 256) × (done_of progress.old j < 255) }
-    ensures { after progress ≡ with_done (before progress) j }
+    ensures { progress.new ≡ with_done progress.old j }
 {
     progress[j] = progress[j] + 1;
 }
@@ -34,7 +33,7 @@ pub fn count_done(progress: &mut Progress, j: usize)
 // none is ever noted.
 pub fn spend(progress: &mut Progress, j: usize, k: usize, plan: &Sheet) -> bool
     requires { (j < 256) × (k < 2048) × (spent_at progress.old j < cost_at plan.now k) × (cost_at plan.now k ≤ 15) }
-    ensures { Spent j k (before plan) (before progress) result (after progress) }
+    ensures { Spent j k plan.now progress.old result progress.new }
 {
     let cost = cost_at(plan, k);
     if cost == 1 {
@@ -52,7 +51,7 @@ pub fn spend(progress: &mut Progress, j: usize, k: usize, plan: &Sheet) -> bool
 // How many joins the action at place k misses.
 pub fn missing_at(progress: &Progress, k: usize) -> usize
     requires { k < 2048 }
-    ensures { (result ≡ missing_at (before progress) k) × (result < 256) }
+    ensures { (result ≡ missing_at progress.now k) × (result < 256) }
 {
     wide8(progress[MISSING + k])
 }
@@ -60,7 +59,7 @@ pub fn missing_at(progress: &Progress, k: usize) -> usize
 // The action at place k misses so many joins.
 pub fn set_missing(progress: &mut Progress, k: usize, joins: u8)
     requires { k < 2048 }
-    ensures { after progress ≡ with_missing (before progress) k joins }
+    ensures { progress.new ≡ with_missing progress.old k joins }
 {
     progress[MISSING + k] = joins;
 }
@@ -68,7 +67,7 @@ pub fn set_missing(progress: &mut Progress, k: usize, joins: u8)
 // A join is sent to the action at place k: how many it misses then.
 pub fn take_join(progress: &mut Progress, k: usize) -> u8
     requires { (k < 2048) × (missing_at progress.old k ≢ 0) }
-    ensures { (result ≡ missing_at (before progress) k - 1) × (after progress ≡ with_missing (before progress) k result) }
+    ensures { (result ≡ missing_at progress.old k - 1) × (progress.new ≡ with_missing progress.old k result) }
 {
     let left = progress[MISSING + k] - 1;
     progress[MISSING + k] = left;

@@ -1,5 +1,5 @@
 // A worker's turn (document 01, "Worker and round", rules 1 to 3; document 02, L5), with its row of the schedule.
-ghost use Rattle.plan.specs.Contract.{Some, ◌⇒◌, before, after};
+ghost use Rattle.plan.specs.Contract.{Some, ◌⇒◌};
 ghost use Rattle.turns.specs.Moments.{Sending, Acting, Sent, Settling, Acted, Turning, TurnTaken};
 
 use crate::finish::finish;
@@ -21,8 +21,8 @@ pub struct Turned {
 // parent goes on the bottom of deque w.
 fn send(k: usize, j: usize, w: usize, plan: &Sheet, progress: &mut Progress, deques: &mut Deques)
     requires { Some (Sending k j w plan.now progress.old deques.old) }
-    ensures { Sending k j w (before plan) (before progress) (before deques)
-        ⇒ Sent j w (after progress) (after deques) }
+    ensures { Sending k j w plan.now progress.old deques.old
+        ⇒ Sent j w progress.new deques.new }
 {
     if finish(k, j, plan, progress) {
         push(deques, w, byte(parent_of(plan, j)));
@@ -40,8 +40,8 @@ fn settle(
     deques: &mut Deques,
 ) -> Turned
     requires { Some (Settling k j w weight plan.now progress.now deques.old) }
-    ensures { Settling k j w weight (before plan) (before progress) (before deques)
-        ⇒ Acted j w result (before progress) (after deques) }
+    ensures { Settling k j w weight plan.now progress.now deques.old
+        ⇒ Acted j w result progress.now deques.new }
 {
     if k + 1 == first_of(plan, j + 1) {
         let worker = take_bottom(deques, w);
@@ -72,8 +72,8 @@ fn act(
     deques: &mut Deques,
 ) -> Turned
     requires { Some (Acting k j w weight plan.now progress.old deques.old) }
-    ensures { Acting k j w weight (before plan) (before progress) (before deques)
-        ⇒ Acted j w result (after progress) (after deques) }
+    ensures { Acting k j w weight plan.now progress.old deques.old
+        ⇒ Acted j w result progress.new deques.new }
 {
     send(k, j, w, plan, progress, deques);
     let child = child_at(plan, k);
@@ -102,8 +102,8 @@ pub fn turn(
     rows: &mut Rows,
 ) -> Turned
     requires { Some (Turning worker round w weight plan.now progress.old deques.old rows.old) }
-    ensures { Turning worker round w weight (before plan) (before progress) (before deques) (before rows)
-        ⇒ TurnTaken worker w result (after progress) (after deques) (after rows) }
+    ensures { Turning worker round w weight plan.now progress.old deques.old rows.old
+        ⇒ TurnTaken worker w result progress.new deques.new rows.new }
 {
     // A worker whose turn it is holds a job, for the walk over the set of holders goes to no other: `else` is never taken.
     let Worker::Holding(held) = worker else {

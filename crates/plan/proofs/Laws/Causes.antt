@@ -41,7 +41,7 @@ number_low : (s : List ℕ) (at : ℕ) → Low (number_at s at)
 unfolding number_at
 number_low s at = then_low (field_at s 1 at) _ (field_low s 1 at) go
   where
-    go : (there at : ℕ) → Low (elim there [ zero ↦ step 0 at | suc one ↦ then (field_at s 8 at) (λ v at. step (suc v) at) ])
+    go : (there at : ℕ) → Low {A = ℕ} (elim there [ zero ↦ step 0 at | suc one ↦ then (field_at s 8 at) (λ v at. step (suc v) at) ])
     go zero at = steps _ _
     go (suc one) at = then_low (field_at s 8 at) _ (field_low s 8 at) (λ v at. steps _ _)
 

@@ -11,7 +11,7 @@ use native.Mathlib.Nat.{not-suc-le-zero}
 use lib.Dec.{T, leb, ltb, eqb, eqb_refl, le→leb, lt→ltb}
 use lib.ListN.{length, get_or, take, set, get_or-replicate, length-set, length-replicate}
 use lib.Seq.{get_or-set_same, get_or-set_other, take_all}
-use Rattle.plan.specs.Test.{both, either, all, count}
+use Rattle.plan.specs.Test.{both, either, count}
 use Rattle.plan.specs.Plan.{Plan, Placed, size, action, total, placed, no_placed, parent, spawn_at, enters, entering}
 use Rattle.plan.specs.Rules.{in_range, join_fits, few_enter, last_sends, join_rules, Accepted}
 use Rattle.plan.specs.Sheet.{child_at, target_at, first_of, job_at, parent_of, spawn_of, Laid, Parented, SpawnedIn}

@@ -7,7 +7,7 @@ use native.Mathlib.Nat.{le_of_suc-le-suc, not-suc-le-zero, add_assoc, zero-add, 
 use native.Mathlib.Decide.{dec_lt}
 use lib.ListN.{length, get_or, take, length-append, get_or-append}
 use lib.Seq.{get_or-append-add}
-use Rattle.plan.specs.Plan.{Action, Job, Plan, Placed, job, size, action, total, placed, placed_in, placed_from, no_action, no_placed}
+use Rattle.plan.specs.Plan.{Action, Job, Plan, Placed, size, action, total, placed, placed_in, placed_from, no_action, no_placed}
 
 -- action i of job j with its job and position
 abbrev pub act : Plan → ℕ → ℕ → Placed

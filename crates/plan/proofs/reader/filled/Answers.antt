@@ -6,7 +6,6 @@ use native.Mathlib.Omega.{arith}
 use mathlib.Core.Path.{◌≡◌, refl, ap, sym, ◌∙◌}
 use mathlib.Core.Bool.{Bool, true, false}
 use mathlib.Core.List.{List}
-use borrow.Author.Rules.{rules}
 use borrow.Author.Tests.{eq-eqb, ne_eqb, lt-ltb, le-ltb}
 use lib.ListN.{length, drop, length-drop}
 use lib.Seq.{take_all}
@@ -15,8 +14,8 @@ use Rattle.plan.specs.Test.{both}
 use Rattle.fields.specs.Field.{step, field_at, step_of, bits, number}
 use Rattle.plan.specs.Reader.{fills}
 use Rattle.fields.proofs.Laws.Bits.{bits_length, number_bits_of, field_read, field_stop}
-use Rattle.plan.proofs.reader.filled.Statement.{statement}
-use Rattle.plan.proofs.reader.filled.Tie as tie
+use Rattle.plan.proofs.reader.filled.Goals as goal
+use Rattle.plan.proofs.reader.filled.Goals.{In-Cut}
 
 both_false : (a : Bool) → both a false ≡ false
 both_false true = refl
@@ -45,38 +44,19 @@ module _ (s : List ℕ) (at w v n : ℕ) (e : field_at s w at ≡ step v n) (sma
       go p q (no h) =
           rw (le-ltb (8 * length s) (at + 8) (omega arith), ne_eqb (n / 8) (length s) (λ d. omega arith))
 
-sub-fill : tie.Need-overflow-sub-fill
-sub-fill c = search rules
-
-cut-requires : tie.Need-cut-requires
-cut-requires c κs = search rules
-
-enum-known-value : tie.Need-enum-known-value
-enum-known-value c = search rules
-
-enum_told : tie.Need-enum-told
-enum_told c = search rules
-
-returns : tie.Need-returns
-returns c =
-    let k = c.before.before in
-    let a = k.before.before.args in
-    let p = k.before.before.requires in
-    absurd (omega (arith, p, (field_stop a.s.now ((8 - a.at % 8) % 8) a.at 1 (sym k.cut.ensures ∙ ap step_of c.enum_told.given.1)).1))
+pub returns-in_default : goal.returns-in_default
+returns-in_default c =
+    let a = c.args in
+    let p = c.requires in
+    absurd (omega (arith, p, (field_stop a.s.now ((8 - a.at % 8) % 8) a.at 1 (sym c.cut.ensures ∙ ap step_of c.in_default.is)).1))
 
 is_filled :
-    (c : tie.After-value) → fills c.before.before.before.before.args.s.now c.before.before.before.before.args.at ≡ both (eqb (c.value.given.0.1.0 / 8) (length c.before.before.before.before.args.s.now)) (eqb c.value.given.0.0 0)
+    (c : In-Cut) → fills c.args.s.now c.args.at ≡ both (eqb (c.in-Cut.next / 8) (length c.args.s.now)) (eqb c.in-Cut.value 0)
 is_filled c =
-    let k = c.before.before in
-    fills_is _ _ ((8 - k.before.before.args.at % 8) % 8) _ _ (sym k.cut.ensures ∙ ap step_of c.value.given.1) (omega arith) (omega arith)
+    fills_is _ _ ((8 - c.args.at % 8) % 8) _ _ (sym c.cut.ensures ∙ ap step_of c.in-Cut.is) (omega arith) (omega arith)
 
-returns-2 : tie.Need-returns-2
-returns-2 c = rw (is_filled c.before.before, ne_eqb _ 0 c.if1.true, both_false)
+pub returns-then-value-ne0 : goal.returns-then-value-ne0
+returns-then-value-ne0 c = rw (is_filled (goal.at.returns-then-value-ne0 c).In-Cut, ne_eqb _ 0 c.if-value-ne0.true, both_false)
 
-returns-3 : tie.Need-returns-3
-returns-3 c = rw (is_filled c.before.before, eq-eqb _ 0 c.if1.false, both_true)
-
-pub filled_spec : {M : Type 1} → statement M
-filled_spec =
-    tie.close
-    (tie.spec sub-fill cut-requires enum-known-value enum_told returns returns-2 returns-3)
+pub returns : goal.returns
+returns c = rw (is_filled (goal.at.returns c).In-Cut, eq-eqb _ 0 c.if-value-ne0.false, both_true)

@@ -4,7 +4,6 @@ use Prim.Native.Nat.{ℕ, ◌*◌, ◌^◌, ◌≤◌, ◌<◌}
 use mathlib.Core.Path.{◌≡◌, sym, ◌∙◌}
 use mathlib.Core.Bool.{Bool, true, false, not}
 use mathlib.Core.List.{List}
-use borrow.Author.Rules.{rules}
 use borrow.Author.Tests.{not-true, not-false}
 use lib.ListN.{length}
 use lib.Dec.{T}
@@ -21,8 +20,9 @@ use Rattle.plan.specs.Found.{ReadPlan}
 use Rattle.plan.proofs.Laws.Steps.{plan_next}
 use Rattle.plan.proofs.Laws.Accepted.{read_stop, read_fill, read_spawn, read_join, read_all}
 use Rattle.plan.proofs.Laws.Sheets.{laid_all, planned_by}
-use Rattle.plan.proofs.reader.read_into.Statement.{statement}
-use Rattle.plan.proofs.reader.read_into.Tie as tie
+use mathlib.Core.Path.{ap}
+use Rattle.plan.proofs.reader.read_into.Goals as goal
+use Rattle.plan.proofs.reader.read_into.Goals.{After-read_body, In-Is}
 
 told : (x : Step Read) (plan plan' : List ℕ) (r b : Body) → r ≡ b → PlanRead x plan plan' r → PlanRead x plan plan' b
 told x plan plan' r b e h = rw e at h
@@ -81,105 +81,54 @@ module _ (s : List ℕ) (form jobs actions next : ℕ) (plan : List ℕ) (b : Bo
               }
 
 -- the array that `read_body` leaves, and that it has the plan read
-abbrev new : tie.After-read-body → List ℕ
-new c = c.read-body.new.1.0
+abbrev new : (c : After-read_body) → List ℕ
+new c = c.read_body.new.plan
 
-abbrev read : tie.After-form → tie.After-read-body
-read c = c.before.before
-
-abbrev start : tie.After-form → tie.Start
-start c = c.before.before.before.before.before
+abbrev new-In-Is : (c : In-Is) → List ℕ
+new-In-Is c = c.read_body.new.plan
 
 body_read :
-    (c : tie.After-form) → Body-read (start c).args.s.now c.form.given.0.0 c.form.given.0.1.0 c.form.given.0.1.1.0 c.form.given.0.1.1.1.0 (new (read c))
-body_read c = go (told _ (start c).args.plan.now (new (read c)) _ _ c.form.given.1 (read c).read-body.ensures)
+    (c : In-Is) → Body-read c.args.s.now c.in-Is.form c.in-Is.jobs c.in-Is.actions c.in-Is.next (new-In-Is c)
+body_read c = go (told _ c.args.plan.now (new-In-Is c) _ _ c.in-Is.is c.read_body.ensures)
   where
-    go : PlanRead (plan_at (start c).args.s.now) (start c).args.plan.now (new (read c)) (Body.Is c.form.given.0.0 c.form.given.0.1.0 c.form.given.0.1.1.0 c.form.given.0.1.1.1.0)
-        → Body-read (start c).args.s.now c.form.given.0.0 c.form.given.0.1.0 c.form.given.0.1.1.0 c.form.given.0.1.1.1.0 (new (read c))
+    go : PlanRead (plan_at c.args.s.now) c.args.plan.now (new-In-Is c) (Body.Is c.in-Is.form c.in-Is.jobs c.in-Is.actions c.in-Is.next)
+        → Body-read c.args.s.now c.in-Is.form c.in-Is.jobs c.in-Is.actions c.in-Is.next (new-In-Is c)
     go (p, e, n, a, w) =
-        record { p = p; is = e; laid = rw w (laid_all (start c).args.plan.now p _ _ (start c).requires.0 (plan_next _ _ _ e).0 n a) }
+        record { p = p; is = e; laid = rw w (laid_all c.args.plan.now p _ _ c.requires.0 (plan_next _ _ _ e).0 n a) }
 
-read-body-requires : tie.Need-read-body-requires
-read-body-requires c κs = search rules
+pub filled-requires : goal.filled-requires
+filled-requires c = ends _ _ _ _ _ _ (body_read c)
 
-enum-known-cause : tie.Need-enum-known-cause
-enum-known-cause c = search rules
-
-enum-known-form : tie.Need-enum-known-form
-enum-known-form c = search rules
-
-filled-requires : tie.Need-filled-requires
-filled-requires c κs = ends _ _ _ _ _ _ (body_read c.before)
-
--- the places before
-abbrev jobs-of : tie.After-filled → tie.After-form
-jobs-of c = c.before.before
-
-returns : tie.Need-returns
+pub returns-then-not-filled : goal.returns-then-not-filled
 unfolding read_plan
-returns c =
-    let f = c.before in
-    no_fill _ _ _ _ _ _ (body_read (jobs-of f)) _ f.filled.ensures c.if1.true
+returns-then-not-filled c =
+    no_fill _ _ _ _ _ _ (body_read (goal.at.returns-then-not-filled c).In-Is) _ c.filled.ensures (ap not c.if-not-filled.true)
 
-spawn-rules-requires : tie.Need-spawn-rules-requires
-spawn-rules-requires c κs =
-    let b = body_read (jobs-of c.before.before) in
+pub spawn_rules-requires : goal.spawn_rules-requires
+spawn_rules-requires c =
+    let b = body_read (goal.at.spawn_rules-requires c).In-Is in
     (b.p, b.laid)
 
-returns-2 : tie.Need-returns-2
+pub returns-then-not-spawn_rules : goal.returns-then-not-spawn_rules
 unfolding read_plan
-returns-2 c =
-    let w = c.before in
-    let i = w.before.before in
-    let f = i.before in
-    no_spawns _ _ _ _ _ _ (body_read (jobs-of f)) _ f.filled.ensures i.if1.false _ _ w.spawn-rules.ensures c.if2.true
+returns-then-not-spawn_rules c =
+    no_spawns _ _ _ _ _ _ (body_read (goal.at.returns-then-not-spawn_rules c).In-Is) _ c.filled.ensures (ap not c.if-not-filled.false) _ _ c.spawn_rules.ensures (ap not c.if-not-spawn_rules.true)
 
-join-rules-requires : tie.Need-join-rules-requires
-join-rules-requires c κs =
-    let k = c.before.before in
-    let w = k.before in
-    let i = w.before.before in
-    let f = i.before in
-    let b = body_read (jobs-of f) in
-    ((b.p, spawned _ _ _ _ _ _ b _ f.filled.ensures i.if1.false _ _ w.spawn-rules.ensures k.if2.false), (start (jobs-of f)).requires.1)
+pub join_rules-requires : goal.join_rules-requires
+join_rules-requires c =
+    let b = body_read (goal.at.join_rules-requires c).In-Is in
+    ((b.p, spawned _ _ _ _ _ _ b _ c.filled.ensures (ap not c.if-not-filled.false) _ _ c.spawn_rules.ensures (ap not c.if-not-spawn_rules.false)), c.requires.1)
 
-returns-3 : tie.Need-returns-3
+pub returns-then-not-join_rules : goal.returns-then-not-join_rules
 unfolding read_plan
-returns-3 c =
-    let y = c.before in
-    let k = y.before.before.before in
-    let w = k.before in
-    let i = w.before.before in
-    let f = i.before in
-    no_joins _ _ _ _ _ _ (body_read (jobs-of f)) _ f.filled.ensures i.if1.false _ _ w.spawn-rules.ensures k.if2.false _ _ y.join-rules.ensures c.if3.true
+returns-then-not-join_rules c =
+    no_joins _ _ _ _ _ _ (body_read (goal.at.returns-then-not-join_rules c).In-Is) _ c.filled.ensures (ap not c.if-not-filled.false) _ _ c.spawn_rules.ensures (ap not c.if-not-spawn_rules.false) _ _ c.join_rules.ensures (ap not c.if-not-join_rules.true)
 
-returns-4 : tie.Need-returns-4
+pub returns-in-Refused : goal.returns-in-Refused
 unfolding read_plan
-returns-4 c =
-    let z = c.before in
-    read_stop z.before.before.before.before.before.args.s.now _ (rw z.cause.given.1 at z.before.before.read-body.ensures)
+returns-in-Refused c =
+    read_stop c.args.s.now _ (rw c.in-Refused.is at c.read_body.ensures)
 
-returns-5 : tie.Need-returns-5
-returns-5 c =
-    let y = c.before in
-    let k = y.before.before.before in
-    let w = k.before in
-    let i = w.before.before in
-    let f = i.before in
-    all_kept _ _ _ _ _ _ (body_read (jobs-of f)) _ f.filled.ensures i.if1.false _ _ w.spawn-rules.ensures k.if2.false _ _ y.join-rules.ensures c.if3.false
-
-pub read_into_spec : {M : Type 1} → statement M
-read_into_spec =
-    tie.close
-    (tie.spec
-    read-body-requires
-    enum-known-cause
-    enum-known-form
-    filled-requires
-    returns
-    spawn-rules-requires
-    returns-2
-    join-rules-requires
-    returns-3
-    returns-4
-    returns-5)
+pub returns-else-not-join_rules : goal.returns-else-not-join_rules
+returns-else-not-join_rules c =
+    all_kept _ _ _ _ _ _ (body_read (goal.at.returns-else-not-join_rules c).In-Is) _ c.filled.ensures (ap not c.if-not-filled.false) _ _ c.spawn_rules.ensures (ap not c.if-not-spawn_rules.false) _ _ c.join_rules.ensures (ap not c.if-not-join_rules.false)

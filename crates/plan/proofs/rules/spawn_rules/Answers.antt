@@ -1,0 +1,24 @@
+-- `plan::rules::spawn_rules` meets its contract, by what the two loops tell (`Laws.Recording`).
+use native.Mathlib.Omega.{arith}
+use mathlib.Core.Path.{sym}
+use Rattle.plan.specs.Rules.{spawn_rules}
+use Rattle.plan.proofs.Laws.Lists.{false_of}
+use Rattle.plan.proofs.Laws.Counts.{passed, not_passed}
+use Rattle.plan.proofs.Laws.Spawning.{jobs_in_range}
+use Rattle.plan.proofs.Laws.Recording.{spawns_told}
+use mathlib.Core.Path.{ap}
+use mathlib.Core.Bool.{not}
+use Rattle.plan.proofs.rules.spawn_rules.Goals as goal
+
+pub returns-then-not-spawns_kept : goal.returns-then-not-spawns_kept
+returns-then-not-spawns_kept c = λ p g.
+    let k = c.spawns_kept in
+    (sym (false_of (spawn_rules p) ((k.ensures p g).broken (not_passed k.result (ap not c.if-not-spawns_kept.true)))), λ x. absurd x)
+
+pub all_spawned-requires : goal.all_spawned-requires
+all_spawned-requires c = let x = c.requires in omega (arith, x.1.count, jobs_in_range x.0 x.1.laid.range)
+
+pub returns : goal.returns
+returns c = λ p g.
+    let k = c.spawns_kept in
+    spawns_told p _ _ _ g.count g.all ((k.ensures p g).kept (passed k.result (ap not c.if-not-spawns_kept.false))) _ c.all_spawned.ensures
