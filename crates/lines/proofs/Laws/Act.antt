@@ -121,7 +121,7 @@ module _ {P : Shape} {next next' : ℕ → ℕ} {j : ℕ} (act : Act P next next
     wakes_iff o = (
       λ k. (stalled k, k.ready),
       λ t. record {
-        sends = (Dec.not_not (ℕ_discrete (join j (next j)) (suc (next (parent j))))).0
+        sends = (Dec.not-not (ℕ_discrete (join j (next j)) (suc (next (parent j))))).0
             (λ f. t.0 (was_ready (parent j) (parent_stays o).0 (λ p. f p.1) t.1));
         ready = t.1;
       },
