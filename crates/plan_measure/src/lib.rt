@@ -1,10 +1,11 @@
 // The measures of a plan (document 01, "Plan"; document 02, L5 and L7): its number of actions, T1, T∞, S1, and T1 divided by T∞.
 #![tactic(auto)]
+
 ghost use Rattle.std.specs.Prelude.{suc, ◌≡◌, length};
 ghost use Rattle.plan.specs.Contract.{Some, ◌⇒◌};
 ghost use Rattle.plan.specs.Sheet.{target_at, PlanIn};
 ghost use Rattle.plan_measure.specs.Measure.{measures_of, measures, told, Divided};
-ghost use Rattle.plan_measure.specs.Measure.{work as workOf, longest as longestOf, heaviest as heaviestOf};
+ghost use Rattle.plan_measure.specs.Measure.{work as work_of, longest as longest_of, heaviest as heaviest_of};
 ghost use Rattle.plan_measure.specs.Times.{at, PlanOf, ActionsOf, JobGiven, JobTimed, SendGiven, Sent, PassGiven, Passed};
 
 use numbers::{larger, later, units, units16};
@@ -32,7 +33,7 @@ pub enum Measured {
 // T1: the costs of the actions, added up.
 pub fn work(actions: usize, plan: &Sheet) -> u32
     requires { Some (ActionsOf actions plan.now) }
-    ensures { ActionsOf actions plan.now ⇒ (λ p. result ≡ workOf p) }
+    ensures { ActionsOf actions plan.now ⇒ (λ p. result ≡ work_of p) }
 {
     let mut sum = 0;
     let mut k = 0;
@@ -46,7 +47,7 @@ pub fn work(actions: usize, plan: &Sheet) -> u32
 // S1: each job's path weight is its frame and its parent's path weight.
 fn heaviest(jobs: usize, plan: &Sheet) -> u32
     requires { Some (PlanOf jobs plan.now) }
-    ensures { PlanOf jobs plan.now ⇒ (λ p. result ≡ heaviestOf p) }
+    ensures { PlanOf jobs plan.now ⇒ (λ p. result ≡ heaviest_of p) }
 {
     let root = frame_of(plan, 0);
     let mut path = [0u32; 256];
@@ -160,7 +161,7 @@ fn time_job(
 // those below it. Times are at most T∞, which is at most 15 × 2,048: 16 bits halve the arrays.
 fn longest(jobs: usize, plan: &Sheet) -> u32
     requires { Some (PlanOf jobs plan.now) }
-    ensures { PlanOf jobs plan.now ⇒ (λ p. result ≡ longestOf p) }
+    ensures { PlanOf jobs plan.now ⇒ (λ p. result ≡ longest_of p) }
 {
     let mut time = [0u16; 2048];
     let mut late = [0u16; 2048];

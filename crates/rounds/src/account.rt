@@ -3,7 +3,7 @@
 ghost use Rattle.std.specs.Prelude.{◌≡◌, true, ◌≤◌, ◌<◌, ltb};
 ghost use Rattle.crew.specs.Crew.{member, Marked};
 ghost use Rattle.turns.specs.Count.{Restable};
-ghost use Rattle.rounds.specs.Account.{opened as opened_of, rested as restedOf, is_job, bare_of};
+ghost use Rattle.rounds.specs.Account.{opened as opened_of, rested as rested_of, is_job, bare_of};
 ghost use Rattle.rounds.specs.Account.{Turnable, TurnNoted, Layable, LayNoted, Servable, ServiceNoted};
 
 use crew::set::{others, with, without};
@@ -78,7 +78,7 @@ pub fn turned(
 // After the idle turns that end the first half of a round.
 pub fn rested(account: Account, round: usize, turns: usize) -> Account
     requires { (round < 4294967296) × (turns ≤ 16) × Restable account.tally turns }
-    ensures { result ≡ restedOf account round turns }
+    ensures { result ≡ rested_of account round turns }
 {
     Account {
         weight: account.weight,

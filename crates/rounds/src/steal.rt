@@ -3,7 +3,7 @@ ghost use Rattle.std.specs.Prelude.{◌≡◌};
 ghost use Rattle.plan.specs.Contract.{Some, ◌⇒◌};
 ghost use Rattle.crew.specs.Crew.{member};
 ghost use Rattle.crew.specs.Line.{waiting_at, LiningUp, LinedUp, Gone, Beside};
-ghost use Rattle.runs.specs.Steal.{thief as thiefOf};
+ghost use Rattle.runs.specs.Steal.{thief as thief_of};
 ghost use Rattle.deques.specs.Dequed.{Dequed, TookTop};
 ghost use Rattle.turns.specs.Count.{Countable};
 ghost use Rattle.rounds.specs.Account.{LayNoted, Serving, ServiceNoted};
@@ -52,7 +52,7 @@ pub fn serve(account: Account, v: usize, lines: &mut Lines, deques: &mut Deques)
 
 // The worker that was served: it holds the job that was taken, or is idle.
 pub fn thief(taken: Taken) -> Worker
-    ensures { result ≡ thiefOf taken }
+    ensures { result ≡ thief_of taken }
 {
     match taken {
         Taken::Job(j) => Worker::Holding(j),

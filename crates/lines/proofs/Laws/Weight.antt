@@ -107,14 +107,14 @@ module _ (P : Shape) where
         let o = ok.older (suc j) h b in
         ap (λ p. frame (suc j) + p) (enough j (parent (suc j)) (parent (suc j)) (omega arith) (le_refl (parent (suc j))) (omega arith))
 
-    above_share : (d x h : ℕ) → h < jobs → h ≤ d → Above P x h → frame x ≤ share d h x
+    above_share : (x d h : ℕ) → h < jobs → h ≤ d → Above P x h → frame x ≤ share d h x
     unfolding share
-    above_share d x h b l (self e) = own d x h e
-    above_share zero x h b l (up m a) = absurd (omega arith)
-    above_share (suc d) x zero b l (up m a) = absurd (omega arith)
-    above_share (suc d) x (suc h) b l (up m a) =
+    above_share x d h b l (self e) = own d x h e
+    above_share x zero h b l (up m a) = absurd (omega arith)
+    above_share x (suc d) zero b l (up m a) = absurd (omega arith)
+    above_share x (suc d) (suc h) b l (up m a) =
         let o = ok.older (suc h) m b in
-        let r = above_share d x (parent (suc h)) (omega arith) (omega arith) a in
+        let r = above_share x d (parent (suc h)) (omega arith) (omega arith) a in
         omega arith
 
     module _ {next : ℕ → ℕ} {line : ℕ → List ℕ} (leaves : Leaves P next line) (size : ℕ) (past : (w : ℕ) → size ≤ w → line w ≡ []) where
@@ -124,7 +124,7 @@ module _ (P : Shape) where
           let (w, h, l, e, s) = cover P ok next line leaves x a in
           let b : h < jobs = leaves.known w h l e in
           let i : w < size = lt_of_not-le (λ (g : size ≤ w). cons-ne-nil h l (sym e ∙ past w g)) in
-          le_trans (above_share h x h b (le_refl h) s) (rw e at (sum_term size (λ v. part (line v) x) w i))
+          le_trans (above_share x h h b (le_refl h) s) (rw e at (sum_term size (λ v. part (line v) x) w i))
 
       pub held_reach : held next ≤ sum size (λ w. reach (line w))
       unfolding held only

@@ -40,7 +40,7 @@ use Rattle.pools.proofs.Laws.Coursed.{Fit as PoolFit}
 use Rattle.pools.proofs.Laws.Claimed.{pool_read, pool_front}
 use Rattle.scheduler.specs.Entry.{Result, Made, resulted, made, read_into, run_into}
 use Rattle.scheduler.proofs.Laws.RunBytes.{run_fits}
-use Rattle.pool_runner.specs.Entry.{made_of, read_into as readFrom, pool_into}
+use Rattle.pool_runner.specs.Entry.{made_of, read_into as read_from, pool_into}
 
 -- what each kind of run makes of a plan
 abbrev pub run_made : ℕ → List ℕ → Plan → Made
@@ -139,7 +139,7 @@ module _ (plan : List ℕ) (n : ℕ) (choices schedule : List ℕ) where
 
 pub pool_left : (plan : List ℕ) (n : ℕ) (schedule : List ℕ) (t : Tally) → (pool_into plan n schedule).answer ≡ accepted t
     → Left plan n (pool_made n) (pool_into plan n schedule) t
-unfolding pool_into readFrom pooled resulted
+unfolding pool_into read_from pooled resulted
 pool_left plan n schedule t answer = by_plan (read_plan plan) refl
   where
     refuses : {P : Type 0} (k : ℕ) → (pool_into plan n schedule).answer ≡ refused k → P
@@ -148,11 +148,11 @@ pool_left plan n schedule t answer = by_plan (read_plan plan) refl
     by_workers : (x : Read) → read_plan plan ≡ accepted x → (b : Bool) → workers_fit n ≡ b → Left plan n (pool_made n) (pool_into plan n schedule) t
     by_workers x e false f =
         let no : pooled (accepted x) n ≡ refused 7 = rw (pooled, f) in
-        refuses 7 (ap (λ o. (readFrom o n schedule).answer) e ∙ ap (λ o. (resulted x.form (made_of o) n schedule).answer) no)
+        refuses 7 (ap (λ o. (read_from o n schedule).answer) e ∙ ap (λ o. (resulted x.form (made_of o) n schedule).answer) no)
     by_workers x e true f =
         let ran : pooled (accepted x) n ≡ accepted (pool x.plan n) = rw (pooled, f) in
         let whole : pool_into plan n schedule ≡ resulted x.form (accepted (pool_made n x.plan)) n schedule =
-        ap (λ o. readFrom o n schedule) e ∙ ap (λ o. resulted x.form (made_of o) n schedule) ran in
+        ap (λ o. read_from o n schedule) e ∙ ap (λ o. resulted x.form (made_of o) n schedule) ran in
         let (counted, written) = put x.form n (pool_made n x.plan) schedule t (pool_into plan n schedule) whole answer in
         let (some, most) = workers_range n (of_true _ f) in
         let fit : PoolFit x.plan n = record { plan = accepted_kept plan x e; some = some; most = most } in

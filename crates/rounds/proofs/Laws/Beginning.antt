@@ -13,7 +13,7 @@ use native.Mathlib.Decide.{ℕ_discrete}
 use lib.Dec.{ltb}
 use lib.ListN.{length, get_or, set, replicate, length-replicate, get_or-replicate, length-set}
 use lib.Seq.{get_or-set_same, get_or-set_other}
-use Rattle.plan.specs.Plan.{Plan, total, placed, no_placed, entering as enteringOf}
+use Rattle.plan.specs.Plan.{Plan, total, placed, no_placed, entering as entering_of}
 use Rattle.plan.specs.Sheet.{frame_of}
 use Rattle.plan.proofs.Laws.Lists.{array_at, zeros_at}
 use Rattle.plan.proofs.Laws.Placed.{placed_length, placed_at, place_below}
@@ -73,8 +73,8 @@ first_progressed {entering = entering} {p = p} g s = record {
       let e = placed_length p in
       let b = place_below p j i h k in
       s.misses (place p j i) (omega (arith, g.all))
-      ∙ array_at (λ a. enteringOf p a.job a.position) entering (placed p) no_placed (total p) g.entered e (place p j i) b
-      ∙ ap (λ a. enteringOf p a.job a.position) (placed_at p j i h k) ∙ sym (missing_start p j i);
+      ∙ array_at (λ a. entering_of p a.job a.position) entering (placed p) no_placed (total p) g.entered e (place p j i) b
+      ∙ ap (λ a. entering_of p a.job a.position) (placed_at p j i h k) ∙ sym (missing_start p j i);
 }
 
 first_queued : (p : Plan) (hi : ℕ) → Queued hi (start p).workers (replicate 32 0)

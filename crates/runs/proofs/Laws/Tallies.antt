@@ -15,7 +15,7 @@ use Rattle.runs.specs.declared.worker.Worker.TheVariants.{Idle, Holding, Waiting
 use Rattle.runs.specs.Setting.{Setting, count_in}
 use Rattle.runs.specs.State.{State, start}
 use Rattle.runs.specs.Turn.{turn, turn_of}
-use Rattle.runs.specs.Steal.{laid as laidBy, lay, taken_from, given, serve}
+use Rattle.runs.specs.Steal.{laid as laid_by, lay, taken_from, given, serve}
 use Rattle.runs.specs.Parts.{pick_of}
 use Rattle.runs.specs.Trace.{Stage, turning, laying, serving, Trace, begins, turned, goes_on, laid, all_laid, served, next_round}
 use Rattle.runs.proofs.Laws.Fit.{Fit, count_most, count_within, count_is}
@@ -55,7 +55,7 @@ serve_requests v zero s = refl
 serve_requests v (suc w) s = (service_keeps (taken_from s v) s.tally).3
 
 lay_requests : (S : Setting) (r w : ℕ) (x : Worker) (s : State) → (lay S r w x s).tally.requests ≤ suc s.tally.requests
-unfolding lay laidBy
+unfolding lay laid_by
 lay_requests S r w Idle s = omega arith
 lay_requests S r w (Holding j) s = omega arith
 lay_requests S r w (Waiting v l) s = omega arith

@@ -18,7 +18,7 @@ use Rattle.runs.specs.declared.worker.Worker.{Worker}
 use Rattle.runs.specs.declared.worker.Worker.TheVariants.{Idle, Holding, Waiting}
 use Rattle.runs.specs.Setting.{Setting, count_in}
 use Rattle.runs.specs.State.{State, worker_of, start}
-use Rattle.runs.specs.Steal.{laid as laidBy, lay, taken_from, given, serve, waits, waiting}
+use Rattle.runs.specs.Steal.{laid as laid_by, lay, taken_from, given, serve, waits, waiting}
 use Rattle.runs.specs.Parts.{Picks, pick_of}
 use Rattle.runs.specs.Trace.{Stage, Trace, begins, turned, goes_on, laid, all_laid, served, next_round}
 use Rattle.runs.proofs.Laws.Fit.{Fit, count_next}
@@ -78,7 +78,7 @@ module _ {S : Setting} (fit : Fit S) where
   open S use {plan}
 
   pub requests_sum : {r : ℕ} {b : List Worker} {g : Stage} {s : State} → Trace S r b g s → Settled (count_in S r) s
-  unfolding lay laidBy start
+  unfolding lay laid_by start
   requests_sum begins = omega (arith, waiting_none (count_in S 1) (start plan).workers (start_calm plan))
   requests_sum (turned {r} {k} {s = s} t h) =
       let same = turned_workers (λ ws. waiting (count_in S r) ws ≡ waiting (count_in S r) s.workers) t refl

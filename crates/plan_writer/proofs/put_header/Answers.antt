@@ -1,0 +1,8 @@
+-- `plan_writer::put_header` meets its contract.
+use Rattle.plan_writer.proofs.Laws.Numbers.{header_field}
+use borrow.Author.Rules.{rules}
+use Rattle.plan_writer.proofs.put_header.Goals as goal
+
+pub returns : goal.returns
+returns c =
+    rw (← header_field c.args.frame c.args.size c.requires.1 c.requires.2) c.put.ensures

@@ -1,0 +1,77 @@
+-- `plan_writer::write_plan` meets its contract. The loop's invariant: the bits of the actions before place k are written.
+use Prim.Native.Nat.{ℕ, suc, ◌+◌, ◌*◌, ◌-◌, ◌≤◌}
+use mathlib.Core.Path.{◌≡◌}
+use mathlib.Core.List.{List, ◌++◌}
+use native.Mathlib.Numerals.{add-one}
+use native.Mathlib.Omega.{arith}
+use lib.ListN.{length, length-append}
+use Rattle.fields.specs.Field.{bits_of}
+use Rattle.fields.specs.Sink.{Put}
+use Rattle.plan_writer.specs.ActionBits.{action_bits}
+use Rattle.fields.proofs.Laws.Puts.{empty, empty_sound, put_none, put_length, put_both}
+use Rattle.plan.proofs.Laws.Found.{ruled_few}
+use Rattle.plan_writer.proofs.Laws.Numbers.{plan_written}
+use Rattle.plan_writer.proofs.Laws.PlanBits.{up_to, up_to_rises, plan_up_to, plan_room, place_writable}
+use Rattle.plan_writer.proofs.write_plan.Goals as goal
+use Rattle.plan_writer.proofs.write_plan.Goals.{At-loop-k, Start}
+
+-- the bits of the actions before place k
+abbrev before : (s : Start) → ℕ → List ℕ
+before s k = up_to (action_bits s.args.form s.args.plan.now) k
+
+-- the room for all bits
+room : (s : Start) → 17 + length (before s s.args.actions) ≤ 8 * length s.args.out.now
+room s = plan_room s.requires.1.given s.args.form (length s.args.out.now) s.requires.1.room
+
+abbrev before-At-loop-k : (s : At-loop-k) → ℕ → List ℕ
+before-At-loop-k s k = up_to (action_bits s.args.form s.args.plan.now) k
+
+-- all that is written at the loop's head
+written : (l : At-loop-k) → Put l.args.out.now empty ((bits_of 8 l.args.form ++ bits_of 9 l.args.jobs) ++ before-At-loop-k l l.loop-k.k) l.loop-k.out l.loop-k.sink
+written l = put_both (put_both l.put-sink.ensures l.put-sink-2.ensures) l.loop-k.invariant.1
+
+reach : (l : At-loop-k) → (8 * l.loop-k.sink.bytes + l.loop-k.sink.bits ≡ 17 + length (before-At-loop-k l l.loop-k.k)) × (length l.loop-k.out ≡ length l.args.out.now)
+reach l = let w = written l in (omega (arith, put_length (empty_sound _) w), w.same)
+
+pub put-sink-requires : goal.put-sink-requires
+put-sink-requires c = (empty_sound _, (omega arith, c.requires.1.byte, omega (arith, room (goal.at.put-sink-requires c).Start)))
+
+pub put-sink-requires-2 : goal.put-sink-requires-2
+put-sink-requires-2 c =
+    let w = c.put-sink.ensures in
+    (w.sound, (omega arith, omega (arith, ruled_few _ _ _ _ c.requires.1.given), omega (arith, room (goal.at.put-sink-requires-2 c).Start, put_length (empty_sound _) w, w.same)))
+
+pub loop-k-init : goal.loop-k-init
+loop-k-init c = (omega arith, put_none _ _ c.put-sink-2.ensures.sound)
+
+pub put_action-sink-requires : goal.put_action-sink-requires
+put_action-sink-requires c =
+    let f = action_bits c.args.form c.args.plan.now in (
+      c.loop-k.invariant.1.sound,
+      place_writable c.requires.1.given c.loop-k.k c.loop-k-test.true,
+      omega (arith, room (goal.at.put_action-sink-requires c).Start, reach (goal.at.put_action-sink-requires c).At-loop-k, up_to_rises f (suc c.loop-k.k) c.args.actions c.loop-k-test.true, length-append (up_to f c.loop-k.k) (f c.loop-k.k)),
+    )
+
+pub overflow_add-k : goal.overflow_add-k
+overflow_add-k c = omega (arith, c.ranges)
+
+pub loop-k-smaller : goal.loop-k-smaller
+loop-k-smaller c = omega arith
+
+pub loop-k-preserved : goal.loop-k-preserved
+loop-k-preserved c = (omega arith, rw add-one (put_both c.loop-k.invariant.1 c.put_action-sink.ensures))
+
+pub finish-requires : goal.finish-requires
+finish-requires c =
+    let e : c.loop-k.k ≡ c.args.actions = omega arith in
+    (c.loop-k.invariant.1.sound, omega (arith, room (goal.at.finish-requires c).Start, rw e at (reach (goal.at.finish-requires c).At-loop-k)))
+
+pub shape_of-out : goal.shape_of-out
+shape_of-out c = omega (arith, reach (goal.at.shape_of-out c).At-loop-k, c.finish.ensures.same)
+
+pub returns : goal.returns
+returns c p g =
+    let a = c.args in
+    let e : c.loop-k.k ≡ a.actions = omega arith in
+    plan_written a.out.now c.loop-k.out _ c.loop-k.sink _ a.form p
+    (rw (plan_up_to g a.form) (rw e at (written (goal.at.returns c).At-loop-k))) c.finish.ensures
