@@ -8,13 +8,9 @@ use lib.Bits.{and_le_r}
 use lib.Dec.{eqb}
 use Rattle.crew.specs.Crew.{whether, member}
 use Rattle.crew.proofs.Laws.Lows.{tz_lowest, tz_rest, lowest_one}
-use Rattle.crew.proofs.set.rest.Statement.{statement}
-use Rattle.crew.proofs.set.rest.Tie as tie
+use Rattle.crew.proofs.set.rest.Goals as goal
 
-sub-result : tie.Need-overflow-sub-result
-sub-result c = search rules
-
-returns : tie.Need-returns
+pub returns : goal.returns
 returns c =
     let s = c.args.set in
     let p = c.requires in
@@ -23,6 +19,3 @@ returns c =
       each = λ w u low. tz_rest 32 s u p f
           ∙ ap (λ (t : ℕ). whether (eqb u t) false (member s u)) (lowest_one s _ w (tz_lowest 32 s p f) low);
     }
-
-pub rest_spec : {M : Type 1} → statement M
-rest_spec = tie.close (tie.spec sub-result returns)

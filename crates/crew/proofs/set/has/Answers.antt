@@ -1,0 +1,8 @@
+-- `set::has` meets its contract.
+use mathlib.Core.Path.{sym}
+use borrow.Author.Rules.{rules}
+use Rattle.crew.proofs.Laws.Members.{member_digit}
+use Rattle.crew.proofs.set.has.Goals as goal
+
+pub returns : goal.returns
+returns c = sym (member_digit _ _)
