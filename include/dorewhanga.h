@@ -47,7 +47,6 @@
  *     15  a plan of form 2 that is to be turned into form 1 has a cost other than 1
  *     17  of two plans that are to be built together: the new root's frame is 0 or above 65,535, or the result would have
  *         more than 256 jobs or 2,048 actions
- *     18  no number of workers from 1 to 16 runs the plan from a pool within the rounds that are asked for
  *
  * From Rust, declare the functions in an `extern "C"` block and the structs with `#[repr(C)]`: `const uint8_t *` is
  * `*const u8`, `size_t` is `usize`, and `as_ptr()`, `as_mut_ptr()` and `len()` of a slice meet what is asked above.
@@ -102,20 +101,6 @@ typedef struct {
     uint32_t idle_victim; /* misses whose victim held none */
     uint32_t peak;        /* the largest weight of living frames at the start or after any turn, in units of 64 KiB */
 } dw_tally;
-
-/* What dw_deadline answers. All that is said of dw_pool's tally above holds of it. */
-typedef struct {
-    uint32_t refused;
-    uint32_t workers;     /* the fewest workers that are fast enough, 1 to 16 */
-    uint32_t rounds;      /* from here on the tally of their run, as dw_tally has it */
-    uint32_t actions;
-    uint32_t idle;
-    uint32_t requests;
-    uint32_t steals;
-    uint32_t bare;
-    uint32_t idle_victim;
-    uint32_t peak;
-} dw_fewest;
 
 /* Writes the open table of a plan. `plan` is the whole plan and nothing more. The table has one row an action, in job
    then position order, of five numbers: the job, its frame, the child's number plus 1 or 0 for none, the position that
@@ -177,13 +162,6 @@ dw_tally dw_run(const uint8_t *plan, size_t plan_len, uint32_t workers, const ui
    nobody holds it.
    Refusals, in this order: 1, 2 and 3 as the fields are read, 6, 4, 5, 7, 9. */
 dw_tally dw_pool(const uint8_t *plan, size_t plan_len, uint32_t workers, uint8_t *schedule, size_t schedule_len);
-
-/* Finds the fewest workers, from 1 to 16, that run a plan from one pool within `rounds` rounds, and writes the schedule of
-   their run; it is the run that dw_pool gives for so many workers. Its rounds are at most `rounds`, and every smaller
-   number of workers takes more rounds than that. More workers can be slower, so with more than the answer the plan may
-   again take too long. Nothing is written before the answer is known.
-   Refusals, in this order: 1, 2 and 3 as the fields are read, 6, 4, 5, 18, 9. */
-dw_fewest dw_deadline(const uint8_t *plan, size_t plan_len, uint32_t rounds, uint8_t *schedule, size_t schedule_len);
 
 /* Checks a schedule, whoever made it, against a plan: no worker works on two actions in one round, each action begins
    after the last round of everything it must follow and not before round 1, and each worker is below the schedule's

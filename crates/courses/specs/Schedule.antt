@@ -7,7 +7,7 @@
 --   span_of p rows x  == its span: the rounds in which it is worked on, as many as its cost, and the worker
 --   keeps p m rows   == the rules: no span begins before round 1; no two spans of one worker have a round in common; each begins after
 --                       the last round of all that its action must follow; workers below m
---   read_schedule form s n == the worker count and the rows of well_formed bytes of that form for n actions
+--   read_schedule form s n == the worker count and the rows of well-formed bytes of that form for n actions
 --   checked          == what the checker answers for a plan: 11, then 12
 use Rattle.std.specs.Prelude.{ℕ, zero, suc, ◌+◌, ◌-◌, ◌*◌, ◌/◌, Bool, true, false, not, List, [], ◌∷◌, ◌++◌, length, get_or, eqb, leb, ltb}
 use Rattle.plan.specs.Test.{both, either, all}

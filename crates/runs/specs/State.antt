@@ -1,6 +1,6 @@
 -- The state of a run (document 01, "Worker and round").
 --   Worker       == holds a job, waits with a request on a named victim, or is idle; holds x == the worker x holds a job
---   Tally        == "rounds, actions, idle turns, requests, steals, misses, peak", the misses as "`bare` .. and `idle_victim`" (document
+--   Tally        == "rounds, actions, idle turns, requests, steals, misses, peak", the misses as "`bare` .. and `idle-victim`" (document
 --                   02, L2)
 --   State        == the next position of each job and how many rounds were spent on the action there (document 02, L5), the workers, their
 --                   deques from the bottom up, the rows in plan order, the tally

@@ -74,7 +74,7 @@ abbrev pub top_of : ℕ → List ℕ → ℕ
 top_of x [] = x
 top_of x (y ∷ d) = top_of y d
 
--- "Taking the top of a deque now tells which": "`bare` (the victim holds a job at that moment) and `idle_victim`"
+-- "Taking the top of a deque now tells which": "`bare` (the victim holds a job at that moment) and `idle-victim`"
 abbrev pub take_top : List ℕ → Bool → Taken
 take_top (x ∷ d) held = Job (top_of x d)
 take_top [] true = Bare

@@ -1,5 +1,5 @@
 -- The past of a course: for every turn there are counts of what was done by then.
---   not_after_lem, by_then == the test notAfter: a row is of an earlier round, or of the same round and no later worker
+--   not_after_lem, by_then == the test not_after: a row is of an earlier round, or of the same round and no later worker
 --   Past e c r w l == l counts for each job the actions that were done by the turn of worker w in round r, as the rows of the later core c
 --                     tell it
 --   Moment p c a   == row a stands for the start, or it is the row of an action that is done

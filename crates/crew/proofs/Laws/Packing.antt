@@ -57,7 +57,8 @@ digit x w h = omega arith
 
 pack_drop : (q : List ℕ) → Small q → (i : ℕ) → pack q / 16 ^ i ≡ pack (drop i q)
 unfolding pack
-pack_drop q s zero = div-one (pack q)
+pack_drop [] s zero = div-one (pack [])
+pack_drop (w ∷ q) s zero = div-one (pack (w ∷ q))
 pack_drop [] s (suc i) = zero-div (16 ^ suc i)
 pack_drop (w ∷ q) (h, s) (suc i) =
     ap (λ (x : ℕ). (pack q * 16 + w) / x) (pow-succ' 16 i) ∙ sym (div-div-eq-div-mul (pack q * 16 + w) 16 (16 ^ i))
@@ -65,7 +66,8 @@ pack_drop (w ∷ q) (h, s) (suc i) =
 
 pack_take : (q : List ℕ) → Small q → (i : ℕ) → pack q % 16 ^ i ≡ pack (take i q)
 unfolding pack
-pack_take q s zero = mod-one (pack q)
+pack_take [] s zero = mod-one (pack [])
+pack_take (w ∷ q) s zero = mod-one (pack (w ∷ q))
 pack_take [] s (suc i) = zero-mod (16 ^ suc i)
 pack_take (w ∷ q) (h, s) (suc i) =
     ap (λ (x : ℕ). (pack q * 16 + w) % x) (pow-suc 16 i) ∙ mod-mul (pack q * 16 + w) (sixteen_pos i) (omega arith)

@@ -1,4 +1,4 @@
--- "Their sum is the old count" (document 02, L2): bare and idle_victim misses together are the services that met an empty deque.
+-- "Their sum is the old count" (document 02, L2): bare and idle-victim misses together are the services that met an empty deque.
 --   both_of t      == the misses that the tally t has, of both kinds
 --   serves_misses_lem, round_misses_lem, rounds_misses_lem == they grow by those of the services of a round, of the round, of so many rounds
 --   run_misses     == so those of a run are its misses

@@ -1,6 +1,5 @@
 -- `line::at` meets its contract.
 use native.Mathlib.Omega.{arith}
-use borrow.Author.Rules.{rules}
 use Rattle.crew.proofs.Laws.Shifting.{picked}
 use Rattle.crew.proofs.line.at.Goals as goal
 

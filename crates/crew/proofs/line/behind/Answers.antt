@@ -1,7 +1,6 @@
 -- `line::behind` meets its contract.
 use mathlib.Core.Path.{refl}
 use native.Mathlib.Omega.{arith}
-use borrow.Author.Rules.{rules}
 use Rattle.crew.proofs.Laws.Shifting.{lined_fits, lined_behind}
 use Rattle.crew.proofs.line.behind.Goals as goal
 

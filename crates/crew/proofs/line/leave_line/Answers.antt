@@ -1,6 +1,5 @@
 -- `line::leave_line` meets its contract.
 use native.Mathlib.Omega.{arith}
-use borrow.Author.Rules.{rules}
 use Rattle.crew.proofs.Laws.Lines.{line_lined, line_put, beside_put}
 use Rattle.crew.proofs.line.leave_line.Goals as goal
 

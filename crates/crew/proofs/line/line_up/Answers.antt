@@ -1,6 +1,5 @@
 -- `line::line_up` meets its contract.
 use native.Mathlib.Omega.{arith}
-use borrow.Author.Rules.{rules}
 use Rattle.crew.proofs.Laws.Lines.{line_lined, line_put, beside_put}
 use Rattle.crew.proofs.line.line_up.Goals as goal
 

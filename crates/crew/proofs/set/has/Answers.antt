@@ -1,6 +1,5 @@
 -- `set::has` meets its contract.
 use mathlib.Core.Path.{sym}
-use borrow.Author.Rules.{rules}
 use Rattle.crew.proofs.Laws.Members.{member_digit}
 use Rattle.crew.proofs.set.has.Goals as goal
 

@@ -1,6 +1,5 @@
 -- `set::one` meets its contract: the shift loses no digit.
 use native.Mathlib.Omega.{arith}
-use borrow.Author.Rules.{rules}
 use Rattle.crew.proofs.Laws.Members.{one_kept}
 use Rattle.crew.proofs.set.one.Goals as goal
 

@@ -1,5 +1,4 @@
 -- `set::others` meets its contract: the shift loses no digit.
-use borrow.Author.Rules.{rules}
 use lib.Pow.{pow-lt}
 use Rattle.crew.proofs.Laws.Members.{one_kept}
 use Rattle.crew.proofs.set.others.Goals as goal

@@ -1,5 +1,4 @@
 -- `set::with` meets its contract.
-use borrow.Author.Rules.{rules}
 use lib.Bits.{or_lt}
 use lib.Pow.{pow-lt}
 use Rattle.crew.proofs.Laws.Members.{member_with}
