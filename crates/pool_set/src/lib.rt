@@ -1,6 +1,7 @@
 // The pool of a run in one array: a set of the 256 jobs as the bits of words 0 to 3, job j as bit j % 64 of word j / 64; and at word
 // 4 + j how many children of job j live.
 #![tactic(auto)]
+
 ghost use Rattle.std.specs.Prelude.{◌≡◌, ◌≢◌, true, false, suc, ◌-◌, ◌<◌, eqb, length};
 ghost use Rattle.pool_set.specs.Pool.{pooled, children_of, Put, First, Counted};
 

@@ -9,7 +9,6 @@ use mathlib.Core.Bool.{Bool, true, false}
 use mathlib.Core.List.{List}
 use lib.Dec.{T, leb, leb→le}
 use Rattle.plan.specs.Refusal.{refused, accepted}
-use Rattle.plan.specs.Plan.{Plan}
 use Rattle.plan.proofs.Laws.Lists.{both_left, both_right, of_true}
 use Rattle.runs.specs.Setting.{setting}
 use Rattle.runs.specs.Run.{run, workers_fit, choices_fit, admitted}

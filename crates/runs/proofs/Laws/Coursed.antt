@@ -13,7 +13,7 @@ use Prim.Native.Nat.{ℕ, suc, ◌-◌, ◌*◌, ◌≤◌, ◌<◌}
 use mathlib.Core.Path.{◌≡◌, refl, ap, sym, ◌∙◌}
 use mathlib.Core.Logic.{inl, ⊎_elim, by_cases}
 use mathlib.Core.Bool.{true}
-use mathlib.Core.List.{List, []}
+use mathlib.Core.List.{List}
 use native.Mathlib.Omega.{arith}
 use native.Mathlib.Nat.{le_refl, le_trans, le_of_eq, mul-le-mul, eq-zero-or-pos}
 use lib.Dec.{T, leb→le, nleb→lt}
@@ -27,13 +27,11 @@ use Rattle.courses.specs.Row.{no_row, place}
 use Rattle.runs.specs.Setting.{Setting, count_in}
 use Rattle.runs.specs.State.{State, next_of, worker_of, start, spent_of}
 use Rattle.courses.specs.Ready.{weight}
-use Rattle.runs.specs.Turn.{turn, turn_of, idled, worked, finished}
+use Rattle.runs.specs.Turn.{turn_of, idled, worked, finished}
 use Rattle.runs.specs.Run.{ended}
 use Rattle.courses.specs.Schedule.{keeps}
 use Rattle.courses.specs.Living.{weight_after, peak_of, last_round}
-use Rattle.runs.specs.Trace as Trace
 use Rattle.runs.specs.Trace.{Stage, turning, laying, serving, Trace}
-use Rattle.courses.proofs.Laws.Course as Course
 use Rattle.courses.proofs.Laws.Course.{Core, Terms, Begins, Hands, Paced, Ends, Course, Works}
 use Rattle.courses.proofs.Laws.Steps.{finished_ends, worked_works}
 use Rattle.courses.proofs.Laws.Start.{none_weight}

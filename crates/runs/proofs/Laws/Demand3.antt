@@ -3,7 +3,7 @@
 --   run_bounded == and of the rows that are read off its schedule, whatever follows this
 --   every_order == so of every plan that is accepted and every list of choices, however long
 --   demand3     == and of all that is accepted
-use Prim.Native.Nat.{ℕ, ◌+◌, ◌*◌, ◌≤◌, ◌^◌, ◌<◌}
+use Prim.Native.Nat.{ℕ, ◌≤◌, ◌^◌, ◌<◌}
 use mathlib.Core.Path.{◌≡◌, sym, ap, ◌∙◌}
 use mathlib.Core.List.{List, ◌++◌}
 use native.Mathlib.Omega.{arith}
@@ -20,7 +20,6 @@ use Rattle.runs.specs.Claim.{Bounded, Claim, Demand3, EveryOrder}
 use Rattle.plan_measure.specs.Measure.{longest}
 use Rattle.plan.proofs.Laws.Accepted.{accepted_kept}
 use Rattle.plan.proofs.Laws.Lists.{both_left, of_true}
-use Rattle.plan_measure.proofs.Laws.Work.{work_range}
 use Rattle.plan_measure.proofs.Laws.Parallel.{quotient, spare_turns}
 use Rattle.runs.proofs.Laws.Fit.{Fit}
 use Rattle.runs.proofs.Laws.Admitted.{workers_range}

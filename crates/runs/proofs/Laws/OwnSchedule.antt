@@ -1,7 +1,7 @@
 -- The schedule of a run is well formed and keeps the checker's rules.
 --   run_schedule == it is read back as the rows of the run
 --   run_checked  == the checker accepts it
-use Prim.Native.Nat.{ℕ, ◌≤◌, ◌^◌, ◌<◌}
+use Prim.Native.Nat.{ℕ, ◌^◌, ◌<◌}
 use mathlib.Core.Path.{◌≡◌, refl, ap, ◌∙◌}
 use mathlib.Core.Bool.{Bool, true, false}
 use mathlib.Core.List.{List}

@@ -12,7 +12,7 @@ use Rattle.runs.specs.declared.taken.Taken.{Taken}
 use Rattle.runs.specs.declared.taken.Taken.TheVariants.{Bare, IdleVictim}
 use Rattle.runs.specs.declared.worker.Worker.{Worker}
 use Rattle.runs.specs.declared.worker.Worker.TheVariants.{Idle, Holding, Waiting}
-use Rattle.plan.specs.Plan.{Plan, total}
+use Rattle.plan.specs.Plan.{Plan}
 use Rattle.plan_measure.specs.Measure.{work}
 use Rattle.runs.specs.Setting.{setting, count_in}
 use Rattle.runs.specs.Tally.{with_request, with_steal, with_bare, with_idle_victim, with_service}

@@ -14,11 +14,9 @@ use lib.Seq.{get_or-set_other}
 use Rattle.plan.specs.Plan.{Plan}
 use Rattle.runs.specs.declared.worker.Worker.{Worker}
 use Rattle.runs.specs.declared.worker.Worker.TheVariants.{Idle, Holding, Waiting}
-use Rattle.runs.specs.Setting.{Setting, count_in}
+use Rattle.runs.specs.Setting.{Setting}
 use Rattle.runs.specs.State.{State, spent_of, worker_of}
 use Rattle.runs.specs.Turn.{worked, finished, turn_of, idled}
-use Rattle.runs.specs.Steal.{waits}
-use Rattle.runs.specs.Parts.{pick_of}
 use Rattle.runs.specs.Trace.{Stage, turning, Trace, begins, turned, goes_on, laid, all_laid, served, next_round}
 use Rattle.courses.proofs.Laws.Steps.{zero_set}
 use Rattle.runs.proofs.Laws.Fit.{Fit}

@@ -25,7 +25,7 @@ use Rattle.runs.specs.declared.worker.Worker.{Worker}
 use Rattle.runs.specs.declared.worker.Worker.TheVariants.{Idle, Holding, Waiting}
 use Rattle.runs.specs.Setting.{Setting}
 use Rattle.runs.specs.State.{State, next_of}
-use Rattle.runs.specs.Turn.{seat_after, turn, idled, turn_of, worked, finished}
+use Rattle.runs.specs.Turn.{seat_after, idled, turn_of, worked, finished}
 use Rattle.runs.specs.Parts.{after_of, above_of, pick_of}
 use Rattle.runs.specs.Trace.{turning, laying, serving, Trace}
 use Rattle.runs.proofs.Laws.TurnSound.{stay, seat_spawn, seat_none}

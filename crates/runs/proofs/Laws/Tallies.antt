@@ -14,7 +14,7 @@ use Rattle.runs.specs.declared.worker.Worker.{Worker}
 use Rattle.runs.specs.declared.worker.Worker.TheVariants.{Idle, Holding, Waiting}
 use Rattle.runs.specs.Setting.{Setting, count_in}
 use Rattle.runs.specs.State.{State, start}
-use Rattle.runs.specs.Turn.{turn, turn_of}
+use Rattle.runs.specs.Turn.{turn_of}
 use Rattle.runs.specs.Steal.{laid as laid_by, lay, taken_from, given, serve}
 use Rattle.runs.specs.Parts.{pick_of}
 use Rattle.runs.specs.Trace.{Stage, turning, laying, serving, Trace, begins, turned, goes_on, laid, all_laid, served, next_round}

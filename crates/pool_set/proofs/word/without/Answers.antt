@@ -1,20 +1,12 @@
 -- `word::without` meets its contract.
 use native.Mathlib.Nat.{lt_of_le_of_lt}
-use borrow.Author.Rules.{rules}
 use lib.Bits.{and_le_l}
 use Rattle.crew.proofs.Laws.Members.{member_without}
 use Rattle.pool_set.proofs.Laws.Words.{one_kept}
-use Rattle.pool_set.proofs.word.without.Statement.{statement}
-use Rattle.pool_set.proofs.word.without.Tie as tie
+use Rattle.pool_set.proofs.word.without.Goals as goal
 
-shl-result : tie.Need-overflow-shl-result
-shl-result c = search rules
-
-returns : tie.Need-returns
+pub returns : goal.returns
 returns c = rw (one_kept c.requires) (record {
   small = λ n h l. lt_of_le_of_lt (and_le_l _ _) l;
   each = λ u. member_without 64 _ _ u c.ranges.set.fits c.requires;
 })
-
-pub without_spec : {M : Type 1} → statement M
-without_spec = tie.close (tie.spec shl-result returns)
