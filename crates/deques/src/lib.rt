@@ -1,6 +1,7 @@
 // The sixteen deques of a run (document 01, "Worker and round") as one array: 256 places each, then where each begins, then how many
 // jobs each has. A deque has its top job first and its bottom job last.
 #![tactic(auto)]
+
 ghost use Rattle.std.specs.Prelude.{◌≡◌, ◌+◌, ◌*◌, ◌<◌, set};
 ghost use Rattle.plan.specs.Contract.{Some, ◌⇒◌};
 ghost use Rattle.deques.specs.Dequed.{top_at, len_at, job_at, Dequed, Pushing, Pushed, TookBottom, TookTop};
