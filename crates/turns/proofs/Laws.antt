@@ -8,4 +8,3 @@ pub mod Sending
 pub mod Settling
 pub mod Spending
 pub mod Rows
-pub mod TallyCell

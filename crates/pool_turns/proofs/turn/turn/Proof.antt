@@ -1,7 +1,7 @@
 -- `turn::turn` meets its contract: the row is the one of the action that the worker does, and `act` does the rest.
 use mathlib.Core.Logic.{⊎_elim}
 use native.Mathlib.Omega.{arith}
-use Rattle.pool_turns.proofs.Laws.Turning.{turning_tag, turning_small, turning_room, turning_acting, turning_taken}
+use Rattle.pool_turns.proofs.Laws.Turning.{turning_some, turning_small, turning_room, turning_acting, turning_taken}
 use borrow.Author.Rules.{rules}
 use Rattle.pool_turns.proofs.turn.turn.Statement.{statement}
 use Rattle.pool_turns.proofs.turn.turn.Tie as tie
@@ -11,7 +11,7 @@ enum-known-worker c = search rules
 
 returns : tie.Need-returns
 returns c m t =
-    absurd (⊎_elim (λ e. omega (arith, turning_tag t)) (λ e. omega (arith, turning_tag t)) c.match.keys2)
+    absurd (turning_some t c.in_default.not-Holding)
 
 wide8-requires : tie.Need-wide8-requires
 wide8-requires c κs = search rules
