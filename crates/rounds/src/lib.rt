@@ -2,6 +2,7 @@
 // take turns, ask and serve.
 // It relies on what the crates below promise, and cites their laws only.
 #![tactic(auto)]
+
 mod account;
 pub mod run;
 pub mod start;

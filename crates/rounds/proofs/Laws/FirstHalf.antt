@@ -25,7 +25,7 @@ use Rattle.plan_measure.specs.Measure.{work}
 use Rattle.courses.specs.Ready.{weight}
 use Rattle.runs.specs.declared.worker.Worker.{Worker}
 use Rattle.runs.specs.declared.worker.Worker.TheVariants.{Idle}
-use Rattle.runs.specs.Setting.{Setting, setting, count_in}
+use Rattle.runs.specs.Setting.{Setting, count_in}
 use Rattle.runs.specs.State.{State, next_of, holds}
 use Rattle.runs.specs.Turn.{turn_of, turns}
 use Rattle.runs.specs.Steal.{lays}

@@ -15,7 +15,7 @@ use Rattle.runs.specs.declared.worker.Worker.{Worker}
 use Rattle.runs.specs.declared.worker.Worker.TheVariants.{Idle, Holding, Waiting}
 use Rattle.runs.specs.Tally.{with_action}
 use Rattle.runs.specs.State.{State, worker_of, holds}
-use Rattle.runs.specs.Turn.{turn, turn_of, worked, finished}
+use Rattle.runs.specs.Turn.{turn_of, worked, finished}
 use Rattle.crew.proofs.Laws.Crews.{crewed_mark}
 use Rattle.turns.specs.declared.turn.Turned.{Turned}
 use Rattle.turns.specs.Count.{with_idles}
