@@ -11,7 +11,7 @@
 --                   taking_fresh == and no round is spent on the action of a job that nobody has
 use Prim.Native.Nat.{ℕ, zero, suc, ◌≤◌, ◌<◌}
 use mathlib.Core.Path.{◌≡◌, refl, ap, sym, ◌∙◌}
-use mathlib.Core.Logic.{◌⊎◌, ◌≢◌, ⊎_elim, by_cases}
+use mathlib.Core.Logic.{◌≢◌, ⊎_elim, by_cases}
 use mathlib.Core.List.{List}
 use native.Mathlib.Omega.{arith}
 use native.Mathlib.Nat.{le_refl, eq-zero-or-pos}
@@ -24,7 +24,6 @@ use Rattle.plan.proofs.Laws.Lists.{zeros_at}
 use Rattle.plan.proofs.Laws.Spawning.{cost_in_range_lem}
 use Rattle.plan.proofs.Laws.Valid.{jobs_range, size_range, join_target}
 use Rattle.courses.specs.Row.{no_row}
-use Rattle.courses.proofs.Laws.Course as Course
 use Rattle.courses.proofs.Laws.Course.{Core, next_in, Begins, Course}
 use Rattle.courses.proofs.Laws.Steps.{worked_works, finished_ends}
 use Rattle.courses.proofs.Laws.Kept.{course_kept}
@@ -38,7 +37,6 @@ use Rattle.runs.proofs.Laws.Coursed.{hands_in, hands_of}
 use Rattle.pools.specs.State.{State, next_of, spent_of, start}
 use Rattle.pools.specs.Take.{take}
 use Rattle.pools.specs.Turn.{worked, finished, idled, turn_of}
-use Rattle.pools.specs.Trace as Trace
 use Rattle.pools.specs.Trace.{Stage, taking, turning, Trace}
 use Rattle.pools.proofs.Laws.Taking.{core, same_core, take_keeps, Took, took_none, took_next, took_takes}
 use Rattle.pools.proofs.Laws.Passing.{cost_of, turn_worked, turn_finished, turn_cases, hand_passes}

@@ -7,13 +7,13 @@
 use Prim.Native.Nat.{ℕ, zero, suc, ◌+◌, ◌*◌, ◌≤◌, ◌<◌}
 use mathlib.Core.Path.{◌≡◌, refl, sym, ap, ◌∙◌}
 use mathlib.Core.Bool.{Bool, true, false}
-use mathlib.Core.Logic.{◌≢◌, by_cases}
+use mathlib.Core.Logic.{by_cases}
 use native.Mathlib.Omega.{arith}
 use native.Mathlib.Decide.{ℕ_discrete, dec_lt}
 use native.Mathlib.Nat.{le_refl, mul-le-mul}
-use lib.Dec.{leb, leb→le}
+use lib.Dec.{leb→le}
 use borrow.Author.Tests.{le-leb, lt-leb}
-use Rattle.plan.specs.Refusal.{Outcome, refused, accepted}
+use Rattle.plan.specs.Refusal.{refused, accepted}
 use Rattle.plan.specs.Plan.{Plan}
 use Rattle.plan.proofs.Laws.Lists.{of_true}
 use Rattle.plan.proofs.Laws.Outcomes.{refused_accepted, accepted_same}

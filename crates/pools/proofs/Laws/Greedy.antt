@@ -19,7 +19,7 @@ use Rattle.plan.specs.Rules.{Accepted}
 use Rattle.plan.proofs.Laws.Spawning.{cost_in_range_lem}
 use Rattle.plan.proofs.Laws.Valid.{jobs_range, older, spawned_there}
 use Rattle.plan_measure.specs.Measure.{longest}
-use Rattle.plan_measure.specs.Times.{ends, begins}
+use Rattle.plan_measure.specs.Times.{ends}
 use Rattle.plan_measure.proofs.Laws.Times.{begins_spawn, begins_first, begins_before, ends_next, ends_sent, longest_ends}
 use Rattle.courses.proofs.Laws.Kept.{course_kept}
 use Rattle.courses.proofs.Laws.Pool.{terms, pool_busy}
@@ -30,7 +30,6 @@ use Rattle.runs.specs.declared.worker.Worker.TheVariants.{Idle, Holding, Waiting
 use Rattle.runs.proofs.Laws.Coursed.{hands_in, hands_of}
 use Rattle.pools.specs.State.{State, next_of, spent_of, start}
 use Rattle.pools.specs.Turn.{worked, finished, turn, idled, turn_of}
-use Rattle.pools.specs.Trace as Trace
 use Rattle.pools.specs.Trace.{Stage, taking, turning, Trace}
 use Rattle.pools.proofs.Laws.Tests.{Free, unheld_or}
 use Rattle.pools.proofs.Laws.Taking.{take_keeps}

@@ -3,7 +3,7 @@
 --   Took         == what a turn makes of the counts; turn_took == so does every turn
 --   Counted      == the counts at a stage of a round; trace_counted == in every state of a run
 --   idles_least, idles_most == where one is idle there is such a worker; where one has a job not all are
-use Prim.Native.Nat.{ℕ, zero, suc, ◌+◌, ◌-◌, ◌*◌, ◌≤◌, ◌<◌}
+use Prim.Native.Nat.{ℕ, zero, suc, ◌+◌, ◌*◌, ◌≤◌, ◌<◌}
 use mathlib.Core.Path.{◌≡◌, refl, ap, sym, ◌∙◌}
 use mathlib.Core.Logic.{by_cases}
 use mathlib.Core.List.{List}
@@ -18,7 +18,6 @@ use Rattle.runs.specs.declared.worker.Worker.TheVariants.{Idle, Holding, Waiting
 use Rattle.runs.proofs.Laws.Coursed.{hands_in, hands_of}
 use Rattle.pools.specs.State.{State, start}
 use Rattle.pools.specs.Turn.{worked, finished, idled, turn_of}
-use Rattle.pools.specs.Trace as Trace
 use Rattle.pools.specs.Trace.{Stage, taking, turning, Trace}
 use Rattle.pools.proofs.Laws.Taking.{take_keeps}
 use Rattle.pools.proofs.Laws.Passing.{turn_cases}

@@ -17,7 +17,7 @@ use Rattle.plan.specs.Plan.{Plan, parent}
 use Rattle.plan.specs.Rules.{Accepted}
 use Rattle.plan.proofs.Laws.Lists.{both_intro, both_left, both_right}
 use Rattle.plan.proofs.Laws.Counts.{below_all, below_by}
-use Rattle.courses.specs.Ready.{living, ready}
+use Rattle.courses.specs.Ready.{living}
 use Rattle.courses.proofs.Laws.PlanShape.{shape, living_is, living_by, ready_is, ready_by}
 use Rattle.lines.proofs.Laws.Shape.{Living, Ready, Lone}
 use Rattle.runs.specs.declared.worker.Worker.{Worker}

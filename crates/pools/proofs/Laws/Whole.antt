@@ -23,7 +23,6 @@ use Rattle.pools.specs.State.{State, next_of, start}
 use Rattle.pools.specs.Take.{takes}
 use Rattle.pools.specs.Turn.{turns}
 use Rattle.pools.specs.Run.{ended, round, rounds, pool}
-use Rattle.pools.specs.Trace as Trace
 use Rattle.pools.specs.Trace.{taking, turning, Trace}
 use Rattle.pools.proofs.Laws.Coursed.{Fit, trace_course, taking_goes}
 use Rattle.pools.proofs.Laws.Tallies.{trace_counted, numbered_late}

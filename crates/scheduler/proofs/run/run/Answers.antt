@@ -1,0 +1,31 @@
+-- `run::run` meets its contract: each answer by what reading the bytes and the run tell.
+use mathlib.Core.Path.{refl}
+use Rattle.plan.specs.Found.{ReadPlan}
+use Rattle.plan.proofs.Laws.Found.{found_plan, found_none}
+use Rattle.scheduler.proofs.Laws.RunAnswers.{read_runs, refuses_plan, answers_read}
+use borrow.Author.Rules.{rules}
+use Rattle.scheduler.proofs.run.run.Goals as goal
+use Rattle.scheduler.proofs.run.run.Goals.{In-Plan}
+
+pub read_into-requires : goal.read_into-requires
+read_into-requires c = (refl, refl)
+
+-- what was read
+plan-read : (c : In-Plan)
+    → let a = c.args in
+    ReadPlan a.plan.now c.in-Plan.form c.in-Plan.jobs c.in-Plan.actions c.read_into.new.plan c.read_into.new.entering
+plan-read c = found_plan _ _ _ _ c.read_into.ensures _ _ _ c.in-Plan.is
+
+pub run_read-requires : goal.run_read-requires
+run_read-requires c =
+    let g = plan-read (goal.at.run_read-requires c).In-Plan in
+    (g.is, read_runs _ _ _ _ _ _ g)
+
+pub returns-in-Refused : goal.returns-in-Refused
+returns-in-Refused c =
+    refuses_plan _ _ _ _ c.in-Refused.cause (found_none _ _ _ _ c.read_into.ensures _ c.in-Refused.is)
+
+pub returns-in-Plan : goal.returns-in-Plan
+returns-in-Plan c =
+    let g = plan-read (goal.at.returns-in-Plan c).In-Plan in
+    answers_read _ _ _ _ _ g.is _ _ g.read (c.run_read.ensures g.is (read_runs _ _ _ _ _ _ g))
