@@ -1,7 +1,5 @@
 -- `length::schedule_length` meets its contract.
-use mathlib.Core.Bool.{true, false}
 use native.Mathlib.Omega.{arith}
-use borrow.Author.Rules.{rules}
 use borrow.Author.Tests.{ne_eqb}
 use Rattle.courses.specs.Schedule.{round_bits, schedule_length}
 use Rattle.scheduler.proofs.length.schedule_length.Goals as goal

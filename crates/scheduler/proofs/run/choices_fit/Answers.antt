@@ -3,7 +3,6 @@ use mathlib.Core.Path.{ap, ◌∙◌}
 use native.Mathlib.Omega.{arith}
 use lib.Dec.{ltb}
 use Rattle.scheduler.proofs.Laws.Choices.{too_many, none_fit, largest_fit}
-use borrow.Author.Rules.{rules}
 use Rattle.scheduler.proofs.run.choices_fit.Goals as goal
 
 pub returns-then-choices-gt4096 : goal.returns-then-choices-gt4096

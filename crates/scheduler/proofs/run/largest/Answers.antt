@@ -1,9 +1,8 @@
 -- `run::largest` meets its contract. The loop's invariant: the largest of the choices passed. The measure is what is left of them.
-use Prim.Native.Nat.{◌≤◌, ◌-◌, max}
-use mathlib.Core.Path.{◌≡◌, refl, ap, ◌∙◌}
+use Prim.Native.Nat.{max}
+use mathlib.Core.Path.{refl, ap, ◌∙◌}
 use native.Mathlib.Omega.{arith}
-use lib.ListN.{length, get_or, take}
-use Rattle.scheduler.specs.Choices.{largest_of}
+use lib.ListN.{get_or}
 use Rattle.scheduler.proofs.Laws.Choices.{largest_step, largest_all}
 use Rattle.scheduler.proofs.run.largest.Goals as goal
 

@@ -3,7 +3,6 @@ use mathlib.Core.Path.{refl}
 use Rattle.plan.specs.Found.{ReadPlan}
 use Rattle.plan.proofs.Laws.Found.{found_plan, found_none}
 use Rattle.scheduler.proofs.Laws.RunAnswers.{read_runs, refuses_plan, answers_read}
-use borrow.Author.Rules.{rules}
 use Rattle.scheduler.proofs.run.run.Goals as goal
 use Rattle.scheduler.proofs.run.run.Goals.{In-Plan}
 
@@ -23,9 +22,12 @@ run_read-requires c =
 
 pub returns-in-Refused : goal.returns-in-Refused
 returns-in-Refused c =
-    refuses_plan _ _ _ _ c.in-Refused.cause (found_none _ _ _ _ c.read_into.ensures _ c.in-Refused.is)
+    let r = refuses_plan c.args.plan.now c.args.workers c.args.choices.now c.args.schedule.now c.in-Refused.cause
+    (found_none _ _ _ _ c.read_into.ensures _ c.in-Refused.is) in
+    record { schedule_after = r.0; claimed = r.1 }
 
 pub returns-in-Plan : goal.returns-in-Plan
 returns-in-Plan c =
     let g = plan-read (goal.at.returns-in-Plan c).In-Plan in
-    answers_read _ _ _ _ _ g.is _ _ g.read (c.run_read.ensures g.is (read_runs _ _ _ _ _ _ g))
+    let r = answers_read _ _ _ _ _ g.is _ _ g.read (c.run_read.ensures g.is (read_runs _ _ _ _ _ _ g)) in
+    record { schedule_after = r.0; claimed = r.1 }

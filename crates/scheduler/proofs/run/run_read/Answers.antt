@@ -7,7 +7,6 @@ use borrow.Author.Tests.{not-true, not-false}
 use Rattle.runs.specs.Run.{choices_fit}
 use Rattle.rounds.proofs.Laws.Beginning.{in_few}
 use Rattle.scheduler.proofs.Laws.RunAnswers.{refuses_workers, refuses_choices, refuses_short, run_asked, rows_asked, run_answers}
-use borrow.Author.Rules.{rules}
 use mathlib.Core.Path.{ap}
 use mathlib.Core.Bool.{not}
 use Rattle.scheduler.proofs.run.run_read.Goals as goal

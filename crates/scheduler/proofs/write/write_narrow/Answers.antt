@@ -1,9 +1,8 @@
 -- `write::write_narrow` meets its contract. The loop's invariant: the words passed are written. The measure is what is left of them.
-use Prim.Native.Nat.{◌*◌, ◌≤◌, ◌<◌, ◌-◌}
+use Prim.Native.Nat.{◌<◌}
 use mathlib.Core.Path.{◌≡◌}
 use native.Mathlib.Omega.{arith}
-use lib.ListN.{length, length-set}
-use Rattle.scheduler.specs.Written.{Words, Doubled}
+use lib.ListN.{length-set}
 use Rattle.scheduler.proofs.Laws.RowBytes.{none_written, rows_step, doubled_written}
 use Rattle.scheduler.proofs.write.write_narrow.Goals as goal
 use Rattle.scheduler.proofs.write.write_narrow.Goals.{After-row_at-x}

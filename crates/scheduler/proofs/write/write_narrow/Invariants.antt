@@ -1,10 +1,7 @@
 -- `write::write_narrow` meets its contract. The loop's invariant: the words passed are written. The measure is what is left of them.
-use Prim.Native.Nat.{◌*◌, ◌≤◌, ◌<◌, ◌-◌}
-use mathlib.Core.Path.{◌≡◌}
-use native.Mathlib.Omega.{arith}
-use lib.ListN.{length, length-set}
+use Prim.Native.Nat.{◌*◌, ◌≤◌, ◌-◌}
+use lib.ListN.{length}
 use Rattle.scheduler.specs.Written.{Words, Doubled}
-use Rattle.scheduler.proofs.Laws.RowBytes.{none_written, rows_step, doubled_written}
 use Rattle.scheduler.proofs.write.write_narrow.Given as goal
 
 abbrev pub invariant-loop-k : goal.invariant-loop-k

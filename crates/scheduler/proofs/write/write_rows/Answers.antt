@@ -1,6 +1,4 @@
 -- `write::write_rows` meets its contract: by the form.
-use Prim.Native.Nat.{◌+◌}
-use mathlib.Core.Bool.{true, false}
 use native.Mathlib.Omega.{arith}
 use borrow.Author.Tests.{ne_eqb}
 use Rattle.courses.specs.Schedule.{round_bits}

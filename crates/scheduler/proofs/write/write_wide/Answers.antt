@@ -1,17 +1,12 @@
 -- `write::write_wide` meets its contract. The loop's invariant: the bits of the words passed are put. The measure is what is left of them.
-use Prim.Native.Nat.{ℕ, suc, ◌+◌, ◌*◌, ◌≤◌, ◌<◌, ◌-◌, ◌^◌}
-use mathlib.Core.Path.{◌≡◌, refl, ap, ◌∙◌}
-use mathlib.Core.List.{List, []}
+use Prim.Native.Nat.{suc, ◌+◌, ◌*◌, ◌<◌, ◌^◌}
+use mathlib.Core.Path.{◌≡◌}
 use native.Mathlib.Omega.{arith}
 use native.Mathlib.Nat.{zero-add}
 use native.Mathlib.Numerals.{add-one}
-use borrow.Author.Rules.{rules}
 use lib.ListN.{length}
-use Rattle.fields.specs.Field.{bits_of}
-use Rattle.fields.specs.Sink.{Put}
 use Rattle.fields.proofs.Laws.Puts.{put_length, empty_sound, put_none, put_both}
-use Rattle.turns.specs.Rows.{row_at}
-use Rattle.scheduler.specs.Written.{words_bits, rows_length, Words}
+use Rattle.scheduler.specs.Written.{words_bits}
 use Rattle.scheduler.proofs.Laws.ScheduleBytes.{words_more, words_length, wide_written}
 use Rattle.scheduler.proofs.write.write_wide.Goals as goal
 use Rattle.scheduler.proofs.write.write_wide.Goals.{After-row_at, At-loop-k}
@@ -35,7 +30,10 @@ word c =
 
 pub put-sink-requires : goal.put-sink-requires
 put-sink-requires c =
-    (c.loop-k.invariant.1.sound, (omega arith, word c, omega (arith, reach (goal.at.put-sink-requires c).At-loop-k, c.loop-k-test.true, c.requires.1)))
+    record {
+      sound = c.loop-k.invariant.1.sound;
+      width_bound = (omega arith, word c, omega (arith, reach (goal.at.put-sink-requires c).At-loop-k, c.loop-k-test.true, c.requires.1));
+    }
 
 pub overflow_add-k : goal.overflow_add-k
 overflow_add-k c =
@@ -52,7 +50,10 @@ loop-k-preserved c =
 
 pub finish-requires : goal.finish-requires
 finish-requires c =
-    (c.loop-k.invariant.1.sound, omega (arith, reach (goal.at.finish-requires c).At-loop-k, c.loop-k.invariant.0, c.requires.1))
+    record {
+      sound = c.loop-k.invariant.1.sound;
+      bits_bound = omega (arith, reach (goal.at.finish-requires c).At-loop-k, c.loop-k.invariant.0, c.requires.1);
+    }
 
 pub shape_of-out : goal.shape_of-out
 shape_of-out c = omega (arith, reach (goal.at.shape_of-out c).At-loop-k, c.finish.ensures.same)

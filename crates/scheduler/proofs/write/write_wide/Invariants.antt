@@ -1,18 +1,7 @@
 -- `write::write_wide` meets its contract. The loop's invariant: the bits of the words passed are put. The measure is what is left of them.
-use Prim.Native.Nat.{ℕ, suc, ◌+◌, ◌*◌, ◌≤◌, ◌<◌, ◌-◌, ◌^◌}
-use mathlib.Core.Path.{◌≡◌, refl, ap, ◌∙◌}
-use mathlib.Core.List.{List, []}
-use native.Mathlib.Omega.{arith}
-use native.Mathlib.Nat.{zero-add}
-use native.Mathlib.Numerals.{add-one}
-use borrow.Author.Rules.{rules}
-use lib.ListN.{length}
-use Rattle.fields.specs.Field.{bits_of}
+use Prim.Native.Nat.{◌≤◌, ◌-◌}
 use Rattle.fields.specs.Sink.{Put}
-use Rattle.fields.proofs.Laws.Puts.{put_length, empty_sound, put_none, put_both}
-use Rattle.turns.specs.Rows.{row_at}
-use Rattle.scheduler.specs.Written.{words_bits, rows_length, Words}
-use Rattle.scheduler.proofs.Laws.ScheduleBytes.{words_more, words_length, wide_written}
+use Rattle.scheduler.specs.Written.{words_bits}
 use Rattle.scheduler.proofs.write.write_wide.Given as goal
 
 abbrev pub invariant-loop-k : goal.invariant-loop-k
