@@ -1,6 +1,7 @@
 // The checker (document 01, "Schedule"): whether a schedule's bytes are well formed for a plan and keep the rules of a run.
 // It relies on what the crates below promise, and cites their laws only.
 #![tactic(auto)]
+
 ghost use Rattle.std.specs.Prelude.{◌≡◌};
 ghost use Rattle.courses.specs.Schedule.{checked};
 ghost use Rattle.checker.specs.Answer.{judged_of};
