@@ -7,26 +7,26 @@
 use Prim.Native.Nat.{ℕ, zero, suc, ◌+◌, ◌*◌, ◌-◌, ◌/◌, ◌≤◌, ◌<◌}
 use native.Mathlib.Omega.{arith}
 use mathlib.Core.Path.{◌≡◌, refl, sym, ap, ap₂, ◌∙◌}
-use mathlib.Core.Bool.{Bool, true, false}
+use mathlib.Core.Bool.{true, false}
 use mathlib.Core.List.{List, [], ◌∷◌, ◌++◌, append_assoc}
 use lib.ListN.{length, drop, replicate, length-drop, length-append, length-replicate, get_or}
-use lib.Dec.{T, eqb, ltb, ltb→lt, eqb→eq, eqb_refl, lt→ltb}
+use lib.Dec.{T, eqb, ltb, ltb→lt, eqb→eq}
 use borrow.Author.Tests.{ne_eqb, le-ltb}
 use Rattle.plan.specs.Refusal.{accepted}
 use Rattle.plan.specs.Test.{either}
 use Rattle.plan.specs.Plan.{Action, Job, Plan, total, placed_in, placed_from}
 use Rattle.plan.specs.Rules.{in_range, costs_fit, spawn_rules, join_rules}
-use Rattle.fields.specs.Field.{Bytes, bits_of, bits, number, Step, stop, step, then, field_at}
+use Rattle.fields.specs.Field.{Bytes, bits_of, bits, number, Step, step, then, field_at}
 use Rattle.plan.specs.Reader.{number_at, cost_in, action_at, actions_at, jobs_at, Read, plan_at, fills, judged, is_form, read_plan}
 use Rattle.plan_writer.specs.Writer.{number_bits, cost_bits, actions_bits, jobs_bits, plan_bits, plan_bytes}
-use Rattle.plan.proofs.Laws.Lists.{both_intro, both_left, both_right, true_of}
+use Rattle.plan.proofs.Laws.Lists.{both_left, both_right, true_of}
 use Rattle.fields.proofs.Laws.Readings.{then_went_on, unless_went_on, when_went_on, then_goes_on, unless_goes_on, when_goes_on}
 use Rattle.plan.proofs.Laws.Outcomes.{passes as three-pass}
 use Rattle.plan.proofs.Laws.Steps.{bool_cases}
 use Rattle.plan.proofs.Laws.Fits.{Small, Fits, plan_fits}
 use Rattle.plan.proofs.Laws.Spawning.{jobs_in_range, total_in_range}
 use Rattle.fields.proofs.Laws.Bits.{Binary, append_binary, drop_binary, bits_binary, bits_of_binary, bits_length, bits_of_number}
-use Rattle.fields.proofs.Laws.Bits.{number_zeros, number_bits_of, field_read, bits_pack, pack_length, pack_bytes}
+use Rattle.fields.proofs.Laws.Bits.{number_bits_of, field_read, bits_pack, pack_length, pack_bytes}
 use Rattle.fields.proofs.Laws.Seams.{bits_same, bits_of_zero, field_taken, Rest, field_found}
 use Rattle.plan.proofs.Laws.Accepted.{accepted_place, accepted_first, form_small}
 use Rattle.plan_writer.proofs.Laws.Numbers.{number_binary, cost_binary}
@@ -129,7 +129,9 @@ plan_taken s x n e =
     let b : bits s ≡ plan_bits form p ++ drop m₂ (bits s) =
     field_taken s 8 0 form m r
     ∙ ap (λ l. bits_of 8 form ++ l) (field_taken s 9 m jobs m₁ r₁ ∙ ap₂ (λ (c : ℕ) (l : List ℕ). bits_of 9 c ++ l) (sym i.0) i.1) in
-    rw (z, w, ← y) b
+    b
+    ∙ ap₂ (λ (f : ℕ) (o : Plan). plan_bits f o ++ drop m₂ (bits s)) (sym z) (sym w)
+    ∙ ap (λ (k : ℕ). plan_bits x.form x.plan ++ drop k (bits s)) y
 
 -- the fill
 

@@ -3,7 +3,6 @@ use mathlib.Core.Path.{ap}
 use native.Mathlib.Omega.{arith}
 use lib.ListN.{length}
 use Rattle.plan_writer.proofs.Laws.Numbers.{cost_none, cost_some, fields_length}
-use borrow.Author.Rules.{rules}
 use Rattle.plan_writer.proofs.action_bits.Goals as goal
 
 pub returns-then-form-eq1 : goal.returns-then-form-eq1

@@ -6,7 +6,6 @@ use native.Mathlib.Omega.{arith}
 use Rattle.fields.specs.Field.{number}
 use Rattle.plan_writer.specs.Writer.{number_bits}
 use Rattle.plan_writer.proofs.Laws.Numbers.{numbers_value, numbers_fit, fields_plain, fields_cost}
-use borrow.Author.Rules.{rules}
 use Rattle.plan_writer.proofs.action_field.Goals as goal
 use Rattle.plan_writer.proofs.action_field.Goals.{After-number_field-2}
 

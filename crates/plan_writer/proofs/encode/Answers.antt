@@ -8,7 +8,6 @@ use Rattle.plan.specs.Sheet.{RuledIn}
 use Rattle.plan_writer.specs.Writer.{plan_bytes}
 use Rattle.plan_writer.proofs.Laws.PlanBytes.{plan_bytes_length}
 use Rattle.plan_writer.proofs.Laws.Answers.{encoded_short, encoded_whole}
-use borrow.Author.Rules.{rules}
 use Rattle.plan_writer.proofs.encode.Goals as goal
 use Rattle.plan_writer.proofs.encode.Goals.{After-plan_bits}
 

@@ -2,7 +2,6 @@
 use mathlib.Core.Path.{sym}
 use native.Mathlib.Omega.{arith}
 use Rattle.plan_writer.proofs.Laws.Numbers.{number_length}
-use borrow.Author.Rules.{rules}
 use Rattle.plan_writer.proofs.number_bits.Goals as goal
 
 pub returns-else-x-eq0 : goal.returns-else-x-eq0

@@ -1,6 +1,5 @@
 -- `plan_writer::number_field` meets its contract.
 use Rattle.plan_writer.proofs.Laws.Numbers.{number_value}
-use borrow.Author.Rules.{rules}
 use Rattle.plan_writer.proofs.number_field.Goals as goal
 
 pub returns-else-x-eq0 : goal.returns-else-x-eq0

@@ -7,7 +7,6 @@ use Rattle.fields.specs.Field.{bits_of}
 use Rattle.plan_writer.specs.ActionBits.{fields_at, action_bits}
 use Rattle.fields.proofs.Laws.Puts.{put_length, put_both}
 use Rattle.plan_writer.proofs.Laws.PlanBits.{action_first, action_later, header_size}
-use borrow.Author.Rules.{rules}
 use Rattle.plan_writer.proofs.put_action.Goals as goal
 use Rattle.plan_writer.proofs.put_action.Goals.{After-first_of, Else-start-k}
 

@@ -1,7 +1,6 @@
 -- `plan_writer::put_fields` meets its contract.
 use native.Mathlib.Omega.{arith}
 use Rattle.plan_writer.proofs.Laws.Numbers.{fields_small, fields_field}
-use borrow.Author.Rules.{rules}
 use Rattle.plan_writer.proofs.put_fields.Goals as goal
 
 pub put-requires : goal.put-requires
@@ -9,7 +8,10 @@ put-requires c =
     let v = c.action_field-value.ensures in
     let a = c.args in
     let w = c.action_bits.ensures in
-    (c.requires.0, (omega (arith, w.1), fields_small a.form a.child a.target a.cost _ _ (w.0 a.cost) v, rw (w.0 a.cost) c.requires.4))
+    record {
+      sound = c.requires.0;
+      width_bound = (omega (arith, w.1), fields_small a.form a.child a.target a.cost _ _ (w.0 a.cost) v, rw (w.0 a.cost) c.requires.4);
+    }
 
 pub returns : goal.returns
 returns c =

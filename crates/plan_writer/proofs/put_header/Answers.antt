@@ -1,6 +1,5 @@
 -- `plan_writer::put_header` meets its contract.
 use Rattle.plan_writer.proofs.Laws.Numbers.{header_field}
-use borrow.Author.Rules.{rules}
 use Rattle.plan_writer.proofs.put_header.Goals as goal
 
 pub returns : goal.returns

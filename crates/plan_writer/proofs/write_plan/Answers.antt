@@ -1,5 +1,5 @@
 -- `plan_writer::write_plan` meets its contract. The loop's invariant: the bits of the actions before place k are written.
-use Prim.Native.Nat.{ℕ, suc, ◌+◌, ◌*◌, ◌-◌, ◌≤◌}
+use Prim.Native.Nat.{ℕ, suc, ◌+◌, ◌*◌, ◌≤◌}
 use mathlib.Core.Path.{◌≡◌}
 use mathlib.Core.List.{List, ◌++◌}
 use native.Mathlib.Numerals.{add-one}
@@ -34,12 +34,18 @@ reach : (l : At-loop-k) → (8 * l.loop-k.sink.bytes + l.loop-k.sink.bits ≡ 17
 reach l = let w = written l in (omega (arith, put_length (empty_sound _) w), w.same)
 
 pub put-sink-requires : goal.put-sink-requires
-put-sink-requires c = (empty_sound _, (omega arith, c.requires.1.byte, omega (arith, room (goal.at.put-sink-requires c).Start)))
+put-sink-requires c = record {
+  sound = empty_sound _;
+  width_bound = (omega arith, c.requires.1.byte, omega (arith, room (goal.at.put-sink-requires c).Start));
+}
 
 pub put-sink-requires-2 : goal.put-sink-requires-2
 put-sink-requires-2 c =
     let w = c.put-sink.ensures in
-    (w.sound, (omega arith, omega (arith, ruled_few _ _ _ _ c.requires.1.given), omega (arith, room (goal.at.put-sink-requires-2 c).Start, put_length (empty_sound _) w, w.same)))
+    record {
+      sound = w.sound;
+      width_bound = (omega arith, omega (arith, ruled_few _ _ _ _ c.requires.1.given), omega (arith, room (goal.at.put-sink-requires-2 c).Start, put_length (empty_sound _) w, w.same));
+    }
 
 pub loop-k-init : goal.loop-k-init
 loop-k-init c = (omega arith, put_none _ _ c.put-sink-2.ensures.sound)
@@ -64,7 +70,10 @@ loop-k-preserved c = (omega arith, rw add-one (put_both c.loop-k.invariant.1 c.p
 pub finish-requires : goal.finish-requires
 finish-requires c =
     let e : c.loop-k.k ≡ c.args.actions = omega arith in
-    (c.loop-k.invariant.1.sound, omega (arith, room (goal.at.finish-requires c).Start, rw e at (reach (goal.at.finish-requires c).At-loop-k)))
+    record {
+      sound = c.loop-k.invariant.1.sound;
+      bits_bound = omega (arith, room (goal.at.finish-requires c).Start, rw e at (reach (goal.at.finish-requires c).At-loop-k));
+    }
 
 pub shape_of-out : goal.shape_of-out
 shape_of-out c = omega (arith, reach (goal.at.shape_of-out c).At-loop-k, c.finish.ensures.same)

@@ -1,17 +1,8 @@
 -- `plan_writer::write_plan` meets its contract. The loop's invariant: the bits of the actions before place k are written.
-use Prim.Native.Nat.{ℕ, suc, ◌+◌, ◌*◌, ◌-◌, ◌≤◌}
-use mathlib.Core.Path.{◌≡◌}
-use mathlib.Core.List.{List, ◌++◌}
-use native.Mathlib.Numerals.{add-one}
-use native.Mathlib.Omega.{arith}
-use lib.ListN.{length, length-append}
-use Rattle.fields.specs.Field.{bits_of}
+use Prim.Native.Nat.{◌-◌, ◌≤◌}
 use Rattle.fields.specs.Sink.{Put}
 use Rattle.plan_writer.specs.ActionBits.{action_bits}
-use Rattle.fields.proofs.Laws.Puts.{empty, empty_sound, put_none, put_length, put_both}
-use Rattle.plan.proofs.Laws.Found.{ruled_few}
-use Rattle.plan_writer.proofs.Laws.Numbers.{plan_written}
-use Rattle.plan_writer.proofs.Laws.PlanBits.{up_to, up_to_rises, plan_up_to, plan_room, place_writable}
+use Rattle.plan_writer.proofs.Laws.PlanBits.{up_to}
 use Rattle.plan_writer.proofs.write_plan.Given as goal
 
 abbrev pub invariant-loop-k : goal.invariant-loop-k
