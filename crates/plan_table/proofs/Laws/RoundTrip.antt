@@ -1,15 +1,14 @@
 -- The two entries of the open table undo one another: from plan bytes to a table and back, and from a table to plan bytes and back.
-use Prim.Native.Nat.{ℕ, ◌*◌, ◌/◌, ◌≤◌}
+use Prim.Native.Nat.{ℕ, ◌*◌, ◌/◌}
 use native.Mathlib.Omega.{arith}
 use mathlib.Core.Path.{◌≡◌, refl, sym, ap, ap₂, ◌∙◌}
 use mathlib.Core.List.{List, ◌++◌}
-use lib.ListN.{length, get_or, take, drop}
+use lib.ListN.{length, take, drop}
 use lib.Seq.{take_at}
 use Rattle.plan.specs.Refusal.{Outcome, refused, accepted}
-use Rattle.plan.specs.Plan.{Plan, total}
+use Rattle.plan.specs.Plan.{total}
 use Rattle.fields.specs.Field.{Bytes}
 use Rattle.plan.specs.Reader.{Read, read_plan}
-use Rattle.plan_writer.specs.Writer.{plan_bytes}
 use Rattle.plan_writer.specs.Written.{written, encoded}
 use Rattle.plan_table.specs.Table.{table_of, read_table, tabled, to_table, to_plan}
 use Rattle.plan.proofs.Laws.Accepted.{accepted_as}
