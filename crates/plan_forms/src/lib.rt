@@ -1,5 +1,6 @@
 // Plan bytes turned into the other form (document 02, L6).
 #![tactic(auto)]
+
 ghost use Rattle.std.specs.Prelude.{◌≡◌};
 ghost use Rattle.plan.specs.Contract.{Some, ◌⇒◌};
 ghost use Rattle.plan.specs.Rules.{costs_fit};
