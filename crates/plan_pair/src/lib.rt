@@ -1,6 +1,7 @@
 // Two plans under a new root, to be built together (document 02, L9). The result is laid out in one array: the new root and the first
 // plan as soon as that is read, then the second. That it keeps all rules is proved and not tested.
 #![tactic(auto)]
+
 ghost use Rattle.std.specs.Prelude.{◌≡◌, ◌+◌, ◌≤◌, ◌<◌, length, take};
 ghost use Rattle.plan.specs.Contract.{Some, ◌⇒◌};
 ghost use Rattle.plan.specs.Plan.{job, total};

@@ -1,0 +1,15 @@
+-- `plan_pair::lay_jobs` meets its contract. The loop's invariant: the jobs before job j are laid.
+use Prim.Native.Nat.{◌-◌, ◌≤◌}
+use mathlib.Core.Path.{◌≡◌}
+use lib.ListN.{length}
+use Rattle.plan.specs.Plan.{Plan}
+use Rattle.plan_pair.specs.Given.{Lays}
+use Rattle.plan_pair.proofs.Laws.Laying.{first_jobs}
+use Rattle.plan_pair.proofs.lay_jobs.Given as goal
+
+abbrev pub invariant-loop-j : goal.invariant-loop-j
+invariant-loop-j l =
+    (l.j ≤ l.jobs) × ((p : Plan) → Lays l.d l.from l.plan p → l.jobs ≡ length p → l.sheet ≡ first_jobs l.d l.from p l.initial.sheet l.j)
+
+abbrev pub decreases-loop-j : goal.decreases-loop-j
+decreases-loop-j l = l.jobs - l.j
