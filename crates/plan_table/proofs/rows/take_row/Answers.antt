@@ -63,7 +63,7 @@ fits c =
     let r = c.cost_stands in
     record {
       some = omega arith;
-      word = omega (arith, c.shared_slice_known-3-1.given (5 * a.k + 1));
+      word = omega (arith, c.type_inv.table (5 * a.k + 1));
       few = omega arith;
       short = omega (arith, begins-Else-k-first_of-ge255 c);
       stands = of_true _ (sym r.ensures ∙ not-false _ (ap not c.if-not-cost_stands.false));
