@@ -1,40 +1,40 @@
 // Reads P, the choice count, the choices and a plan from standard input, runs the plan, and prints the counts of the run, or
 // the number of the refusal (document 01, "Cases"). The work is `build::build`.
 #![tactic(auto)]
+
 use build::{Built, Counts, build};
 use numbers::units8;
+use reading::read_full;
+use std::io;
 
-fn main() {
+fn main(rt: HostRuntime) -> io::Result<()> {
     let mut input = [0u8; 16384];
-    let n = io::read_full(0, &mut input);
-    told(build(&input[..n]));
+    let n = read_full(&mut rt.reader(), &mut input)?;
+    told(&rt, build(&input[..n]))
 }
 
-fn told(b: Built) {
+fn told(rt: &impl Print, b: Built) -> io::Result<()> {
     match b {
-        Built::Refused(cause) => line(b"refused", units8(plan::refusal::number(cause))),
-        Built::Counted(c) => counts(c),
+        Built::Refused(cause) => line(rt, "refused", units8(plan::refusal::number(cause))),
+        Built::Counted(c) => counts(rt, c),
     }
 }
 
-fn counts(c: Counts) {
-    line(b"rounds", c.rounds);
-    line(b"actions", c.actions);
-    line(b"longest", c.longest);
-    line(b"path", c.path);
-    line(b"parallel", c.parallel);
-    line(b"rest", c.rest);
-    line(b"peak", c.peak);
-    line(b"idle", c.idle);
-    line(b"requests", c.requests);
-    line(b"steals", c.steals);
-    line(b"bare", c.bare);
-    line(b"idle-victim", c.idle_victim);
+fn counts(rt: &impl Print, c: Counts) -> io::Result<()> {
+    line(rt, "rounds", c.rounds)?;
+    line(rt, "actions", c.actions)?;
+    line(rt, "longest", c.longest)?;
+    line(rt, "path", c.path)?;
+    line(rt, "parallel", c.parallel)?;
+    line(rt, "rest", c.rest)?;
+    line(rt, "peak", c.peak)?;
+    line(rt, "idle", c.idle)?;
+    line(rt, "requests", c.requests)?;
+    line(rt, "steals", c.steals)?;
+    line(rt, "bare", c.bare)?;
+    line(rt, "idle-victim", c.idle_victim)
 }
 
-fn line(name: &[u8], value: u32) {
-    io::write_all(1, name);
-    io::write_all(1, b" ");
-    io::print_decimal(1, value as u64);
-    io::write_all(1, b"\n");
+fn line(rt: &impl Print, name: &str, value: u32) -> io::Result<()> {
+    println!(rt; "{name} {value}")
 }

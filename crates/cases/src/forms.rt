@@ -5,17 +5,18 @@ use crate::rooms::number;
 use crate::told::{refused, told};
 use plan_forms::{to_form_1, to_form_2};
 use plan_writer::Answer;
+use std::io;
 
-pub fn case(form: u32, plan: &[u8], rest: &[u8]) {
+pub fn case(rt: &impl Print, form: u32, plan: &[u8], rest: &[u8]) -> io::Result<()> {
     let mut bytes = [170u8; 8192];
     match within(room(rest), form, plan, &mut bytes) {
         Answer::Refused(cause) => {
-            refused(cause);
-            kept(&bytes, 0, b", kept");
+            refused(rt, cause)?;
+            kept(rt, &bytes, 0, ", kept")
         }
         Answer::Count(n) => {
-            told(b"bytes ", n);
-            back(plan, &bytes, n);
+            told(rt, "bytes ", n)?;
+            back(rt, plan, &bytes, n)
         }
     }
 }
@@ -44,16 +45,17 @@ fn turned(form: u32, plan: &[u8], bytes: &mut [u8]) -> Answer {
 }
 
 // The first n bytes are turned into the form that the plan has.
-fn back(plan: &[u8], bytes: &[u8], n: usize) {
+fn back(rt: &impl Print, plan: &[u8], bytes: &[u8], n: usize) -> io::Result<()> {
     if n <= bytes.len() {
         let mut again = [170u8; 8192];
         match turned(form_of(plan), &bytes[0..n], &mut again) {
-            Answer::Refused(cause) => refused(cause),
+            Answer::Refused(cause) => refused(rt, cause)?,
             Answer::Count(m) => {
-                told(b", back ", m);
-                compared(plan, &again, m);
-                kept(bytes, n, b" kept");
+                told(rt, ", back ", m)?;
+                compared(rt, plan, &again, m)?;
+                kept(rt, bytes, n, " kept")?;
             }
         }
     }
+    Ok(())
 }

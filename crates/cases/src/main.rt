@@ -4,6 +4,7 @@
 // pair the frame, for a pool the worker count, and for `into1`, `into2`, a pair and a pool the room, where not the whole buffer is
 // lent. Files, list and answers are written by tools/cases.rs.
 #![tactic(auto)]
+
 mod builds;
 mod forms;
 mod pairs;
@@ -11,93 +12,100 @@ mod plans;
 mod pools;
 mod rooms;
 mod rows;
+mod scan;
 mod schedules;
 mod tables;
 mod told;
 
-use bytes::scan::find;
-use check::same;
+use reading::read_full;
+use scan::{find, same};
+use std::rt::Files;
+use std::{fs, io};
 use told::told;
 
-fn main() {
-    let mut list = io::large_buffer();
-    let n = io::read_full(0, &mut list);
+fn main(rt: HostRuntime) -> io::Result<()> {
+    let mut list = [0u8; 65536];
+    let n = read_full(&mut rt.reader(), &mut list)?;
     if n == list.len() {
-        io::write_all(1, b"the list is too long\n");
+        rt.print("the list is too long\n")?;
     }
-    told(b"cases ", each(&list[..n]));
-    io::write_all(1, b"\n");
+    told(&rt, "cases ", each(&rt, &list[..n])?)?;
+    rt.print("\n")
 }
 
-// Runs the case of each line: how many there are.
-fn each(list: &[u8]) -> usize {
+// Runs the case of each line: how many there are. A line takes a byte at least, so that there are no more lines than bytes.
+fn each(rt: &(impl Files + Print), list: &[u8]) -> io::Result<usize> {
     let mut cases = 0;
     let mut at = 0;
-    while at < list.len() {
-        let end = find(list, at, list.len(), b'\n');
-        case(&list[at..end]);
-        cases += 1;
+    for k in 0..list.len() {
+        if list.len() <= at {
+            break;
+        }
+        let end = find(list, at, b'\n');
+        case(rt, &list[at..end])?;
+        cases = k + 1;
         at = end + 1;
     }
-    cases
+    Ok(cases)
 }
 
 // The line stands in front of what comes of it, so that a wrong list shows.
-fn case(line: &[u8]) {
-    io::write_all(1, line);
-    let kind = find(line, 0, line.len(), b' ');
+fn case(rt: &(impl Files + Print), line: &[u8]) -> io::Result<()> {
+    rt.write_all(line)?;
+    let kind = find(line, 0, b' ');
     if kind == line.len() {
-        io::write_all(1, b": no name\n");
-        return;
+        return rt.print(": no name\n");
     }
-    let name = find(line, kind + 1, line.len(), b' ');
-    io::write_all(1, b": ");
-    opened(
-        os::open_read(&line[kind + 1..name]),
-        &line[0..kind],
-        &line[name..],
-    );
-    io::write_all(1, b"\n");
+    let name = find(line, kind + 1, b' ');
+    rt.print(": ")?;
+    named(rt, &line[0..kind], &line[kind + 1..name], &line[name..])?;
+    rt.print("\n")
 }
 
-// The case of an open file. What follows the file's name in the line is `rest`.
-fn opened(fd: i32, kind: &[u8], rest: &[u8]) {
-    if fd < 0 {
-        io::write_all(1, b"not opened");
-        return;
+// The case of a file by its name. What follows the name in the line is `rest`.
+fn named<R: Files + Print>(rt: &R, kind: &[u8], name: &[u8], rest: &[u8]) -> io::Result<()> {
+    let Ok(name) = str::from_utf8(name) else {
+        return rt.print("not opened");
+    };
+    match fs::open(rt, name) {
+        Ok(file) => opened(rt, file, kind, rest),
+        Err(_) => rt.print("not opened"),
     }
+}
+
+// The case of an open file.
+fn opened<R: Files + Print>(rt: &R, mut file: R::File, kind: &[u8], rest: &[u8]) -> io::Result<()> {
     let mut input = [0u8; 20500];
-    let len = io::read_full(fd, &mut input);
-    libc::close(fd);
+    let len = read_full(&mut file, &mut input)?;
+    drop(file);
     if len == input.len() {
-        io::write_all(1, b"too long");
-        return;
+        return rt.print("too long");
     }
-    of_kind(kind, &input[..len], rest);
+    of_kind(rt, kind, &input[..len], rest)
 }
 
-fn of_kind(kind: &[u8], input: &[u8], rest: &[u8]) {
+fn of_kind(rt: &impl Print, kind: &[u8], input: &[u8], rest: &[u8]) -> io::Result<()> {
     if same(kind, b"plan") {
-        plans::case(input);
+        plans::case(rt, input)
     } else if same(kind, b"table") {
-        tables::case(input, rest);
+        tables::case(rt, input, rest)
     } else if same(kind, b"room") {
-        rooms::case(input, rest);
+        rooms::case(rt, input, rest)
     } else if same(kind, b"into1") {
-        forms::case(1, input, rest);
+        forms::case(rt, 1, input, rest)
     } else if same(kind, b"into2") {
-        forms::case(2, input, rest);
+        forms::case(rt, 2, input, rest)
     } else if same(kind, b"pair") {
-        pairs::case(input, rest);
+        pairs::case(rt, input, rest)
     } else if same(kind, b"run") {
-        builds::case(input);
+        builds::case(rt, input)
     } else if same(kind, b"pool") {
-        pools::case(input, rest);
+        pools::case(rt, input, rest)
     } else if same(kind, b"check") {
-        schedules::given(input);
+        schedules::given(rt, input)
     } else if same(kind, b"own") {
-        schedules::own(input);
+        schedules::own(rt, input)
     } else {
-        io::write_all(1, b"no such kind");
+        rt.print("no such kind")
     }
 }

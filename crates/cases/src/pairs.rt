@@ -7,32 +7,31 @@ use crate::forms::room;
 use crate::plans;
 use crate::plans::{compared, kept};
 use crate::rooms::number;
+use crate::scan::find;
 use crate::told::{refused, told};
-use bytes::scan::find;
 use numbers::wide8;
 use plan_pair::pair;
 use plan_writer::Answer;
+use std::io;
 
-pub fn case(input: &[u8], rest: &[u8]) {
+pub fn case(rt: &impl Print, input: &[u8], rest: &[u8]) -> io::Result<()> {
     if input.len() < 4 {
-        io::write_all(1, b"no lengths");
-        return;
+        return rt.print("no lengths");
     }
     if rest.len() == 0 {
-        io::write_all(1, b"no frame");
-        return;
+        return rt.print("no frame");
     }
     let middle = 4 + length(input[0], input[1]);
     let end = middle + length(input[2], input[3]);
     if input.len() < end {
-        io::write_all(1, b"too short");
-        return;
+        return rt.print("too short");
     }
-    let space = find(rest, 1, rest.len(), b' ');
+    let space = find(rest, 1, b' ');
     let frame = (number(&rest[0..space]) % 100000) as u32;
     let mut bytes = [170u8; 8192];
     let lent = room(&rest[space..]);
     answered(
+        rt,
         within(
             lent,
             &input[4..middle],
@@ -42,7 +41,7 @@ pub fn case(input: &[u8], rest: &[u8]) {
         ),
         &bytes,
         &input[end..],
-    );
+    )
 }
 
 pub fn length(high: u8, low: u8) -> usize
@@ -60,19 +59,20 @@ fn within(lent: usize, first: &[u8], second: &[u8], frame: u32, bytes: &mut [u8]
 }
 
 // What was written is what is expected, and a plan.
-fn answered(a: Answer, bytes: &[u8], expected: &[u8]) {
+fn answered(rt: &impl Print, a: Answer, bytes: &[u8], expected: &[u8]) -> io::Result<()> {
     match a {
         Answer::Refused(cause) => {
-            refused(cause);
-            kept(bytes, 0, b", kept");
+            refused(rt, cause)?;
+            kept(rt, bytes, 0, ", kept")
         }
         Answer::Count(n) => {
-            told(b"bytes ", n);
-            compared(expected, bytes, n);
-            io::write_all(1, b", ");
+            told(rt, "bytes ", n)?;
+            compared(rt, expected, bytes, n)?;
+            rt.print(", ")?;
             if n <= bytes.len() {
-                plans::case(&bytes[0..n]);
+                plans::case(rt, &bytes[0..n])?;
             }
+            Ok(())
         }
     }
 }

@@ -5,38 +5,36 @@ use crate::forms::room;
 use crate::pairs::length;
 use crate::plans::kept;
 use crate::rooms::number;
+use crate::scan::{find, same};
 use crate::schedules::checked;
 use crate::told::{count, refused, told};
-use bytes::scan::find;
-use check::same;
 use pool_runner::entry::pool;
 use runs::tally::Tally;
 use scheduler::run::Ran;
+use std::io;
 
-pub fn case(input: &[u8], rest: &[u8]) {
+pub fn case(rt: &impl Print, input: &[u8], rest: &[u8]) -> io::Result<()> {
     if input.len() < 2 {
-        io::write_all(1, b"no length");
-        return;
+        return rt.print("no length");
     }
     if rest.len() == 0 {
-        io::write_all(1, b"no workers");
-        return;
+        return rt.print("no workers");
     }
     let end = 2 + length(input[0], input[1]);
     if input.len() < end {
-        io::write_all(1, b"too short");
-        return;
+        return rt.print("too short");
     }
-    let space = find(rest, 1, rest.len(), b' ');
+    let space = find(rest, 1, b' ');
     let workers = (number(&rest[0..space]) % 100000) as u32;
     let mut schedule = [170u8; 8192];
     let lent = room(&rest[space..]);
     answered(
+        rt,
         within(lent, &input[2..end], workers, &mut schedule),
         &input[2..end],
         &schedule,
         &input[end..],
-    );
+    )
 }
 
 // Run, with that much of the buffer.
@@ -47,40 +45,47 @@ fn within(lent: usize, plan: &[u8], workers: u32, schedule: &mut [u8]) -> Ran {
     pool(plan, workers, schedule)
 }
 
-fn answered(r: Ran, plan: &[u8], schedule: &[u8], expected: &[u8]) {
+fn answered(
+    rt: &impl Print,
+    r: Ran,
+    plan: &[u8],
+    schedule: &[u8],
+    expected: &[u8],
+) -> io::Result<()> {
     match r {
         Ran::Refused(cause) => {
-            refused(cause);
-            kept(schedule, 0, b", kept");
+            refused(rt, cause)?;
+            kept(rt, schedule, 0, ", kept")
         }
         Ran::Done(t) => {
-            counts(t);
-            written(plan, schedule, expected);
+            counts(rt, t)?;
+            written(rt, plan, schedule, expected)
         }
     }
 }
 
-fn counts(t: Tally) {
-    count(b"rounds ", t.rounds);
-    count(b" actions ", t.actions);
-    count(b" peak ", t.peak);
-    count(b" idle ", t.idle);
-    count(b" requests ", t.requests);
-    count(b" steals ", t.steals);
-    count(b" bare ", t.bare);
-    count(b" idle-victim ", t.idle_victim);
+fn counts(rt: &impl Print, t: Tally) -> io::Result<()> {
+    count(rt, "rounds ", t.rounds)?;
+    count(rt, " actions ", t.actions)?;
+    count(rt, " peak ", t.peak)?;
+    count(rt, " idle ", t.idle)?;
+    count(rt, " requests ", t.requests)?;
+    count(rt, " steals ", t.steals)?;
+    count(rt, " bare ", t.bare)?;
+    count(rt, " idle-victim ", t.idle_victim)
 }
 
 // The buffer begins with what is expected, which is a schedule of the plan.
-fn written(plan: &[u8], schedule: &[u8], expected: &[u8]) {
+fn written(rt: &impl Print, plan: &[u8], schedule: &[u8], expected: &[u8]) -> io::Result<()> {
     let n = expected.len();
-    told(b", bytes ", n);
+    told(rt, ", bytes ", n)?;
     if n <= schedule.len() {
         if same(expected, &schedule[0..n]) {
-            io::write_all(1, b" the same");
+            rt.print(" the same")?;
         }
-        kept(schedule, n, b", beyond kept");
-        io::write_all(1, b", ");
-        checked(plan, &schedule[0..n]);
+        kept(rt, schedule, n, ", beyond kept")?;
+        rt.print(", ")?;
+        checked(rt, plan, &schedule[0..n])?;
     }
+    Ok(())
 }

@@ -3,15 +3,13 @@ use numbers::double8;
 
 // The bytes as numbers, high byte first: how many there are.
 pub fn numbers(s: &[u8], rows: &mut [u16]) -> usize {
-    let mut i = 0;
-    while i < rows.len() {
+    for i in 0..rows.len() {
         if s.len() / 2 <= i {
             return i;
         }
         rows[i] = pair(s[2 * i], s[2 * i + 1]);
-        i += 1;
     }
-    i
+    rows.len()
 }
 
 fn pair(high: u8, low: u8) -> u16 {
@@ -22,12 +20,10 @@ pub fn same_rows(a: &[u16], b: &[u16]) -> bool {
     if a.len() != b.len() {
         return false;
     }
-    let mut i = 0;
-    while i < a.len() {
+    for i in 0..a.len() {
         if a[i] != b[i] {
             return false;
         }
-        i += 1;
     }
     true
 }

@@ -5,57 +5,55 @@ use checker::{Judged, check};
 use numbers::{units8, wide8};
 use plan_measure::{Measured, measure};
 use scheduler::run::{Ran, run};
+use std::io;
 
 // The plan's length in two bytes, high first, the plan, and the schedule.
-pub fn given(input: &[u8]) {
+pub fn given(rt: &impl Print, input: &[u8]) -> io::Result<()> {
     if 2 <= input.len() {
         let start = 2 + wide8(input[0]) * 256 + wide8(input[1]);
         if start <= input.len() {
-            checked(&input[2..start], &input[start..]);
-            return;
+            return checked(rt, &input[2..start], &input[start..]);
         }
     }
-    io::write_all(1, b"cut short");
+    rt.print("cut short")
 }
 
-pub fn checked(plan: &[u8], schedule: &[u8]) {
+pub fn checked(rt: &impl Print, plan: &[u8], schedule: &[u8]) -> io::Result<()> {
     match check(plan, schedule) {
-        Judged::Refused(cause) => refused(cause),
-        Judged::Accepted => {
-            io::write_all(1, b"accepted");
-        }
+        Judged::Refused(cause) => refused(rt, cause),
+        Judged::Accepted => rt.print("accepted"),
     }
 }
 
 // An input of `buildrun`: P, the number of choices in two bytes, high first, the choices, and the plan.
-pub fn own(input: &[u8]) {
+pub fn own(rt: &impl Print, input: &[u8]) -> io::Result<()> {
     if 3 <= input.len() {
         let start = 3 + wide8(input[1]) * 256 + wide8(input[2]);
         if start <= input.len() {
-            ran(units8(input[0]), &input[3..start], &input[start..]);
-            return;
+            return ran(rt, units8(input[0]), &input[3..start], &input[start..]);
         }
     }
-    io::write_all(1, b"cut short");
+    rt.print("cut short")
 }
 
-fn ran(workers: u32, choices: &[u8], plan: &[u8]) {
+fn ran(rt: &impl Print, workers: u32, choices: &[u8], plan: &[u8]) -> io::Result<()> {
     let mut schedule = [0u8; 5124];
     match run(plan, workers, choices, &mut schedule) {
-        Ran::Refused(cause) => refused(cause),
-        Ran::Done(_) => written(plan, &schedule),
+        Ran::Refused(cause) => refused(rt, cause),
+        Ran::Done(_) => written(rt, plan, &schedule),
     }
 }
 
 // The schedule of a run takes up the beginning of the buffer.
-fn written(plan: &[u8], schedule: &[u8]) {
+fn written(rt: &impl Print, plan: &[u8], schedule: &[u8]) -> io::Result<()> {
     match measure(plan) {
-        Measured::Refused(cause) => refused(cause),
+        Measured::Refused(cause) => refused(rt, cause),
         Measured::Of(m) => {
             let len = length(form_of(plan), m.total as usize);
             if len <= schedule.len() {
-                checked(plan, &schedule[0..len]);
+                checked(rt, plan, &schedule[0..len])?;
             }
+            Ok(())
         }
     }
 }

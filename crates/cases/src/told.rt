@@ -2,23 +2,23 @@
 use numbers::wide8;
 use plan::refusal::{Refusal, number};
 use plan_writer::Answer;
+use std::io;
 
-pub fn told(word: &[u8], n: usize) {
-    io::write_all(1, word);
-    io::print_decimal(1, n as u64);
+pub fn told(rt: &impl Print, word: &str, n: usize) -> io::Result<()> {
+    print!(rt; "{word}{n}")
 }
 
-pub fn count(word: &[u8], n: u32) {
-    told(word, n as usize);
+pub fn count(rt: &impl Print, word: &str, n: u32) -> io::Result<()> {
+    told(rt, word, n as usize)
 }
 
-pub fn refused(cause: Refusal) {
-    told(b"refused ", wide8(number(cause)));
+pub fn refused(rt: &impl Print, cause: Refusal) -> io::Result<()> {
+    told(rt, "refused ", wide8(number(cause)))
 }
 
-pub fn answered(word: &[u8], a: Answer) {
+pub fn answered(rt: &impl Print, word: &str, a: Answer) -> io::Result<()> {
     match a {
-        Answer::Refused(cause) => refused(cause),
-        Answer::Count(n) => told(word, n),
+        Answer::Refused(cause) => refused(rt, cause),
+        Answer::Count(n) => told(rt, word, n),
     }
 }

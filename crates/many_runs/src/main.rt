@@ -2,8 +2,12 @@
 // second runner gave (compare/src/bin/runs.rs). An input is its length in two bytes, high first, and its bytes; an answer is a
 // refusal's number or 0, and the twelve counts in four bytes each, in the order in which `buildrun` prints them.
 #![tactic(auto)]
+
 use build::{Built, Counts, build};
 use numbers::{units8, wide8};
+use reading::read_full;
+use std::io;
+use std::io::Read;
 
 #[derive(Clone, Copy)]
 enum Came {
@@ -13,27 +17,29 @@ enum Came {
 }
 
 // Prints the number of each run that differs, and then how many there were.
-fn main() {
+fn main(rt: HostRuntime) -> io::Result<()> {
+    let mut from = rt.reader();
     let mut runs = 0;
     for k in 0..65535u32 {
-        match next_run() {
+        match next_run(&mut from)? {
             Came::End => break,
             Came::Same => {}
-            Came::Differs => told(b"differs: run", k),
+            Came::Differs => told(&rt, "differs: run", k)?,
         }
         runs = k + 1;
     }
-    told(b"runs", runs);
+    told(&rt, "runs", runs)
 }
 
-fn next_run() -> Came {
+fn next_run<R: Read>(from: &mut R) -> io::Result<Came> {
     let mut head = [0u8; 2];
-    if io::read_full(0, &mut head) < 2 {
-        return Came::End;
+    if read_full(from, &mut head)? < 2 {
+        return Ok(Came::End);
     }
     let mut input = [0u8; 16384];
     let mut answer = [0u8; 49];
     read_run(
+        from,
         wide8(head[0]) * 256 + wide8(head[1]),
         &mut input,
         &mut answer,
@@ -41,23 +47,28 @@ fn next_run() -> Came {
 }
 
 // Reads an input of n bytes and its answer, and runs it.
-fn read_run(n: usize, input: &mut [u8], answer: &mut [u8]) -> Came {
+fn read_run<R: Read>(
+    from: &mut R,
+    n: usize,
+    input: &mut [u8],
+    answer: &mut [u8],
+) -> io::Result<Came> {
     if input.len() < n {
-        return Came::End;
+        return Ok(Came::End);
     }
     if answer.len() != 49 {
-        return Came::End;
+        return Ok(Came::End);
     }
-    if io::read_full(0, &mut input[0..n]) < n {
-        return Came::End;
+    if read_full(from, &mut input[0..n])? < n {
+        return Ok(Came::End);
     }
-    if io::read_full(0, answer) < 49 {
-        return Came::End;
+    if read_full(from, answer)? < 49 {
+        return Ok(Came::End);
     }
     if same(build(&input[0..n]), answer) {
-        return Came::Same;
+        return Ok(Came::Same);
     }
-    Came::Differs
+    Ok(Came::Differs)
 }
 
 fn same(b: Built, answer: &[u8]) -> bool {
@@ -98,9 +109,6 @@ fn count_at(answer: &[u8], at: usize) -> u32 {
     high * 65536 + low
 }
 
-fn told(name: &[u8], value: u32) {
-    io::write_all(1, name);
-    io::write_all(1, b" ");
-    io::print_decimal(1, value as u64);
-    io::write_all(1, b"\n");
+fn told(rt: &impl Print, name: &str, value: u32) -> io::Result<()> {
+    println!(rt; "{name} {value}")
 }
