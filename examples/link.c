@@ -1,6 +1,6 @@
 /* A plan of eight actions run on two workers through the library for C, as it stands, by stealing and from a pool, and
    then with costs, turned into form 2 and back, and put under one root with the plan that has costs:
-     rt staticlib cabi && gcc examples/link.c -Iinclude target/staticlib/libcabi.a -o link && ./link */
+     (cd crates/cabi && rt lib) && gcc examples/link.c -Iinclude crates/cabi/out/libcabi.a -o link && ./link */
 #include "dorewhanga.h"
 #include <stdio.h>
 

@@ -1,8 +1,8 @@
 /*
  * Dorewhanga for C and Rust: family build plans, their measures, and their runs by work stealing.
  *
- *     rt staticlib cabi             proves the library and writes target/staticlib/libcabi.a
- *     gcc examples/link.c -Iinclude target/staticlib/libcabi.a
+ *     (cd crates/cabi && rt lib)    proves the library and writes crates/cabi/out/libcabi.a
+ *     gcc examples/link.c -Iinclude crates/cabi/out/libcabi.a
  *
  * A plan is cut into jobs (threads), and each job is a row of actions (instructions). An action takes as many rounds as
  * its cost says, 1 to 15. It may spawn a job, and may send a join to an action of its job's parent. A job has a frame, a
@@ -50,7 +50,7 @@
  *
  * From Rust, declare the functions in an `extern "C"` block and the structs with `#[repr(C)]`: `const uint8_t *` is
  * `*const u8`, `size_t` is `usize`, and `as_ptr()`, `as_mut_ptr()` and `len()` of a slice meet what is asked above.
- * Link with `-L native=target/staticlib -l static=cabi`.
+ * Link with `-L native=crates/cabi/out -l static=cabi`.
  */
 #ifndef DOREWHANGA_H
 #define DOREWHANGA_H
