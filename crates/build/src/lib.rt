@@ -1,5 +1,6 @@
 // What `buildrun` does with its input (document 01, "Cases"): P, the choice count, the choices, and the plan behind them.
 #![tactic(auto)]
+
 ghost use Rattle.std.specs.Prelude.{◌≡◌};
 ghost use Rattle.plan.specs.Contract.{Some, ◌⇒◌};
 ghost use Rattle.build.specs.Build.{ran_with, build_of, built_of, Claimed};

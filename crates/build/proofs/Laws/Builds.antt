@@ -15,7 +15,7 @@ use Rattle.plan.specs.Reader.{read_plan, Read}
 use Rattle.plan.specs.Found.{ReadPlan}
 use Rattle.plan.proofs.Laws.Valid.{total_range}
 use Rattle.plan_measure.specs.declared.Measures.{Measures}
-use Rattle.plan_measure.specs.Measure.{longest, measures_of}
+use Rattle.plan_measure.specs.Measure.{measures_of}
 use Rattle.runs.specs.Setting.{setting}
 use Rattle.runs.specs.declared.tally.Tally.{Tally}
 use Rattle.runs.specs.Run.{run, admitted, run_of}
