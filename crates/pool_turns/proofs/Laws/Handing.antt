@@ -23,7 +23,6 @@ use lib.Seq.{get_or-set_same, get_or-set_other}
 use Rattle.plan.specs.Plan.{Plan, size, action}
 use Rattle.plan.specs.Rules.{Accepted}
 use Rattle.plan.specs.Sheet.{frame_of, first_of, child_at}
-use Rattle.plan.specs.Test.{below}
 use Rattle.plan.proofs.Laws.Lists.{true_of, false_of}
 use Rattle.plan.proofs.Laws.Counts.{equal_tests}
 use Rattle.plan.proofs.Laws.Laid.{laid_end, laid_child}

@@ -3,7 +3,7 @@
 --   heirs_lone, lone_heirs  == none live exactly if no child of it lives
 --   heirs_most              == they are no more than the jobs
 --   heirs_spawn, heirs_end, heirs_same == the count after an action, in this order
-use Prim.Native.Nat.{ℕ, suc, ◌-◌, ◌≤◌, ◌<◌}
+use Prim.Native.Nat.{ℕ, suc, ◌≤◌, ◌<◌}
 use mathlib.Core.Path.{◌≡◌, refl, sym, ◌∙◌}
 use mathlib.Core.Logic.{◌≢◌, by_cases}
 use mathlib.Core.List.{List, [], ◌∷◌}

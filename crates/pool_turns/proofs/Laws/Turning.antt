@@ -7,7 +7,6 @@ use Prim.Native.Nat.{ℕ, ◌+◌, ◌<◌}
 use mathlib.Core.Path.{◌≡◌, refl, ap, sym, ◌∙◌}
 use mathlib.Core.List.{List}
 use native.Mathlib.Omega.{arith}
-use denote.Enum.Declared.{tag_of}
 use lib.ListN.{length, get_or}
 use Rattle.plan.specs.Plan.{Plan, action}
 use Rattle.plan.specs.Sheet.{first_of, cost_at}
@@ -17,7 +16,6 @@ use Rattle.plan.proofs.Laws.Valid.{jobs_range, total_range}
 use Rattle.courses.specs.Row.{place}
 use Rattle.courses.proofs.Laws.Steps.{finished_ends}
 use Rattle.runs.specs.declared.worker.Worker.{Worker}
-use Rattle.runs.specs.contracts.worker.Worker.{the_type}
 use Rattle.runs.specs.declared.worker.Worker.TheVariants.{Holding}
 use Rattle.pools.specs.State.{State, next_of, worker_of}
 use Rattle.pools.specs.Turn.{turn_of, finished}

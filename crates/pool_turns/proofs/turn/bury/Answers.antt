@@ -1,0 +1,47 @@
+-- `turn::bury` meets its contract.
+use mathlib.Core.Path.{sym, ◌∙◌}
+use borrow.Author.Tests.{not-true, not-false}
+use Rattle.pool_turns.proofs.Laws.Burying.{bury_small, bury_root, bury_parent, bury_room, bury_others, bury_held, bury_raised}
+use mathlib.Core.Path.{ap}
+use mathlib.Core.Bool.{not}
+use Rattle.pool_turns.proofs.turn.bury.Goals as goal
+
+pub returns-then-j-eq0 : goal.returns-then-j-eq0
+returns-then-j-eq0 c m g = bury_root g c.if-j-eq0.true
+
+pub parent_of-q-requires : goal.parent_of-q-requires
+parent_of-q-requires c = bury_small c.requires.1
+
+pub lose_child-requires : goal.lose_child-requires
+lose_child-requires c =
+    let g = c.requires.1 in
+    let room = bury_room g c.if-j-eq0.false c.parent_of-q.ensures.0 in
+    (bury_parent g c.if-j-eq0.false c.parent_of-q.ensures.0, room.0, room.1)
+
+pub returns-then-not-lose_child : goal.returns-then-not-lose_child
+returns-then-not-lose_child c m g =
+    bury_others g c.if-j-eq0.false c.parent_of-q.ensures.0 c.lose_child.ensures.0
+    (sym c.lose_child.ensures.1 ∙ not-true _ (ap not c.if-not-lose_child.true))
+
+pub contains-requires : goal.contains-requires
+contains-requires c =
+    bury_parent c.requires.1 c.if-j-eq0.false c.parent_of-q.ensures.0
+
+pub returns-then-not-contains : goal.returns-then-not-contains
+returns-then-not-contains c m g =
+    bury_held g c.if-j-eq0.false c.parent_of-q.ensures.0 c.lose_child.ensures.0
+    (sym c.lose_child.ensures.1 ∙ not-false _ (ap not c.if-not-lose_child.false)) (sym c.contains.ensures ∙ not-true _ (ap not c.if-not-contains.true))
+
+pub remove-requires : goal.remove-requires
+remove-requires c =
+    (bury_parent c.requires.1 c.if-j-eq0.false c.parent_of-q.ensures.0, c.lose_child.ensures.0.long)
+
+pub byte-requires : goal.byte-requires
+byte-requires c =
+    bury_parent c.requires.1 c.if-j-eq0.false c.parent_of-q.ensures.0
+
+pub returns : goal.returns
+returns c m g =
+    bury_raised g c.if-j-eq0.false c.parent_of-q.ensures.0 c.lose_child.ensures.0
+    (sym c.lose_child.ensures.1 ∙ not-false _ (ap not c.if-not-lose_child.false)) (sym c.contains.ensures ∙ not-false _ (ap not c.if-not-contains.false))
+    c.remove.ensures c.byte.ensures
