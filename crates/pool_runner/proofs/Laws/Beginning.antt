@@ -30,7 +30,6 @@ use Rattle.runs.proofs.Laws.Coursed.{hands_of}
 use Rattle.pools.specs.State.{State, next_of, spent_of, worker_of, start}
 use Rattle.pools.specs.Take.{waits, given, giving, take, takes}
 use Rattle.pools.specs.Run.{rounds, pool as pool_of}
-use Rattle.pools.specs.Trace as Trace
 use Rattle.pools.specs.Trace.{taking, turning, Trace}
 use Rattle.pools.proofs.Laws.Coursed.{Fit, none_done, none_spent, start_idle, start_begins, first_born, root_lives, root_ready, trace_stands, taking_goes}
 use Rattle.pools.proofs.Laws.Lowest.{finds, finds_one}

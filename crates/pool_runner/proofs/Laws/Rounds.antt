@@ -38,7 +38,6 @@ use Rattle.pools.specs.State.{State, next_of, spent_of, worker_of}
 use Rattle.pools.specs.Take.{takes}
 use Rattle.pools.specs.Turn.{turn_of, turns, finished}
 use Rattle.pools.specs.Run.{ended, rounds, pool as pool_of}
-use Rattle.pools.specs.Trace as Trace
 use Rattle.pools.specs.Trace.{taking, turning, Trace}
 use Rattle.pools.proofs.Laws.Claimed.{pool_bounds}
 use Rattle.pools.proofs.Laws.Coursed.{Fit, trace_sized, trace_manned, trace_stands, taking_goes}

@@ -18,7 +18,6 @@ use Rattle.runs.specs.State.{holds}
 use Rattle.pools.specs.State.{State, next_of, worker_of, start}
 use Rattle.pools.specs.Take.{lowest, waits, given, giving, take}
 use Rattle.pools.specs.Turn.{hand_after, idled, worked, finished, turn_of, turns}
-use Rattle.pools.specs.Trace as Trace
 use Rattle.pools.specs.Trace.{Stage, Trace}
 use Rattle.pools.proofs.Laws.Passing.{turn_cases, hand_cases}
 use Rattle.rounds.specs.Account.{is_idle}

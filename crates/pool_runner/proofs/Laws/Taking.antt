@@ -30,7 +30,6 @@ use Rattle.runs.specs.State.{holds}
 use Rattle.runs.proofs.Laws.Coursed.{hands_in, hands_of, hands_is}
 use Rattle.pools.specs.State.{State, next_of, spent_of, worker_of}
 use Rattle.pools.specs.Take.{lowest, waits, given, giving, take, takes}
-use Rattle.pools.specs.Trace as Trace
 use Rattle.pools.specs.Trace.{taking, Trace}
 use Rattle.pools.proofs.Laws.Coursed.{trace_stands, taking_fresh}
 use Rattle.pools.proofs.Laws.Lowest.{Finds, finds, finds_one}
@@ -42,7 +41,7 @@ use Rattle.crew.proofs.Laws.Crews.{crewed_mark}
 use Rattle.crew.proofs.Laws.Folds.{fold_skip_next, fold_skip_end}
 use Rattle.crew.proofs.Laws.Members.{member_none}
 use Rattle.crew.proofs.Laws.Walks.{left_known, left_ahead, left_test, left_next}
-use Rattle.pool_set.specs.Pool.{pooled, First, Put}
+use Rattle.pool_set.specs.Pool.{First, Put}
 use Rattle.rounds.specs.Account.{is_idle}
 use Rattle.rounds.proofs.Laws.Standing.{idle_in}
 use Rattle.pool_runner.specs.Rounds.{Noted}
