@@ -1,6 +1,7 @@
 // The library for C and Rust (include/dorewhanga.h). Each function hands its input on to the entry of its name and gives the
 // answer as plain numbers: the refusal's number first, 0 for none, then what was asked for, or 0s.
 #![tactic(auto)]
+
 ghost use Rattle.std.specs.Prelude.{◌≡◌};
 ghost use Rattle.plan.specs.Refusal.{number_of};
 ghost use Rattle.plan_measure.specs.Measure.{measures};
