@@ -3,4 +3,4 @@
 #![tactic(auto)]
 
 pub mod entry;
-pub mod run;
+mod run;

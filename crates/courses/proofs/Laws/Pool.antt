@@ -19,7 +19,7 @@ use mathlib.Core.List.{List, [], ◌∷◌, cons-ne-nil, head-eq_of_cons-eq}
 use native.Mathlib.Omega.{arith}
 use native.Mathlib.Nat.{le_refl, le_trans, mul-le-mul, eq-zero-or-pos}
 use native.Mathlib.Decide.{ℕ_discrete}
-use Rattle.plan.specs.Plan.{Plan, Placed, size, action, parent}
+use Rattle.plan.specs.Plan.{Plan, size, action, parent}
 use Rattle.plan.specs.Rules.{Accepted}
 use Rattle.plan.proofs.Laws.Valid.{jobs_range, size_range}
 use Rattle.plan_measure.specs.Measure.{heaviest}
@@ -33,7 +33,6 @@ use Rattle.lines.proofs.Laws.Act.{Goes, Act, stays, ready_stays, goes_lives, act
 use Rattle.lines.proofs.Laws.Pool.{pool_leaves}
 use Rattle.lines.proofs.Laws.Weight.{filled_most}
 use Rattle.courses.proofs.Laws.PlanShape.{shape, shape_valid}
-use Rattle.courses.proofs.Laws.Course as Course
 use Rattle.courses.proofs.Laws.Course.{Core, cost, next_in, spent_in, Terms, Begins, Works, Ends, Hands, Course}
 use Rattle.courses.proofs.Laws.Kept.{course_kept}
 use Rattle.courses.proofs.Laws.Space.{leaves_space}

@@ -1,7 +1,7 @@
 -- How many turns all actions take: T1, the sum of their costs.
 --   price_work == the turns that all actions take are T1
 --   work_fits  == T1 has no more bits than a round has in a schedule of the plan's form
-use Prim.Native.Nat.{ℕ, suc, ◌+◌, ◌^◌, ◌<◌}
+use Prim.Native.Nat.{ℕ, suc, ◌^◌, ◌<◌}
 use mathlib.Core.Path.{◌≡◌, refl}
 use mathlib.Core.List.{List, [], ◌∷◌}
 use native.Mathlib.Omega.{arith}

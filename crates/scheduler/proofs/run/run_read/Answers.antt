@@ -9,6 +9,7 @@ use Rattle.rounds.proofs.Laws.Beginning.{in_few}
 use Rattle.scheduler.proofs.Laws.RunAnswers.{refuses_workers, refuses_choices, refuses_short, run_asked, rows_asked, run_answers}
 use mathlib.Core.Path.{ap}
 use mathlib.Core.Bool.{not}
+use borrow.Author.Rules.{rules}
 use Rattle.scheduler.proofs.run.run_read.Goals as goal
 use Rattle.scheduler.proofs.run.run_read.Goals.{Else-not-choices_fit}
 
@@ -33,7 +34,9 @@ schedule_length-requires c = let (p, g) = c.requires in in_few g.runs
 
 pub returns-then-schedule-schedule_length : goal.returns-then-schedule-schedule_length
 returns-then-schedule-schedule_length c = λ p g.
-    refuses_short g _ _ _ (manned (goal.at.returns-then-schedule-schedule_length c).Else-not-choices_fit).0 (manned (goal.at.returns-then-schedule-schedule_length c).Else-not-choices_fit).1 (fit (goal.at.returns-then-schedule-schedule_length c).Else-not-choices_fit) (omega (arith, c.schedule_length.ensures.0, c.if-schedule-schedule_length.true))
+    let fits : c.choices_fit.result ≡ true = search rules in
+    refuses_short g _ _ _ (omega arith) (omega arith) (sym c.choices_fit.ensures ∙ fits)
+    (omega (arith, c.schedule_length.ensures.0, c.if-schedule-schedule_length.true))
 
 pub run_rounds-t-requires : goal.run_rounds-t-requires
 run_rounds-t-requires c =
