@@ -5,6 +5,7 @@
 --        1, four, spawns 4 at 0, joins position 3 at 1, last joins 4; job 3, frame 1, one, joins position 3; job 4, frame 1, two, last
 --        joins position 3. T1 17, T∞ 8
 --   pool_cases == the examples of runs
+--   slower_cases == runs of K, by three workers and by four
 --   Deadline == plan bytes, a round count, and the fewest workers or the refusal; meets c == the meanings give that
 --   deadline_cases == the examples of deadlines
 use Rattle.std.specs.Prelude.{ℕ, Bool, false, List, [], ◌∷◌, eqb}
@@ -40,7 +41,7 @@ K =
     ∷ 0x08 ∷ 0x24 ∷ 0x10 ∷ 0x81 ∷ 0x88 ∷ 0x20 ∷ 0x00 ∷ 0x08 ∷ 0x0A ∷ 0x06 ∷ 0x00 ∷ 0x02 ∷ 0x04 ∷ 0x20 ∷ 0x60 ∷ []
 
 unfoldable pub pool_cases : List Case
-unfolding E E2 one_action K
+unfolding E E2 one_action
 pool_cases =
     record {
       plan = E;
@@ -75,7 +76,12 @@ pool_cases =
       rows = row 2 0 ∷ row 3 1 ∷ row 6 1 ∷ row 8 0 ∷ row 13 1 ∷ row 6 0 ∷ row 7 0 ∷ row 11 1 ∷ [];
     }
     ∷ record { plan = one_action; workers = 16; rounds = 1; idle = 15; peak = 1; rows = row 1 0 ∷ [] }
-    ∷ record {
+    ∷ []
+
+unfoldable pub slower_cases : List Case
+unfolding K
+slower_cases =
+    record {
       plan = K;
       workers = 3;
       rounds = 8;

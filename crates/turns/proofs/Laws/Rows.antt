@@ -1,7 +1,8 @@
 -- What a turn makes of the rows, and what is known of the arrays before it.
 --   acts_rowed                   == the rows after an action is done
 --   spent_progressed             == the progress where rounds are spent on an action
---   held_some, turning_some, turning_small == the worker holds some job; round and worker are small
+--   held_tag, turning_tag, turning_small == the worker's tag is that of one that holds a job; round and worker are small
+--   held_some, turning_some      == and so it holds some job
 --   turning_room                 == that job's next action stands where the arrays say, within the rows, and has rounds left
 --   turning_goes                 == a round was spent on it, and it goes on
 --   turning_acting, turning_taken == it was its last round; the row is written and the action done
@@ -11,6 +12,8 @@ use mathlib.Core.Logic.{◌≢◌, ⊎_elim, by_cases}
 use mathlib.Core.Bool.{true, Bool, false}
 use mathlib.Core.List.{List}
 use native.Mathlib.Omega.{arith}
+use denote.Enum.Declared.{tag_of}
+use Rattle.runs.specs.contracts.worker.Worker.{the_type}
 use lib.ListN.{length, length-set, set}
 use lib.Seq.{get_or-set_same, get_or-set_other}
 use Rattle.plan.specs.Plan.{Plan, size}
@@ -73,6 +76,11 @@ spent_progressed {p} ok {next} {spent} {progress} g long {y} known n = record {
     below h l = omega (arith, jobs_range p ok)
 
 -- the tag of a worker that holds a job
+pub held_tag : (x : Worker) → holds x ≡ true → tag_of the_type x ≡ 1
+held_tag Idle e = let z : ◌≡◌ {A = ℕ} 0 1 = cc in absurd (omega arith)
+held_tag (Holding j) e = refl
+held_tag (Waiting v l) e = let z : ◌≡◌ {A = ℕ} 0 1 = cc in absurd (omega arith)
+
 pub held_some : (x : Worker) → holds x ≡ true → ((j : ℕ) → x ≡ Holding j → ⊥) → ⊥
 held_some Idle e none = cc
 held_some (Holding j) e none = none j refl
@@ -80,6 +88,9 @@ held_some (Waiting v l) e none = cc
 
 module _ {x : Worker} {r w weighs : ℕ} {plan progress deques rows : List ℕ} {m : Moment}
     (t : Turning x r w weighs plan progress deques rows m) where
+  pub turning_tag : tag_of the_type x ≡ 1
+  turning_tag = held_tag x t.holding
+
   pub turning_some : ((j : ℕ) → x ≡ Holding j → ⊥) → ⊥
   turning_some = held_some x t.holding
 
