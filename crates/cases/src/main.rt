@@ -9,7 +9,7 @@ mod builds;
 mod forms;
 mod pairs;
 mod plans;
-mod pools;
+mod pool_runs;
 mod rooms;
 mod rows;
 mod scan;
@@ -100,7 +100,7 @@ fn of_kind(rt: &impl Print, kind: &[u8], input: &[u8], rest: &[u8]) -> io::Resul
     } else if same(kind, b"run") {
         builds::case(rt, input)
     } else if same(kind, b"pool") {
-        pools::case(rt, input, rest)
+        pool_runs::case(rt, input, rest)
     } else if same(kind, b"check") {
         schedules::given(rt, input)
     } else if same(kind, b"own") {
