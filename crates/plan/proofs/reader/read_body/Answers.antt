@@ -7,14 +7,14 @@ use mathlib.Core.List.{List}
 use borrow.Author.Tests.{ne_eqb, lt-ltb, le-ltb, not-true, not-false}
 use lib.Dec.{eqb, ltb}
 use Rattle.plan.specs.Test.{either}
-use Rattle.fields.specs.Field.{Step, stop, step, then, field_at, step_of}
+use Rattle.fields.specs.Field.{Step, stop, step, then, field_at}
 use Rattle.plan.specs.Reader.{jobs_at, Read, plan_at, is_form}
 use Rattle.plan.specs.Progress.{formed}
 use Rattle.fields.proofs.Laws.Bits.{field_read}
 use Rattle.plan.proofs.Laws.Steps.{either_right}
 use mathlib.Core.Bool.{not}
 use Rattle.plan.proofs.reader.read_body.Goals as goal
-use Rattle.plan.proofs.reader.read_body.Goals.{Else-not-is_form, In-Cut, In-Cut-cut}
+use Rattle.plan.proofs.reader.read_body.Goals.{Else-not-is_form}
 
 module _ (s : List ℕ) where
   wrong_form : (form m : ℕ) → field_at s 8 0 ≡ step form m → is_form form ≡ false → plan_at s ≡ stop 2
@@ -45,28 +45,20 @@ pub returns-in_default : goal.returns-in_default
 unfolding plan_at
 returns-in_default c = rw (← c.cut.ensures, c.in_default.is)
 
-form_read :
-    (c : In-Cut) → field_at c.args.s.now 8 0 ≡ step c.in-Cut.form c.in-Cut.after
-form_read c = sym c.cut.ensures ∙ ap step_of c.in-Cut.is
-
 pub returns-then-not-is_form : goal.returns-then-not-is_form
 returns-then-not-is_form c =
-    wrong_form _ _ _ (form_read (goal.at.returns-then-not-is_form c).In-Cut) (sym c.is_form.ensures ∙ not-true _ (ap not c.if-not-is_form.true))
+    wrong_form _ _ _ (sym c.in-Cut.ensures) (sym c.is_form.ensures ∙ not-true _ (ap not c.if-not-is_form.true))
 
 pub cut-requires-2 : goal.cut-requires-2
 cut-requires-2 c =
-    (omega (arith, (field_read _ 8 _ _ _ (form_read (goal.at.cut-requires-2 c).In-Cut)).1), omega arith)
-
-form_read-Else-not-is_form :
-    (c : Else-not-is_form) → field_at c.args.s.now 8 0 ≡ step c.in-Cut.form c.in-Cut.after
-form_read-Else-not-is_form c = sym c.cut.ensures ∙ ap step_of c.in-Cut.is
+    (omega (arith, (field_read _ 8 _ _ _ (sym c.in-Cut.ensures)).1), omega arith)
 
 -- the way on after a form that is 1
 went_on :
     (c : Else-not-is_form) → let s = c.args.s.now in
     plan_at s ≡ count_at s c.in-Cut.form c.in-Cut.after
 went_on c =
-    right_form _ _ _ (form_read-Else-not-is_form c) (sym c.is_form.ensures ∙ not-false _ (ap not c.if-not-is_form.false))
+    right_form _ _ _ (sym c.in-Cut.ensures) (sym c.is_form.ensures ∙ not-false _ (ap not c.if-not-is_form.false))
 
 pub returns-in_default-cut : goal.returns-in_default-cut
 returns-in_default-cut c = rw (went_on (goal.at.returns-in_default-cut c).Else-not-is_form, ← c.cut-2.ensures, c.in_default-cut.is)
@@ -75,18 +67,14 @@ pub returns-then-jobs-eq0 : goal.returns-then-jobs-eq0
 returns-then-jobs-eq0 c =
     rw (went_on (goal.at.returns-then-jobs-eq0 c).Else-not-is_form, ← c.cut-2.ensures, c.in-Cut-cut.is, c.if-jobs-eq0.true)
 
-value_read :
-    (c : In-Cut-cut) → field_at c.args.s.now 9 c.in-Cut.after ≡ step c.in-Cut-cut.value c.in-Cut-cut.next
-value_read c = sym c.cut-2.ensures ∙ ap step_of c.in-Cut-cut.is
-
 pub returns-then-jobs-gt256 : goal.returns-then-jobs-gt256
 returns-then-jobs-gt256 c =
-    went_on (goal.at.returns-then-jobs-gt256 c).Else-not-is_form ∙ over _ _ _ _ _ (value_read (goal.at.returns-then-jobs-gt256 c).In-Cut-cut) c.if-jobs-gt256.true
+    went_on (goal.at.returns-then-jobs-gt256 c).Else-not-is_form ∙ over _ _ _ _ _ (sym c.in-Cut-cut.ensures) c.if-jobs-gt256.true
 
 pub read_jobs-requires : goal.read_jobs-requires
 read_jobs-requires c =
-    (omega (arith, (field_read _ 9 _ _ _ (value_read (goal.at.read_jobs-requires c).In-Cut-cut)).1, (field_read _ 8 _ _ _ (form_read (goal.at.read_jobs-requires c).In-Cut)).1), c.if-jobs-gt256.false)
+    (omega (arith, (field_read _ 9 _ _ _ (sym c.in-Cut-cut.ensures)).1, (field_read _ 8 _ _ _ (sym c.in-Cut.ensures)).1), c.if-jobs-gt256.false)
 
 pub returns : goal.returns
 returns c =
-    rw (went_on (goal.at.returns c).Else-not-is_form ∙ within _ _ _ _ _ (value_read (goal.at.returns c).In-Cut-cut) c.if-jobs-eq0.false c.if-jobs-gt256.false) c.read_jobs.ensures
+    rw (went_on (goal.at.returns c).Else-not-is_form ∙ within _ _ _ _ _ (sym c.in-Cut-cut.ensures) c.if-jobs-eq0.false c.if-jobs-gt256.false) c.read_jobs.ensures

@@ -1,18 +1,18 @@
 -- `reader::read_header` meets its contract: each way through it is one way through `header_at`.
 use Prim.Native.Nat.{ℕ, ◌+◌, ◌≤◌, ◌<◌}
 use native.Mathlib.Omega.{arith}
-use mathlib.Core.Path.{◌≡◌, ap, sym, ◌∙◌}
+use mathlib.Core.Path.{◌≡◌, sym, ◌∙◌}
 use mathlib.Core.Bool.{true, false}
 use mathlib.Core.List.{List}
 use borrow.Author.Tests.{ne_eqb, lt-ltb, le-ltb}
 use lib.Dec.{eqb, ltb}
 use Rattle.plan.specs.Test.{either}
-use Rattle.fields.specs.Field.{Step, stop, step, then, field_at, step_of}
+use Rattle.fields.specs.Field.{Step, stop, step, then, field_at}
 use Rattle.plan.specs.Progress.{Head, header_at}
 use Rattle.fields.proofs.Laws.Bits.{field_read}
 use Rattle.plan.proofs.Laws.Steps.{either_right}
 use Rattle.plan.proofs.reader.read_header.Goals as goal
-use Rattle.plan.proofs.reader.read_header.Goals.{Else-weight-eq0, In-Cut, In-Cut-cut}
+use Rattle.plan.proofs.reader.read_header.Goals.{Else-weight-eq0}
 
 module _ (s : List ℕ) (k weight m : ℕ) where
   -- what is left to do once the weight is read
@@ -43,23 +43,15 @@ pub returns-then-weight-eq0 : goal.returns-then-weight-eq0
 unfolding header_at
 returns-then-weight-eq0 c = rw (← c.cut.ensures, c.in-Cut.is, c.if-weight-eq0.true)
 
-weight_read :
-    (c : In-Cut) → field_at c.args.s.now 16 c.args.at ≡ step c.in-Cut.weight c.in-Cut.after
-weight_read c = sym c.cut.ensures ∙ ap step_of c.in-Cut.is
-
 pub cut-requires-2 : goal.cut-requires-2
 cut-requires-2 c =
     let p = c.requires in
-    (omega (arith, (field_read _ 16 _ _ _ (weight_read (goal.at.cut-requires-2 c).In-Cut)).1, p.0), omega arith)
-
-weight_read-Else-weight-eq0 :
-    (c : Else-weight-eq0) → field_at c.args.s.now 16 c.args.at ≡ step c.in-Cut.weight c.in-Cut.after
-weight_read-Else-weight-eq0 c = sym c.cut.ensures ∙ ap step_of c.in-Cut.is
+    (omega (arith, (field_read _ 16 _ _ _ (sym c.in-Cut.ensures)).1, p.0), omega arith)
 
 -- the way on after a weight that is not 0
 went_on :
     (c : Else-weight-eq0) → header_at c.args.s.now c.args.earlier c.args.at ≡ size_at c.args.s.now c.args.earlier c.in-Cut.weight c.in-Cut.after
-went_on c = heavy _ _ _ _ _ (weight_read-Else-weight-eq0 c) c.if-weight-eq0.false
+went_on c = heavy _ _ _ _ _ (sym c.in-Cut.ensures) c.if-weight-eq0.false
 
 pub returns-in_default-cut : goal.returns-in_default-cut
 returns-in_default-cut c = rw (went_on (goal.at.returns-in_default-cut c).Else-weight-eq0, ← c.cut-2.ensures, c.in_default-cut.is)
@@ -68,20 +60,16 @@ pub returns-then-size-eq0 : goal.returns-then-size-eq0
 returns-then-size-eq0 c =
     rw (went_on (goal.at.returns-then-size-eq0 c).Else-weight-eq0, ← c.cut-2.ensures, c.in-Cut-cut.is, c.if-size-eq0.true)
 
-value_read :
-    (c : In-Cut-cut) → field_at c.args.s.now 8 c.in-Cut.after ≡ step c.in-Cut-cut.value c.in-Cut-cut.next
-value_read c = sym c.cut-2.ensures ∙ ap step_of c.in-Cut-cut.is
-
 pub returns-then-earlier-size-gt2048 : goal.returns-then-earlier-size-gt2048
 returns-then-earlier-size-gt2048 c =
-    went_on (goal.at.returns-then-earlier-size-gt2048 c).Else-weight-eq0 ∙ over _ _ _ _ _ _ (value_read (goal.at.returns-then-earlier-size-gt2048 c).In-Cut-cut) c.if-earlier-size-gt2048.true
+    went_on (goal.at.returns-then-earlier-size-gt2048 c).Else-weight-eq0 ∙ over _ _ _ _ _ _ (sym c.in-Cut-cut.ensures) c.if-earlier-size-gt2048.true
 
 pub overflow_cast-weight : goal.overflow_cast-weight
-overflow_cast-weight c = omega (arith, (field_read _ 16 _ _ _ (weight_read (goal.at.overflow_cast-weight c).In-Cut)).0)
+overflow_cast-weight c = omega (arith, (field_read _ 16 _ _ _ (sym c.in-Cut.ensures)).0)
 
 pub returns : goal.returns
 returns c = (
   _,
-  went_on (goal.at.returns c).Else-weight-eq0 ∙ within _ _ _ _ _ _ (value_read (goal.at.returns c).In-Cut-cut) c.if-size-eq0.false c.if-earlier-size-gt2048.false,
+  went_on (goal.at.returns c).Else-weight-eq0 ∙ within _ _ _ _ _ _ (sym c.in-Cut-cut.ensures) c.if-size-eq0.false c.if-earlier-size-gt2048.false,
   c.set_frame.ensures,
 )

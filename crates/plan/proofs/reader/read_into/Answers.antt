@@ -22,7 +22,7 @@ use Rattle.plan.proofs.Laws.Accepted.{read_stop, read_fill, read_spawn, read_joi
 use Rattle.plan.proofs.Laws.Sheets.{laid_all, planned_by}
 use mathlib.Core.Path.{ap}
 use Rattle.plan.proofs.reader.read_into.Goals as goal
-use Rattle.plan.proofs.reader.read_into.Goals.{After-read_body, In-Is}
+use Rattle.plan.proofs.reader.read_into.Goals.{In-Is}
 
 told : (x : Step Read) (plan plan' : List ℕ) (r b : Body) → r ≡ b → PlanRead x plan plan' r → PlanRead x plan plan' b
 told x plan plan' r b e h = rw e at h
@@ -81,18 +81,15 @@ module _ (s : List ℕ) (form jobs actions next : ℕ) (plan : List ℕ) (b : Bo
               }
 
 -- the array that `read_body` leaves, and that it has the plan read
-abbrev new : (c : After-read_body) → List ℕ
+abbrev new : In-Is → List ℕ
 new c = c.read_body.new.plan
 
-abbrev new-In-Is : (c : In-Is) → List ℕ
-new-In-Is c = c.read_body.new.plan
-
 body_read :
-    (c : In-Is) → Body-read c.args.s.now c.in-Is.form c.in-Is.jobs c.in-Is.actions c.in-Is.next (new-In-Is c)
-body_read c = go (told _ c.args.plan.now (new-In-Is c) _ _ c.in-Is.is c.read_body.ensures)
+    (c : In-Is) → Body-read c.args.s.now c.in-Is.form c.in-Is.jobs c.in-Is.actions c.in-Is.next (new c)
+body_read c = go (told _ c.args.plan.now (new c) _ _ c.in-Is.is c.read_body.ensures)
   where
-    go : PlanRead (plan_at c.args.s.now) c.args.plan.now (new-In-Is c) (Body.Is c.in-Is.form c.in-Is.jobs c.in-Is.actions c.in-Is.next)
-        → Body-read c.args.s.now c.in-Is.form c.in-Is.jobs c.in-Is.actions c.in-Is.next (new-In-Is c)
+    go : PlanRead (plan_at c.args.s.now) c.args.plan.now (new c) (Body.Is c.in-Is.form c.in-Is.jobs c.in-Is.actions c.in-Is.next)
+        → Body-read c.args.s.now c.in-Is.form c.in-Is.jobs c.in-Is.actions c.in-Is.next (new c)
     go (p, e, n, a, w) =
         record { p = p; is = e; laid = rw w (laid_all c.args.plan.now p _ _ c.requires.0 (plan_next _ _ _ e).0 n a) }
 

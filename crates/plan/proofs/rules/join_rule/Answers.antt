@@ -19,25 +19,14 @@ target c =
       ends = c.first_of-2.ensures.0;
     }
 
-target-Else-first_of-target : (c : Else-first_of-target)
-    → Target c.args.plan.now c.job_at-j.result c.target_at-t.result c.spawn_of.result c.parent_of-q.result c.first_of.result c.first_of-2.result
-target-Else-first_of-target c =
-    record {
-      child = c.if-j-eq0.false;
-      spawned = c.spawn_of.ensures.0;
-      late = c.if-t-spawn_of.false;
-      owner = c.parent_of-q.ensures.0;
-      begins = c.first_of.ensures.0;
-      ends = c.first_of-2.ensures.0;
-    }
-
 -- it is the place of an action, and not the first
 small : (c : Else-first_of-target)
+    → Target c.args.plan.now c.job_at-j.result c.target_at-t.result c.spawn_of.result c.parent_of-q.result c.first_of.result c.first_of-2.result
     → let place = c.first_of.result + (c.target_at-t.result - 1) in
     (1 ≤ place) × (place < 2048)
-small c =
+small c t =
     let x = c.requires in
-    target_small x.0 _ _ _ x.1 _ c.target_at-t.ensures.0 _ c.job_at-j.ensures.0 _ _ _ _ (target-Else-first_of-target c) c.if-first_of-target.false
+    target_small x.0 _ _ _ x.1 _ c.target_at-t.ensures.0 _ c.job_at-j.ensures.0 _ _ _ _ t c.if-first_of-target.false
 
 pub target_at-t-requires : goal.target_at-t-requires
 target_at-t-requires c = let x = c.requires in omega (arith, total_in_range x.0 x.1.given.laid.range, x.1.here)
@@ -85,10 +74,10 @@ returns-then-first_of-target c = λ p s.
     refused_outside p _ _ _ s _ c.target_at-t.ensures.0 _ c.job_at-j.ensures.0 _ _ _ _ (target (goal.at.returns-then-first_of-target c).After-first_of-2) c.if-first_of-target.true
 
 pub overflow_sub-target-2 : goal.overflow_sub-target-2
-overflow_sub-target-2 c = (small c).0
+overflow_sub-target-2 c = (small c (target (goal.at.overflow_sub-target-2 c).After-first_of-2)).0
 
 pub child_at-requires : goal.child_at-requires
-child_at-requires c = omega (arith, small c)
+child_at-requires c = omega (arith, small c (target (goal.at.child_at-requires c).After-first_of-2))
 
 pub returns-then-child_at-ne0 : goal.returns-then-child_at-ne0
 returns-then-child_at-ne0 c = λ p s.
@@ -96,20 +85,20 @@ returns-then-child_at-ne0 c = λ p s.
     _ c.child_at.ensures.0 c.if-child_at-ne0.true
 
 pub bounds-entering-target : goal.bounds-entering-target
-bounds-entering-target c = (small (goal.at.bounds-entering-target c).Else-first_of-target).1
+bounds-entering-target c = (small (goal.at.bounds-entering-target c).Else-first_of-target (target (goal.at.bounds-entering-target c).After-first_of-2)).1
 
 pub returns-then-entering-target-ge8 : goal.returns-then-entering-target-ge8
 returns-then-entering-target-ge8 c = λ p s.
     refused_ninth p _ _ _ s _ c.target_at-t.ensures.0 _ c.job_at-j.ensures.0 _ _ _ _ (target (goal.at.returns-then-entering-target-ge8 c).After-first_of-2) c.if-first_of-target.false c.if-entering-target-ge8.true
 
 pub bounds-entering-target-2 : goal.bounds-entering-target-2
-bounds-entering-target-2 c = (small (goal.at.bounds-entering-target-2 c).Else-first_of-target).1
+bounds-entering-target-2 c = (small (goal.at.bounds-entering-target-2 c).Else-first_of-target (target (goal.at.bounds-entering-target-2 c).After-first_of-2)).1
 
 pub overflow_add-entering : goal.overflow_add-entering
 overflow_add-entering c = omega arith
 
 pub bounds-entering-target-3 : goal.bounds-entering-target-3
-bounds-entering-target-3 c = (small (goal.at.bounds-entering-target-3 c).Else-first_of-target).1
+bounds-entering-target-3 c = (small (goal.at.bounds-entering-target-3 c).Else-first_of-target (target (goal.at.bounds-entering-target-3 c).After-first_of-2)).1
 
 pub returns : goal.returns
 returns c = λ p s.
