@@ -1,56 +1,43 @@
 -- `plan_pair::lay_job` meets its contract. The loop's invariant: the actions before place k are laid, behind the job's frame.
-use Prim.Native.Nat.{ℕ, suc, ◌+◌, ◌≤◌, ◌<◌}
+use Prim.Native.Nat.{ℕ, suc, ◌+◌, ◌<◌}
 use mathlib.Core.Path.{◌≡◌, sym}
 use native.Mathlib.Omega.{arith}
 use Rattle.plan.specs.Plan.{Plan, size}
-use Rattle.plan.specs.Sheet.{first_of}
 use Rattle.plan.proofs.Laws.Placed.{start}
 use Rattle.plan_pair.specs.Given.{LaysJob}
 use Rattle.plan_pair.proofs.Laws.Laying.{job_place, job_room, action_given, first_rows, rows_none, action_more, job_whole}
 use Rattle.plan_pair.proofs.lay_job.Goals as goal
-use Rattle.plan_pair.proofs.lay_job.Goals.{At-loop-k, In-loop-k, Start}
-
--- the limits of what is laid
-room : (s : Start) → let a = s.args in
-    (a.d + a.j < 256) × (first_of a.plan.now a.j ≤ first_of a.plan.now (a.j + 1)) × (a.from + first_of a.plan.now (a.j + 1) ≤ 2048)
-room s = job_room s.requires.1
-
--- the job's end, at the loop's head
-bound : (l : At-loop-k) → l.first_of-end.result ≡ first_of l.args.plan.now (l.args.j + 1)
-bound l = l.first_of-end.ensures.0
+use Rattle.plan_pair.proofs.lay_job.Goals.{In-loop-k}
 
 pub overflow_add-j : goal.overflow_add-j
-overflow_add-j c = omega (arith, room c)
+overflow_add-j c = omega (arith, job_room c.requires.1)
 
 pub first_of-end-requires : goal.first_of-end-requires
-first_of-end-requires c = omega (arith, room c)
+first_of-end-requires c = omega (arith, job_room c.requires.1)
 
 pub first_of-k-requires : goal.first_of-k-requires
-first_of-k-requires c = omega (arith, room (goal.at.first_of-k-requires c).Start)
+first_of-k-requires c = omega (arith, job_room c.requires.1)
 
 pub overflow_add-d : goal.overflow_add-d
-overflow_add-d c = omega (arith, room (goal.at.overflow_add-d c).Start)
+overflow_add-d c = omega (arith, job_room c.requires.1)
 
 pub frame_of-requires : goal.frame_of-requires
-frame_of-requires c = omega (arith, room (goal.at.frame_of-requires c).Start)
+frame_of-requires c = omega (arith, job_room c.requires.1)
 
 pub set_frame-requires : goal.set_frame-requires
-set_frame-requires c = omega (arith, room (goal.at.set_frame-requires c).Start)
+set_frame-requires c = omega (arith, job_room c.requires.1)
 
 pub loop-k-init : goal.loop-k-init
 loop-k-init c =
     let e = c.first_of-end.ensures.0 in
     let f = c.first_of-k.ensures.0 in
-    (omega (arith, room (goal.at.loop-k-init c).Start), λ p g. (0, omega (arith, job_place g), sym (rows_none g _)))
+    (omega (arith, job_room c.requires.1), λ p g. (0, omega (arith, job_place g), sym (rows_none g _)))
 
 pub overflow_add-from : goal.overflow_add-from
-overflow_add-from c = omega (arith, room (goal.at.overflow_add-from c).Start, bound (goal.at.overflow_add-from c).At-loop-k)
+overflow_add-from c = omega (arith, job_room c.requires.1, c.first_of-end.ensures.0)
 
 pub overflow_add-d-in-loop-k : goal.overflow_add-d-in-loop-k
-overflow_add-d-in-loop-k c = omega (arith, room (goal.at.overflow_add-d-in-loop-k c).Start)
-
-bound-In-loop-k : (l : In-loop-k) → l.first_of-end.result ≡ first_of l.args.plan.now (l.args.j + 1)
-bound-In-loop-k l = l.first_of-end.ensures.0
+overflow_add-d-in-loop-k c = omega (arith, job_room c.requires.1)
 
 -- the action at hand
 here : (c : In-loop-k) → (p : Plan) (g : LaysJob c.args.d c.args.from c.args.j c.args.plan.now p)
@@ -58,7 +45,7 @@ here : (c : In-loop-k) → (p : Plan) (g : LaysJob c.args.d c.args.from c.args.j
     × (c.loop-k.sheet ≡ first_rows g c.set_frame.new.plan n)
 here c p g =
     let (n, e, is) = c.loop-k.invariant.1 p g in
-    (n, e, omega (arith, c.loop-k-test.true, bound-In-loop-k c, job_place g), is)
+    (n, e, omega (arith, c.loop-k-test.true, c.first_of-end.ensures.0, job_place g), is)
 
 pub lay_action-requires : goal.lay_action-requires
 lay_action-requires c =
@@ -68,7 +55,7 @@ lay_action-requires c =
 
 pub overflow_add-k : goal.overflow_add-k
 overflow_add-k c =
-    omega (arith, room (goal.at.overflow_add-k c).Start, bound (goal.at.overflow_add-k c).At-loop-k)
+    omega (arith, job_room c.requires.1, c.first_of-end.ensures.0)
 
 pub loop-k-smaller : goal.loop-k-smaller
 loop-k-smaller c = omega arith
@@ -82,20 +69,20 @@ loop-k-preserved c = (
 )
 
 pub overflow_add-d-2 : goal.overflow_add-d-2
-overflow_add-d-2 c = omega (arith, room (goal.at.overflow_add-d-2 c).Start)
+overflow_add-d-2 c = omega (arith, job_room c.requires.1)
 
 pub overflow_add-d-3 : goal.overflow_add-d-3
-overflow_add-d-3 c = omega (arith, room (goal.at.overflow_add-d-3 c).Start)
+overflow_add-d-3 c = omega (arith, job_room c.requires.1)
 
 pub overflow_add-from-2 : goal.overflow_add-from-2
-overflow_add-from-2 c = omega (arith, room (goal.at.overflow_add-from-2 c).Start, bound (goal.at.overflow_add-from-2 c).At-loop-k)
+overflow_add-from-2 c = omega (arith, job_room c.requires.1, c.first_of-end.ensures.0)
 
 pub set_first-requires : goal.set_first-requires
-set_first-requires c = omega (arith, room (goal.at.set_first-requires c).Start, bound (goal.at.set_first-requires c).At-loop-k)
+set_first-requires c = omega (arith, job_room c.requires.1, c.first_of-end.ensures.0)
 
 pub returns : goal.returns
 returns c p g =
     let (n, e, is) = c.loop-k.invariant.1 p g in
     let a = c.args in
-    let whole : n ≡ size p a.j = omega (arith, c.loop-k-test.false, c.loop-k.invariant.0, bound (goal.at.returns c).At-loop-k, job_place g) in
-    job_whole g a.sheet.now n _ _ whole (bound (goal.at.returns c).At-loop-k) c.frame_of.ensures.0 c.set_frame.ensures is c.set_first.ensures
+    let whole : n ≡ size p a.j = omega (arith, c.loop-k-test.false, c.loop-k.invariant.0, c.first_of-end.ensures.0, job_place g) in
+    job_whole g a.sheet.now n _ _ whole c.first_of-end.ensures.0 c.frame_of.ensures.0 c.set_frame.ensures is c.set_first.ensures

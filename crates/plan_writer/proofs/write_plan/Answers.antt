@@ -16,21 +16,18 @@ use Rattle.plan_writer.proofs.write_plan.Goals as goal
 use Rattle.plan_writer.proofs.write_plan.Goals.{At-loop-k, Start}
 
 -- the bits of the actions before place k
-abbrev before : (s : Start) → ℕ → List ℕ
-before s k = up_to (action_bits s.args.form s.args.plan.now) k
+abbrev before : ℕ → List ℕ → ℕ → List ℕ
+before form plan k = up_to (action_bits form plan) k
 
 -- the room for all bits
-room : (s : Start) → 17 + length (before s s.args.actions) ≤ 8 * length s.args.out.now
+room : (s : Start) → 17 + length (before s.args.form s.args.plan.now s.args.actions) ≤ 8 * length s.args.out.now
 room s = plan_room s.requires.1.given s.args.form (length s.args.out.now) s.requires.1.room
 
-abbrev before-At-loop-k : (s : At-loop-k) → ℕ → List ℕ
-before-At-loop-k s k = up_to (action_bits s.args.form s.args.plan.now) k
-
 -- all that is written at the loop's head
-written : (l : At-loop-k) → Put l.args.out.now empty ((bits_of 8 l.args.form ++ bits_of 9 l.args.jobs) ++ before-At-loop-k l l.loop-k.k) l.loop-k.out l.loop-k.sink
+written : (l : At-loop-k) → Put l.args.out.now empty ((bits_of 8 l.args.form ++ bits_of 9 l.args.jobs) ++ before l.args.form l.args.plan.now l.loop-k.k) l.loop-k.out l.loop-k.sink
 written l = put_both (put_both l.put-sink.ensures l.put-sink-2.ensures) l.loop-k.invariant.1
 
-reach : (l : At-loop-k) → (8 * l.loop-k.sink.bytes + l.loop-k.sink.bits ≡ 17 + length (before-At-loop-k l l.loop-k.k)) × (length l.loop-k.out ≡ length l.args.out.now)
+reach : (l : At-loop-k) → (8 * l.loop-k.sink.bytes + l.loop-k.sink.bits ≡ 17 + length (before l.args.form l.args.plan.now l.loop-k.k)) × (length l.loop-k.out ≡ length l.args.out.now)
 reach l = let w = written l in (omega (arith, put_length (empty_sound _) w), w.same)
 
 pub put-sink-requires : goal.put-sink-requires

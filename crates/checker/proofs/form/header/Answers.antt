@@ -1,68 +1,45 @@
 -- `form::header` meets its contract: each field that is missing and each test that fails is one way through `written_at`.
 use native.Mathlib.Omega.{arith}
-use mathlib.Core.Path.{◌≡◌, ap, sym, ◌∙◌}
-use Rattle.fields.specs.Field.{step, field_at, step_of}
+use mathlib.Core.Path.{ap, sym, ◌∙◌}
+use Rattle.fields.specs.Field.{step_of}
 use Rattle.fields.proofs.Laws.Bits.{field_read}
 use Rattle.checker.proofs.Laws.Header.{no_form, no_workers, no_actions, no_zeros, HeaderRead, headed_not, headed_by}
 use Rattle.checker.proofs.form.header.Goals as goal
-use Rattle.checker.proofs.form.header.Goals.{In-Cut, In-Cut-cut, In-Cut-cut-2, In-Cut-cut-3}
+use Rattle.checker.proofs.form.header.Goals.{In-Cut-cut-3}
 
 pub returns-in_default : goal.returns-in_default
 returns-in_default c = no_form _ _ _ 1 (sym c.cut.ensures ∙ ap step_of c.in_default.is)
 
--- the fields that were read
-written_read :
-    (c : In-Cut) → field_at c.args.schedule.now 8 0 ≡ step c.in-Cut.written c.in-Cut.after_form
-written_read c = sym c.cut.ensures ∙ ap step_of c.in-Cut.is
-
+-- `in-Cut.ensures` and the like tell which field was read
 pub cut-requires-2 : goal.cut-requires-2
 cut-requires-2 c =
-    (omega (arith, (field_read _ 8 _ _ _ (written_read c)).1), omega arith)
-
-workers_read :
-    (c : In-Cut-cut) → field_at c.args.schedule.now 5 c.in-Cut.after_form ≡ step c.in-Cut-cut.workers c.in-Cut-cut.after_workers
-workers_read c = sym c.cut-2.ensures ∙ ap step_of c.in-Cut-cut.is
+    (omega (arith, (field_read _ 8 _ _ _ (sym c.in-Cut.ensures)).1), omega arith)
 
 pub returns-in_default-cut : goal.returns-in_default-cut
 returns-in_default-cut c =
-    no_workers _ _ _ _ _ (written_read (goal.at.returns-in_default-cut c).In-Cut) 1 (sym c.cut-2.ensures ∙ ap step_of c.in_default-cut.is)
+    no_workers _ _ _ _ _ (sym c.in-Cut.ensures) 1 (sym c.cut-2.ensures ∙ ap step_of c.in_default-cut.is)
 
 pub cut-requires-3 : goal.cut-requires-3
 cut-requires-3 c = (
-  omega (arith, (field_read _ 8 _ _ _ (written_read (goal.at.cut-requires-3 c).In-Cut)).1, (field_read _ 5 _ _ _ (workers_read c)).1),
+  omega (arith, (field_read _ 8 _ _ _ (sym c.in-Cut.ensures)).1, (field_read _ 5 _ _ _ (sym c.in-Cut-cut.ensures)).1),
   omega arith,
 )
 
-number_read :
-    (c : In-Cut-cut-2) → field_at c.args.schedule.now 12 c.in-Cut-cut.after_workers ≡ step c.in-Cut-cut-2.number c.in-Cut-cut-2.after_count
-number_read c = sym c.cut-3.ensures ∙ ap step_of c.in-Cut-cut-2.is
-
 pub returns-in_default-cut-2 : goal.returns-in_default-cut-2
 returns-in_default-cut-2 c =
-    no_actions _ _ _ _ _ (written_read (goal.at.returns-in_default-cut-2 c).In-Cut) _ _ (workers_read (goal.at.returns-in_default-cut-2 c).In-Cut-cut) 1 (sym c.cut-3.ensures ∙ ap step_of c.in_default-cut-2.is)
+    no_actions _ _ _ _ _ (sym c.in-Cut.ensures) _ _ (sym c.in-Cut-cut.ensures) 1 (sym c.cut-3.ensures ∙ ap step_of c.in_default-cut-2.is)
 
 pub cut-requires-4 : goal.cut-requires-4
 cut-requires-4 c = (
-  omega (arith, (field_read _ 8 _ _ _ (written_read (goal.at.cut-requires-4 c).In-Cut)).1, (field_read _ 5 _ _ _ (workers_read (goal.at.cut-requires-4 c).In-Cut-cut)).1, (field_read _ 12 _ _ _ (number_read c)).1),
+  omega (arith, (field_read _ 8 _ _ _ (sym c.in-Cut.ensures)).1, (field_read _ 5 _ _ _ (sym c.in-Cut-cut.ensures)).1, (field_read _ 12 _ _ _ (sym c.in-Cut-cut-2.ensures)).1),
   omega arith,
 )
 
 pub returns-in_default-cut-3 : goal.returns-in_default-cut-3
 returns-in_default-cut-3 c =
-    no_zeros _ _ _ _ _ (written_read (goal.at.returns-in_default-cut-3 c).In-Cut) _ _ (workers_read (goal.at.returns-in_default-cut-3 c).In-Cut-cut) _ _ (number_read (goal.at.returns-in_default-cut-3 c).In-Cut-cut-2) 1 (sym c.cut-4.ensures ∙ ap step_of c.in_default-cut-3.is)
+    no_zeros _ _ _ _ _ (sym c.in-Cut.ensures) _ _ (sym c.in-Cut-cut.ensures) _ _ (sym c.in-Cut-cut-2.ensures) 1 (sym c.cut-4.ensures ∙ ap step_of c.in_default-cut-3.is)
 
-written_read-In-Cut-cut-3 :
-    (c : In-Cut-cut-3) → field_at c.args.schedule.now 8 0 ≡ step c.in-Cut.written c.in-Cut.after_form
-written_read-In-Cut-cut-3 c = sym c.cut.ensures ∙ ap step_of c.in-Cut.is
-
-workers_read-In-Cut-cut-3 :
-    (c : In-Cut-cut-3) → field_at c.args.schedule.now 5 c.in-Cut.after_form ≡ step c.in-Cut-cut.workers c.in-Cut-cut.after_workers
-workers_read-In-Cut-cut-3 c = sym c.cut-2.ensures ∙ ap step_of c.in-Cut-cut.is
-
-number_read-In-Cut-cut-3 :
-    (c : In-Cut-cut-3) → field_at c.args.schedule.now 12 c.in-Cut-cut.after_workers ≡ step c.in-Cut-cut-2.number c.in-Cut-cut-2.after_count
-number_read-In-Cut-cut-3 c = sym c.cut-3.ensures ∙ ap step_of c.in-Cut-cut-2.is
-
+-- the fields that were read
 all_read :
     (c : In-Cut-cut-3) → HeaderRead c.args.schedule.now c.in-Cut.written c.in-Cut-cut.workers c.in-Cut-cut-2.number c.in-Cut-cut-3.zeros
 all_read c =
@@ -71,10 +48,10 @@ all_read c =
       workers_end = c.in-Cut-cut.after_workers;
       actions_end = c.in-Cut-cut-2.after_count;
       end = c.in-Cut-cut-3.next;
-      form_is = written_read-In-Cut-cut-3 c;
-      workers_are = workers_read-In-Cut-cut-3 c;
-      actions_are = number_read-In-Cut-cut-3 c;
-      zeros_are = sym c.cut-4.ensures ∙ ap step_of c.in-Cut-cut-3.is;
+      form_is = sym c.in-Cut.ensures;
+      workers_are = sym c.in-Cut-cut.ensures;
+      actions_are = sym c.in-Cut-cut-2.ensures;
+      zeros_are = sym c.in-Cut-cut-3.ensures;
     }
 
 pub returns-then-written-form : goal.returns-then-written-form

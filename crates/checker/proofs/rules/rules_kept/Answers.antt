@@ -21,24 +21,12 @@ use Rattle.checker.proofs.Laws.Chains.{chains_none, head_below, walk_first, walk
 use Rattle.checker.proofs.Laws.Buckets.{clear_first, clear_next, clear_all, meet_of, of_meet}
 use Rattle.checker.proofs.Laws.Busy.{span_short, taken_read, noted_none, noted_more, noted_apart}
 use Rattle.checker.proofs.rules.rules_kept.Goals as goal
-use Rattle.checker.proofs.rules.rules_kept.Goals.{After-first_round-first, At-clashes, Else-first-here, Left-clashes, Then-at-eq0, then-clashes-test+else-low-block, else-clashes-test}
-
--- the row is one of the rows, and these are few
-in_rows : (o : After-first_round-first) → (o.actions.k < o.args.actions) × (o.args.actions ≤ 2048)
-in_rows o = (o.actions-test.true, o.actions.invariant.4)
-
--- the row's worker is one of the workers, and its first round is that of its span
-begun : (e : Else-first-here) → let a = span_at e.args.rows.now e.args.plan.now e.actions.k in
-    (a.worker < e.args.workers) × (e.first_round-first.result ≡ a.first)
-begun e = e.first_round-first.ensures.kept (omega arith)
+use Rattle.checker.proofs.rules.rules_kept.Goals.{At-clashes, Else-first-here, Left-clashes, Then-at-eq0, then-clashes-test+else-low-block, else-clashes-test}
 
 -- blocks and buckets are small
 small : (e : Else-first-here) → e.row_of-row.result / 16 / 2 ^ (4 * e.more_of-more.result) + e.more_of-more.result < 4294967296
 small e =
     omega (arith, div-le_self (e.row_of-row.result / 16) (2 ^ (4 * e.more_of-more.result)), e.more_of-more.ensures.1, e.row_of-row.ensures.1)
-
-stride-small : (e : Else-first-here) → 4096 / e.args.workers ≤ 4096
-stride-small e = div-le_self 4096 e.args.workers
 
 -- the loop went on at the end of a chain, so a block is left
 left : (c : Then-at-eq0) → c.first_round-first.result / 2 ^ (4 * c.more_of-more.result) < c.clashes.block
@@ -54,15 +42,12 @@ over x =
       | else-clashes-test w ↦ inr w.clashes-test.false
     ]
 
-begun-At-clashes : (e : At-clashes) → let a = span_at e.args.rows.now e.args.plan.now e.actions.k in
-    (a.worker < e.args.workers) × (e.first_round-first.result ≡ a.first)
-begun-At-clashes e = e.first_round-first.ensures.kept (omega arith)
-
--- the row's rounds have come into the sets
+-- the row's rounds have come into the sets; `first_round-first.ensures.kept` says that its worker is one of the workers, and that its
+-- first round is that of its span
 took : (a : At-clashes) → Taken a.more_of-more.result (4096 / a.args.workers) (span_at a.args.rows.now a.args.plan.now a.actions.k)
     a.actions.busy a.take-free.new.busy a.take-free.result
 took a =
-    taken_read a.args.rows.now a.args.plan.now _ _ _ a.row_of-row.ensures.0 (begun-At-clashes a).1 a.take-free.ensures
+    taken_read a.args.rows.now a.args.plan.now _ _ _ a.row_of-row.ensures.0 (a.first_round-first.ensures.kept (omega arith)).1 a.take-free.ensures
 
 pub line_up-requires : goal.line_up-requires
 line_up-requires c =
@@ -143,7 +128,7 @@ joins-preserved c =
       c.joins.invariant.0,
       omega (arith, c.back_from-sender.ensures),
       rw c.back_from-sender.ensures (walk_next _ _ _ _ _ _ _ _ l c.joins.invariant.2 (omega arith) some
-          (omega (arith, c.if-first-row_of.false, c.row_of.ensures.0, (begun (goal.at.joins-preserved c).Else-first-here).1))),
+          (omega (arith, c.if-first-row_of.false, c.row_of.ensures.0, (c.first_round-first.ensures.kept (omega arith)).1))),
     )
 
 pub overflow_shr-home : goal.overflow_shr-home
@@ -157,14 +142,14 @@ overflow_add-block c = omega (arith, small (goal.at.overflow_add-block c).Else-f
 
 pub latest_in-at-requires : goal.latest_in-at-requires
 latest_in-at-requires c =
-    (small (goal.at.latest_in-at-requires c).Else-first-here, omega arith, stride-small (goal.at.latest_in-at-requires c).Else-first-here)
+    (small (goal.at.latest_in-at-requires c).Else-first-here, omega arith, div-le_self 4096 c.args.workers)
 
 pub take-free-requires : goal.take-free-requires
 take-free-requires c =
     let (t, g) = c.requires in
     let s = span_short _ _ t g c.actions.k (omega arith) in
-    let row = c.row_of-row.ensures in
-    (omega (arith, (begun (goal.at.take-free-requires c).Else-first-here).1), omega (arith, (begun (goal.at.take-free-requires c).Else-first-here).1), row.1, stride-small (goal.at.take-free-requires c).Else-first-here, c.actions.invariant.8.long)
+    let begun = (c.first_round-first.ensures.kept (omega arith)).1 in
+    (omega (arith, begun), omega (arith, begun), c.row_of-row.ensures.1, div-le_self 4096 c.args.workers, c.actions.invariant.8.long)
 
 pub clashes-init : goal.clashes-init
 clashes-init c =
@@ -182,7 +167,7 @@ overflow_sub-block c = omega (arith, left c)
 
 pub latest_in-at-requires-then-at-eq0 : goal.latest_in-at-requires-then-at-eq0
 latest_in-at-requires-then-at-eq0 c =
-    (omega (arith, small (goal.at.latest_in-at-requires-then-at-eq0 c).Else-first-here, c.clashes.invariant.2), omega arith, stride-small (goal.at.latest_in-at-requires-then-at-eq0 c).Else-first-here)
+    (omega (arith, small (goal.at.latest_in-at-requires-then-at-eq0 c).Else-first-here, c.clashes.invariant.2), omega arith, div-le_self 4096 c.args.workers)
 
 pub clashes-smaller-then-at-eq0 : goal.clashes-smaller-then-at-eq0
 clashes-smaller-then-at-eq0 c =
@@ -207,7 +192,7 @@ meets-requires c = omega arith
 
 pub back_from-at-requires : goal.back_from-at-requires
 back_from-at-requires c =
-    (omega arith, omega (arith, c.clashes.invariant.1, in_rows (goal.at.back_from-at-requires c).After-first_round-first))
+    (omega arith, omega (arith, c.clashes.invariant.1))
 
 pub clashes-smaller : goal.clashes-smaller
 clashes-smaller c =
@@ -223,31 +208,31 @@ clashes-preserved c =
       i.2,
       rw c.back_from-at.ensures (walk_next _ _ _ _ _ _ _ _ c.actions.invariant.5 i.3 (omega arith) c.if-at-eq0.false
           (λ m. c.meets.ensures.broken (λ t. rw c.if-meets.false at t)
-          (of_meet c.args.rows.now c.args.plan.now c.actions.k _ _ c.row_of-row.ensures.0 (begun (goal.at.clashes-preserved c).Else-first-here).1 _ m))),
+          (of_meet c.args.rows.now c.args.plan.now c.actions.k _ _ c.row_of-row.ensures.0 (c.first_round-first.ensures.kept (omega arith)).1 _ m))),
       i.4,
     )
 
 pub bucket_of-requires : goal.bucket_of-requires
 bucket_of-requires c =
-    (omega (arith, small (goal.at.bucket_of-requires c).Else-first-here), omega arith, stride-small (goal.at.bucket_of-requires c).Else-first-here)
+    (omega (arith, small (goal.at.bucket_of-requires c).Else-first-here), omega arith, div-le_self 4096 c.args.workers)
 
 pub enter-requires : goal.enter-requires
 enter-requires c =
     let i = c.actions.invariant in
-    (omega (arith, in_rows (goal.at.enter-requires c).After-first_round-first), c.bucket_of.ensures.1, i.1, i.2)
+    (omega arith, c.bucket_of.ensures.1, i.1, i.2)
 
 pub overflow_add-k : goal.overflow_add-k
-overflow_add-k c = omega (arith, in_rows (goal.at.overflow_add-k c).After-first_round-first)
+overflow_add-k c = omega arith
 
 pub actions-smaller : goal.actions-smaller
-actions-smaller c = omega (arith, in_rows (goal.at.actions-smaller c).After-first_round-first)
+actions-smaller c = omega arith
 
 pub actions-preserved : goal.actions-preserved
 actions-preserved c =
     let i = c.actions.invariant in
     let m = c.more_of-more in
     let row = c.row_of-row.ensures.0 in
-    let some = in_rows (goal.at.actions-preserved c).After-first_round-first in (
+    let (manned, begun) = c.first_round-first.ensures.kept (omega arith) in (
       c.clashes.invariant.0,
       c.enter.ensures.heads ∙ i.1,
       c.enter.ensures.links ∙ i.2,
@@ -257,11 +242,11 @@ actions-preserved c =
           (rw row at c.bucket_of.ensures.0) i.5,
       λ t g.
           let (l, here) = c.stand-here.ensures t (stand_given _ _ t _ g (omega arith) (i.7 t g)) in
-          seen_more _ _ _ _ (i.6 t g) (omega (arith, c.if-first-here.false, (begun (goal.at.actions-preserved c).Else-first-here).1)) (begun (goal.at.actions-preserved c).Else-first-here).0
-          ((here.told l).kept (omega (arith, c.if-first-here.false, (begun (goal.at.actions-preserved c).Else-first-here).1))
+          seen_more _ _ _ _ (i.6 t g) (omega (arith, c.if-first-here.false, begun)) manned
+          ((here.told l).kept (omega (arith, c.if-first-here.false, begun))
           (joined_all _ _ t g.tasked _ (omega (arith, g.count)) (λ x l z. c.joins.invariant.2.passed x (omega (arith, c.joins-test.false)) (omega (arith, g.count)) z)))
           (elim (over (goal.at.actions-preserved c).Left-clashes) [
-            | inl u ↦ clear_all _ m.ensures.1 _ _ _ _ _ (omega (arith, row)) c.clashes.invariant.4 (rw u.0 at c.clashes.invariant.3) (begun (goal.at.actions-preserved c).Else-first-here).1 u.1
+            | inl u ↦ clear_all _ m.ensures.1 _ _ _ _ _ (omega (arith, row)) c.clashes.invariant.4 (rw u.0 at c.clashes.invariant.3) begun u.1
             | inr u ↦ noted_apart _ _ t g _ _ _ _ _ _ (omega arith) i.8 (took (goal.at.actions-preserved c).At-clashes) u
           ]),
       λ t g.
@@ -288,11 +273,11 @@ returns-then-first-row_of c = λ t g.
     let (l, e) = c.joins.invariant.2.stands (c.joins.sender - 1) (omega arith) in
     not_kept _ _ _ t g.tasked _ (omega (arith, g.count)) (λ _ _.
     not_joined _ _ t g.tasked _ (omega (arith, g.count)) _ (omega (arith, g.count)) e
-    (omega (arith, c.if-first-row_of.true, c.row_of.ensures.0, (begun (goal.at.returns-then-first-row_of c).Else-first-here).1)))
+    (omega (arith, c.if-first-row_of.true, c.row_of.ensures.0, (c.first_round-first.ensures.kept (omega arith)).1)))
 
 pub returns-then-meets : goal.returns-then-meets
 returns-then-meets c = λ t g.
     not_apart _ _ _ t g.tasked c.actions.k (omega (arith, g.count)) _ (omega (arith, c.clashes.invariant.1))
-    (meet_of c.args.rows.now c.args.plan.now c.actions.k _ _ c.row_of-row.ensures.0 (begun (goal.at.returns-then-meets c).Else-first-here).1
+    (meet_of c.args.rows.now c.args.plan.now c.actions.k _ _ c.row_of-row.ensures.0 (c.first_round-first.ensures.kept (omega arith)).1
     (span_at c.args.rows.now c.args.plan.now (c.clashes.at - 1))
     (c.meets.ensures.kept (of_true _ c.if-meets.true)))

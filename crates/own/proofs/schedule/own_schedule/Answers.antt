@@ -2,34 +2,26 @@
 -- checker does not refuse it.
 use mathlib.Core.Path.{refl}
 use native.Mathlib.Omega.{arith}
-use Rattle.fields.specs.Field.{Bytes}
 use Rattle.plan_writer.proofs.Laws.PlanBytes.{read_form}
 use Rattle.own.proofs.Laws.OwnSchedule.{Sized, length_told, measured_few, left_is, left_read, left_measured, left_room, left_accepted}
 use Rattle.own.proofs.schedule.own_schedule.Goals as goal
-use Rattle.own.proofs.schedule.own_schedule.Goals.{After-run, After-schedule_length-n}
-
--- a slice of bytes holds bytes
-bytes : (r : After-run) → Bytes r.args.plan.now
-bytes r i = omega (arith, r.shared_slice_known-1.given i)
+use Rattle.own.proofs.schedule.own_schedule.Goals.{After-schedule_length-n}
 
 pub bounds-plan-0 : goal.bounds-plan-0
 bounds-plan-0 c =
     let (x, q) = left_read _ _ _ _ _ _ _ c.run.ensures.schedule_after c.in-Done.is in
-    omega (arith, (read_form _ x (bytes (goal.at.bounds-plan-0 c).After-run) q).0)
+    omega (arith, (read_form _ x (λ i. omega (arith, c.type_inv.plan i)) q).0)
 
 pub schedule_length-n-requires : goal.schedule_length-n-requires
 schedule_length-n-requires c =
     let (x, q) = left_read _ _ _ _ _ _ _ c.run.ensures.schedule_after c.in-Done.is in
     measured_few _ _ _ c.measure.ensures.result_value c.in-Of.is x q
 
-bytes-After-schedule_length-n : (r : After-schedule_length-n) → Bytes r.args.plan.now
-bytes-After-schedule_length-n r i = omega (arith, r.shared_slice_known-1.given i)
-
 -- the bytes that are taken are as long as the schedule
 sized : (c : After-schedule_length-n)
     → Sized c.args.plan.now c.schedule_length-n.result
 sized c =
-    length_told _ _ _ c.measure.ensures.result_value c.in-Of.is (bytes-After-schedule_length-n c) _ c.units8.ensures.0 _
+    length_told _ _ _ c.measure.ensures.result_value c.in-Of.is (λ i. omega (arith, c.type_inv.plan i)) _ c.units8.ensures.0 _
     c.schedule_length-n.ensures.0
 
 pub slice_bounds-check-end : goal.slice_bounds-check-end

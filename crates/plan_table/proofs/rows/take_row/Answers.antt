@@ -4,7 +4,6 @@ use mathlib.Core.Path.{◌≡◌, ap, sym, ◌∙◌}
 use mathlib.Core.Bool.{Bool, false}
 use native.Mathlib.Omega.{arith}
 use lib.Dec.{T}
-use borrow.Author.Tests.{not-true, not-false}
 use Rattle.plan.specs.Sheet.{first_of}
 use Rattle.plan_table.specs.Table.{rows_of, plan_of}
 use Rattle.plan_table.specs.GivenRows.{row_at, RowFits}
@@ -12,7 +11,6 @@ use Rattle.plan.proofs.Laws.Lists.{of_true}
 use Rattle.plan.proofs.Laws.Placed.{start as place_of}
 use Rattle.plan_table.proofs.Laws.RowsInRange.{table_refused}
 use Rattle.plan_table.proofs.Laws.TakeRows.{row_begins, rows_more}
-use mathlib.Core.Bool.{not}
 use Rattle.plan_table.proofs.rows.take_row.Goals as goal
 use Rattle.plan_table.proofs.rows.take_row.Goals.{After-first_of, Else-k-first_of-ge255}
 
@@ -27,7 +25,7 @@ failed b r e f t = rw (sym e ∙ f) at t
 pub returns-then-not-cost_stands : goal.returns-then-not-cost_stands
 returns-then-not-cost_stands c =
     let r = c.cost_stands in
-    table_refused c.requires.1.kept c.args.form c.args.k c.requires.0 (λ f. failed _ r.result r.ensures (not-true _ (ap not c.if-not-cost_stands.true)) f.stands)
+    table_refused c.requires.1.kept c.args.form c.args.k c.requires.0 (λ f. failed _ r.result r.ensures c.if-not-cost_stands.true f.stands)
 
 pub returns-then-number-ge256 : goal.returns-then-number-ge256
 returns-then-number-ge256 c =
@@ -48,28 +46,21 @@ pub returns-then-k-first_of-ge255 : goal.returns-then-k-first_of-ge255
 returns-then-k-first_of-ge255 c =
     table_refused c.requires.1.kept c.args.form c.args.k c.requires.0 (λ f. omega (arith, f.short, begins (goal.at.returns-then-k-first_of-ge255 c).After-first_of))
 
-begins-Else-k-first_of-ge255 : (c : Else-k-first_of-ge255) → let a = c.args in
-    (c.first_of.result ≡ place_of (plan_of (rows_of a.table.now)) (row_at a.table.now (5 * a.k)).job) × (c.first_of.result ≤ a.k)
-begins-Else-k-first_of-ge255 c =
-    let b = row_begins c.requires.1 c.requires.0 in
-    let e = ap (first_of c.args.plan.now) c.wide16-number.ensures.0 in
-    (omega (arith, b.0, e, c.first_of.ensures.0), omega (arith, b, e, c.first_of.ensures.0))
-
--- the row fits
+-- the row fits, with what `begins` tells
 fits : (c : Else-k-first_of-ge255) → let a = c.args in
-    RowFits a.form (plan_of (rows_of a.table.now)) (row_at a.table.now (5 * a.k)) a.k
-fits c =
+    c.first_of.result ≡ place_of (plan_of (rows_of a.table.now)) (row_at a.table.now (5 * a.k)).job
+    → RowFits a.form (plan_of (rows_of a.table.now)) (row_at a.table.now (5 * a.k)) a.k
+fits c begins =
     let a = c.args in
-    let r = c.cost_stands in
     record {
       some = omega arith;
       word = omega (arith, c.type_inv.table (5 * a.k + 1));
       few = omega arith;
-      short = omega (arith, begins-Else-k-first_of-ge255 c);
-      stands = of_true _ (sym r.ensures ∙ not-false _ (ap not c.if-not-cost_stands.false));
+      short = omega (arith, begins);
+      stands = of_true _ (sym c.cost_stands.ensures ∙ c.if-not-cost_stands.false);
     }
 
 pub returns : goal.returns
 returns c =
     rw (c.set_action.ensures, c.set_first.ensures, c.set_frame.ensures, c.wide16-number.ensures.0)
-    (rows_more c.requires.1 c.requires.0 (fits (goal.at.returns c).Else-k-first_of-ge255))
+    (rows_more c.requires.1 c.requires.0 (fits (goal.at.returns c).Else-k-first_of-ge255 (begins (goal.at.returns c).After-first_of).0))
