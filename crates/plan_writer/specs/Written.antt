@@ -3,11 +3,10 @@
 --   written output n buffer == the output, of which the answer tells n units, or 9
 --   encoded form o buffer   == the bytes, in that form, of the plan o, or its refusal
 --   answer_of r         == the outcome that an answer stands for
-use Rattle.std.specs.Prelude.{ℕ, true, false, List, ◌++◌, length, drop, leb}
+use Rattle.std.specs.Prelude.{ℕ, true, false, List, ◌++◌, length, drop, leb, Result, Ok, Err}
+use Rattle.plan.specs.declared.refusal.Refusal.{Refusal}
 use Rattle.plan.specs.Refusal.{Outcome, refused, accepted, number_of}
 use Rattle.plan.specs.Plan.{Plan}
-use Rattle.plan_writer.specs.declared.Answer.{Answer}
-use Rattle.plan_writer.specs.declared.Answer.TheVariants.{Refused, Count}
 use Rattle.plan_writer.specs.Writer.{plan_bytes}
 
 -- An entry's answer with what its lent buffer then holds: "On success, bytes or numbers beyond the output keep
@@ -30,6 +29,6 @@ unfolding written plan_bytes
 encoded form (refused n) buffer = record { answer = refused n; buffer = buffer }
 encoded form (accepted p) buffer = written (plan_bytes form p) (length (plan_bytes form p)) buffer
 
-abbrev pub answer_of : Answer → Outcome ℕ
-answer_of (Refused cause) = refused (number_of cause)
-answer_of (Count n) = accepted n
+abbrev pub answer_of : Result ℕ Refusal → Outcome ℕ
+answer_of (Err cause) = refused (number_of cause)
+answer_of (Ok n) = accepted n

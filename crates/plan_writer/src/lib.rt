@@ -16,13 +16,6 @@ use fields::field::{Sink, finish, put};
 use plan::refusal::Refusal;
 use plan::sheet::{Sheet, child_at, cost_at, first_of, frame_of, job_at, target_at};
 
-// The number of units written, rows of a table or bytes of a plan, or why nothing was.
-#[derive(Clone, Copy)]
-pub enum Answer {
-    Refused(Refusal),
-    Count(usize),
-}
-
 // How many bits a number plus 1, or 0, takes.
 fn number_bits(x: usize) -> usize
     ensures { (result ≡ length (number_bits x)) × (result ≤ 9) }
@@ -72,10 +65,8 @@ fn plan_bits(form: u32, jobs: usize, actions: usize, plan: &Sheet) -> usize
     ensures { (result < 65536) × (RuledIn jobs actions plan.now ⇒ (λ p. result ≡ length (plan_bits form p))) }
 {
     let mut bits = 17 + 24 * jobs;
-    let mut k = 0;
-    while k < actions {
+    for k in 0..actions {
         bits += action_bits(form, child_at(plan, k), target_at(plan, k));
-        k += 1;
     }
     bits
 }
@@ -149,23 +140,27 @@ fn write_plan(out: &mut [u8], form: u32, jobs: usize, actions: usize, plan: &She
         8,
     );
     sink = put(out, sink, jobs as u64, 9);
-    let mut k = 0;
-    while k < actions {
+    for k in 0..actions {
         sink = put_action(out, sink, form, k, plan);
-        k += 1;
     }
     finish(out, sink)
 }
 
-// Writes the bytes, in a form, of the plan that the array has, where there is room, and tells their number. It looks at no parent, so
-// none need be noted.
-pub fn encode(form: u32, jobs: usize, actions: usize, plan: &Sheet, bytes: &mut [u8]) -> Answer
+// Writes the bytes, in a form, of the plan that the array has, where there is room, and tells their number, or why nothing was
+// written. It looks at no parent, so none need be noted.
+pub fn encode(
+    form: u32,
+    jobs: usize,
+    actions: usize,
+    plan: &Sheet,
+    bytes: &mut [u8],
+) -> Result<usize, Refusal>
     requires { Some (RuledIn jobs actions plan.now) × (form < 256) }
     ensures { RuledIn jobs actions plan.now
         ⇒ (λ p. record { answer = answer_of result; buffer = bytes.new } ≡ encoded form (accepted p) bytes.old) }
 {
     if bytes.len() < (plan_bits(form, jobs, actions, plan) + 7) / 8 {
-        return Answer::Refused(Refusal::Short);
+        return Err(Refusal::Short);
     }
-    Answer::Count(write_plan(bytes, form, jobs, actions, plan))
+    Ok(write_plan(bytes, form, jobs, actions, plan))
 }

@@ -3,6 +3,7 @@
 --   again      == the bytes of an accepted plan, in a form that its costs fit, hold that plan
 --   read_back  == and so do the first bytes of a buffer that it was written into
 use Prim.Native.Nat.{ℕ}
+use Rattle.std.specs.Prelude.{Result, Ok, Err}
 use native.Mathlib.Omega.{arith}
 use mathlib.Core.Path.{◌≡◌, sym, ap, ◌∙◌}
 use mathlib.Core.List.{List}
@@ -14,22 +15,20 @@ use Rattle.plan.specs.Plan.{Plan}
 use Rattle.plan.specs.Rules.{costs_fit, Accepted}
 use Rattle.plan.specs.Reader.{is_form, read_plan}
 use Rattle.plan.proofs.Laws.Outcomes.{accepted_same}
-use Rattle.plan_writer.specs.declared.Answer.{Answer}
-use Rattle.plan_writer.specs.declared.Answer.TheVariants.{Refused, Count}
 use Rattle.plan_writer.specs.Writer.{plan_bytes}
 use Rattle.plan_writer.specs.Written.{Written, encoded, answer_of}
 use Rattle.plan_writer.proofs.Laws.Answers.{encoded_front}
 use Rattle.plan_writer.proofs.Laws.PlanBytes.{write_read}
 
-pub no_count : (P : ℕ → Type 0) (cause : Refusal) (n : ℕ) → Refused cause ≡ Count n → P n
+pub no_count : (P : ℕ → Type 0) (cause : Refusal) (n : ℕ) → Err cause ≡ Ok n → P n
 no_count P cause n e = absurd (let z : ◌≡◌ {A = ℕ} 0 1 = cc in omega arith)
 
 module _ (form : ℕ) (p : Plan) (known : T (is_form form)) (costs : T (costs_fit form p)) (ok : Accepted p) where
   pub again : read_plan (plan_bytes form p) ≡ accepted (record { form = form; plan = p })
   again = write_read form p known costs ok.range ok.spawns ok.joins
 
-  pub read_back : (buffer : List ℕ) (r : Answer) (bytes : List ℕ) → record { answer = answer_of r; buffer = bytes } ≡ encoded form (accepted p) buffer
-      → (n : ℕ) → r ≡ Count n → read_plan (take n bytes) ≡ accepted (record { form = form; plan = p })
+  pub read_back : (buffer : List ℕ) (r : Result ℕ Refusal) (bytes : List ℕ) → record { answer = answer_of r; buffer = bytes } ≡ encoded form (accepted p) buffer
+      → (n : ℕ) → r ≡ Ok n → read_plan (take n bytes) ≡ accepted (record { form = form; plan = p })
   read_back buffer r bytes e n f =
       encoded_front form (accepted p) buffer n (sym (ap (λ (w : Written). w.answer) e) ∙ ap answer_of f) λ q is out.
       ap (λ (w : Written). read_plan (take n w.buffer)) e ∙ ap read_plan (out ∙ ap (plan_bytes form) (sym (accepted_same p q is))) ∙ again

@@ -14,9 +14,6 @@ use Rattle.plan_writer.proofs.encode.Goals.{After-plan_bits}
 pub plan_bits-requires : goal.plan_bits-requires
 plan_bits-requires c = c.requires.0
 
-pub overflow_add-plan_bits : goal.overflow_add-plan_bits
-overflow_add-plan_bits c = omega arith
-
 -- what the bytes take
 bits : (c : After-plan_bits) (p : Plan) → let a = c.args in
     RuledIn a.jobs a.actions a.plan.now p → (c.plan_bits.result + 7) / 8 ≡ length (plan_bytes a.form p)

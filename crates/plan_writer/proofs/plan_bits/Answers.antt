@@ -18,21 +18,9 @@ overflow_add-bits c = omega (arith, ruled_few _ _ _ _ c.requires.1)
 pub loop-k-init : goal.loop-k-init
 loop-k-init c = omega (arith, ruled_few _ _ _ _ c.requires.1)
 
-pub child_at-requires : goal.child_at-requires
-child_at-requires c = omega arith
-
-pub target_at-requires : goal.target_at-requires
-target_at-requires c = omega arith
-
 pub overflow_add-bits-in-loop-k : goal.overflow_add-bits-in-loop-k
 overflow_add-bits-in-loop-k c =
     omega (arith, fields_many c.args.form c.args.plan.now c.loop-k.k, c.action_bits-bits.ensures.1)
-
-pub overflow_add-k : goal.overflow_add-k
-overflow_add-k c = omega arith
-
-pub loop-k-smaller : goal.loop-k-smaller
-loop-k-smaller c = omega arith
 
 pub loop-k-preserved : goal.loop-k-preserved
 loop-k-preserved c =
@@ -45,6 +33,6 @@ loop-k-preserved c =
 pub returns : goal.returns
 returns c =
     let e : c.loop-k.k ≡ c.args.actions = omega arith in
-    let i = c.loop-k.invariant.3 in
+    let i = c.loop-k.invariant.2 in
     let a = c.args in
     (omega (arith, fields_many a.form a.plan.now c.loop-k.k), (λ p g. rw e at i ∙ sym (plan_count g a.form)))

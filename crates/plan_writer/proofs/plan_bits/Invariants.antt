@@ -1,5 +1,5 @@
 -- `plan_writer::plan_bits` meets its contract. The loop's invariant: the count is that of the headers and of the actions before place k.
-use Prim.Native.Nat.{◌+◌, ◌-◌, ◌*◌, ◌≤◌}
+use Prim.Native.Nat.{◌+◌, ◌*◌, ◌≤◌}
 use mathlib.Core.Path.{◌≡◌}
 use lib.ListN.{length}
 use Rattle.plan_writer.specs.ActionBits.{fields_at}
@@ -8,7 +8,4 @@ use Rattle.plan_writer.proofs.plan_bits.Given as goal
 
 abbrev pub invariant-loop-k : goal.invariant-loop-k
 invariant-loop-k l =
-    (l.k ≤ l.actions) × (l.actions ≤ 2048) × (l.jobs ≤ 256) × (l.bits ≡ 17 + 24 * l.jobs + length (up_to (fields_at l.form l.plan) l.k))
-
-abbrev pub decreases-loop-k : goal.decreases-loop-k
-decreases-loop-k l = l.actions - l.k
+    (l.actions ≤ 2048) × (l.jobs ≤ 256) × (l.bits ≡ 17 + 24 * l.jobs + length (up_to (fields_at l.form l.plan) l.k))

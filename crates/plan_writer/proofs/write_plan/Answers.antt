@@ -25,7 +25,7 @@ room s = plan_room s.requires.1.given s.args.form (length s.args.out.now) s.requ
 
 -- all that is written at the loop's head
 written : (l : At-loop-k) → Put l.args.out.now empty ((bits_of 8 l.args.form ++ bits_of 9 l.args.jobs) ++ before l.args.form l.args.plan.now l.loop-k.k) l.loop-k.out l.loop-k.sink
-written l = put_both (put_both l.put-sink.ensures l.put-sink-2.ensures) l.loop-k.invariant.1
+written l = put_both (put_both l.put-sink.ensures l.put-sink-2.ensures) l.loop-k.invariant
 
 reach : (l : At-loop-k) → (8 * l.loop-k.sink.bytes + l.loop-k.sink.bits ≡ 17 + length (before l.args.form l.args.plan.now l.loop-k.k)) × (length l.loop-k.out ≡ length l.args.out.now)
 reach l = let w = written l in (omega (arith, put_length (empty_sound _) w), w.same)
@@ -45,30 +45,24 @@ put-sink-requires-2 c =
     }
 
 pub loop-k-init : goal.loop-k-init
-loop-k-init c = (omega arith, put_none _ _ c.put-sink-2.ensures.sound)
+loop-k-init c = put_none _ _ c.put-sink-2.ensures.sound
 
 pub put_action-sink-requires : goal.put_action-sink-requires
 put_action-sink-requires c =
     let f = action_bits c.args.form c.args.plan.now in (
-      c.loop-k.invariant.1.sound,
+      c.loop-k.invariant.sound,
       place_writable c.requires.1.given c.loop-k.k c.loop-k-test.true,
       omega (arith, room (goal.at.put_action-sink-requires c).Start, reach (goal.at.put_action-sink-requires c).At-loop-k, up_to_rises f (suc c.loop-k.k) c.args.actions c.loop-k-test.true, length-append (up_to f c.loop-k.k) (f c.loop-k.k)),
     )
 
-pub overflow_add-k : goal.overflow_add-k
-overflow_add-k c = omega (arith, c.ranges)
-
-pub loop-k-smaller : goal.loop-k-smaller
-loop-k-smaller c = omega arith
-
 pub loop-k-preserved : goal.loop-k-preserved
-loop-k-preserved c = (omega arith, rw add-one (put_both c.loop-k.invariant.1 c.put_action-sink.ensures))
+loop-k-preserved c = rw add-one (put_both c.loop-k.invariant c.put_action-sink.ensures)
 
 pub finish-requires : goal.finish-requires
 finish-requires c =
     let e : c.loop-k.k ≡ c.args.actions = omega arith in
     record {
-      sound = c.loop-k.invariant.1.sound;
+      sound = c.loop-k.invariant.sound;
       bits_bound = omega (arith, room (goal.at.finish-requires c).Start, rw e at (reach (goal.at.finish-requires c).At-loop-k));
     }
 
