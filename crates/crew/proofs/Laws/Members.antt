@@ -4,7 +4,7 @@
 --   and_half, and_odd           == of what two sets share: its upper digits, and its lowest one
 --   member_one, member_but      == of the set of one worker, and of the set of all below k but one
 --   member_with, member_without == a worker comes in, or goes out
---   one_kept                    == a one that is shifted to a worker's digit is not lost
+--   one_kept                    == a one that is shifted to a worker's digit, of k digits, is not lost
 use Prim.Native.Nat.{ℕ, zero, suc, suc-le-suc, ◌+◌, ◌-◌, ◌*◌, ◌/◌, ◌%◌, ◌^◌, ◌≤◌, ◌<◌, min, max}
 use mathlib.Core.Path.{◌≡◌, refl, sym, ap, ◌∙◌}
 use mathlib.Core.Bool.{Bool, true, false, not}
@@ -165,6 +165,6 @@ member_without k s w u hs hw = member_and s ((2 ^ k - 1) - 2 ^ w) u ∙ go (ltb 
         ap (λ (b : Bool). whether b (member ((2 ^ k - 1) - 2 ^ w) u) false) m
         ∙ sym (ap (λ (b : Bool). whether (eqb u w) false b) m ∙ none (eqb u w))
 
--- `1 << w`
-pub one_kept : {w : ℕ} → w ≤ 16 → (1 * 2 ^ w) % 2 ^ 32 ≡ 2 ^ w
-one_kept {w} h = shl_exact 1 w 32 (lit< tt) (omega arith) ∙ one-mul (2 ^ w)
+-- `1 << w`, in a number of k digits
+pub one_kept : {k w : ℕ} → w < k → (1 * 2 ^ w) % 2 ^ k ≡ 2 ^ w
+one_kept {k} {w} h = shl_exact 1 w k (lit< tt) (omega arith) ∙ one-mul (2 ^ w)
