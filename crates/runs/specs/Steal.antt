@@ -7,9 +7,9 @@
 --   serve v q s    == victim v serves the worker of number q - 1, or none if q is 0; serves S r k s == the victims below k
 --   waits x        == 1 where the worker x waits with a request, or 0
 --   waiting k ws   == how many requests wait, of the workers below k
-use Rattle.std.specs.Prelude.{ℕ, zero, suc, ◌+◌, ◌%◌, Bool, true, false, List, [], ◌∷◌, length, get_or, set, eqb, ltb}
-use Rattle.runs.specs.declared.taken.Taken.{Taken}
-use Rattle.runs.specs.declared.taken.Taken.TheVariants.{Job, Bare, IdleVictim}
+use Rattle.std.specs.Prelude.{ℕ, zero, suc, ◌+◌, ◌%◌, Result, Ok, Err, Bool, true, false, List, [], ◌∷◌, length, get_or, set, eqb, ltb}
+use Rattle.runs.specs.declared.miss.Miss.{Miss}
+use Rattle.runs.specs.declared.miss.Miss.TheVariants.{Bare, IdleVictim}
 use Rattle.runs.specs.declared.worker.Worker.{Worker}
 use Rattle.runs.specs.declared.worker.Worker.TheVariants.{Idle, Holding, Waiting}
 use Rattle.runs.specs.Setting.{Setting, count_in}
@@ -75,22 +75,21 @@ top_of x [] = x
 top_of x (y ∷ d) = top_of y d
 
 -- "Taking the top of a deque now tells which": "`bare` (the victim holds a job at that moment) and `idle-victim`"
-abbrev pub take_top : List ℕ → Bool → Taken
-take_top (x ∷ d) held = Job (top_of x d)
-take_top [] true = Bare
-take_top [] false = IdleVictim
+abbrev pub take_top : List ℕ → Bool → Result ℕ Miss
+take_top (x ∷ d) held = Ok (top_of x d)
+take_top [] true = Err Bare
+take_top [] false = Err IdleVictim
 
 -- the same of the deque of victim v
-abbrev pub taken_from : State → ℕ → Taken
+abbrev pub taken_from : State → ℕ → Result ℕ Miss
 taken_from s v = take_top (deque_of s v) (holds (worker_of s v))
 
-abbrev pub thief : Taken → Worker
-thief (Job j) = Holding j
-thief Bare = Idle
-thief IdleVictim = Idle
+abbrev pub thief : Result ℕ Miss → Worker
+thief (Ok j) = Holding j
+thief (Err m) = Idle
 
 -- "The top job of the victim's deque goes to that worker, or it is a miss." An empty deque stays empty.
-unfoldable pub given : ℕ → ℕ → Taken → State → State
+unfoldable pub given : ℕ → ℕ → Result ℕ Miss → State → State
 given v w taken s =
     record {
       next = s.next;

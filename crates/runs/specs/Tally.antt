@@ -9,9 +9,9 @@
 --   with_bare t            == after a service that gave none, of a victim that holds a job
 --   with_idle_victim t      == after a service that gave none, of a victim that holds none
 --   with_service t x       == after a service, by what was taken
-use Rattle.std.specs.Prelude.{ℕ, suc, max}
-use Rattle.runs.specs.declared.taken.Taken.{Taken}
-use Rattle.runs.specs.declared.taken.Taken.TheVariants.{Job, Bare, IdleVictim}
+use Rattle.std.specs.Prelude.{ℕ, suc, max, Result, Ok, Err}
+use Rattle.runs.specs.declared.miss.Miss.{Miss}
+use Rattle.runs.specs.declared.miss.Miss.TheVariants.{Bare, IdleVictim}
 use Rattle.runs.specs.declared.tally.Tally.{Tally}
 
 abbrev pub no_counts : ℕ → Tally
@@ -89,7 +89,7 @@ with_idle_victim t = record {
   peak = t.peak;
 }
 
-abbrev pub with_service : Tally → Taken → Tally
-with_service t (Job j) = with_steal t
-with_service t Bare = with_bare t
-with_service t IdleVictim = with_idle_victim t
+abbrev pub with_service : Tally → Result ℕ Miss → Tally
+with_service t (Ok j) = with_steal t
+with_service t (Err Bare) = with_bare t
+with_service t (Err IdleVictim) = with_idle_victim t

@@ -8,8 +8,9 @@ use mathlib.Core.Path.{◌≡◌, refl, ap, ◌∙◌}
 use mathlib.Core.Bool.{Bool, true, false}
 use mathlib.Core.List.{List, [], ◌∷◌}
 use lib.ListN.{length, get_or, set}
-use Rattle.runs.specs.declared.taken.Taken.{Taken}
-use Rattle.runs.specs.declared.taken.Taken.TheVariants.{Bare, IdleVictim}
+use Rattle.std.specs.Prelude.{Result, Err}
+use Rattle.runs.specs.declared.miss.Miss.{Miss}
+use Rattle.runs.specs.declared.miss.Miss.TheVariants.{Bare, IdleVictim}
 use Rattle.runs.specs.declared.worker.Worker.{Worker}
 use Rattle.runs.specs.declared.worker.Worker.TheVariants.{Idle, Holding, Waiting}
 use Rattle.plan.specs.Plan.{Plan}
@@ -94,7 +95,7 @@ chosen : (b : Bool) (s : State) {t u : State} → t ≡ u
 chosen true s e = refl
 chosen false s e = e
 
-abbrev served : ℕ → Taken → State → List (List ℕ) → State
+abbrev served : ℕ → Result ℕ Miss → State → List (List ℕ) → State
 served w x s ds =
     record { next = s.next; spent = s.spent; workers = set s.workers w (thief x); deques = ds; rows = s.rows; tally = with_service s.tally x }
 
@@ -106,9 +107,9 @@ serve_plain v (suc w) s = go (deque_of s v) refl (worker_of s v)
     go : (d : List ℕ) → deque_of s v ≡ d → (x : Worker)
         → served w (take_top d (holds x)) s (set s.deques v (drop_top d)) ≡ plain_given v w x d s
     go (y ∷ d) e x = refl
-    go [] e Idle = ap (served w IdleVictim s) (empty_kept s.deques v e)
-    go [] e (Holding j) = ap (served w Bare s) (empty_kept s.deques v e)
-    go [] e (Waiting u l) = ap (served w IdleVictim s) (empty_kept s.deques v e)
+    go [] e Idle = ap (served w (Err IdleVictim) s) (empty_kept s.deques v e)
+    go [] e (Holding j) = ap (served w (Err Bare) s) (empty_kept s.deques v e)
+    go [] e (Waiting u l) = ap (served w (Err IdleVictim) s) (empty_kept s.deques v e)
 
 module _ (p : Plan) (n : ℕ) (choices : List ℕ) where
   lay_plain : (r w : ℕ) (x : Worker) (s : State) → lay (setting p n choices) r w x s ≡ plain_lay choices r w x s

@@ -10,8 +10,9 @@ use mathlib.Core.Path.{◌≡◌, refl}
 use mathlib.Core.List.{List}
 use native.Mathlib.Omega.{arith}
 use lib.ListN.{get_or}
-use Rattle.runs.specs.declared.taken.Taken.{Taken}
-use Rattle.runs.specs.declared.taken.Taken.TheVariants.{Job, Bare, IdleVictim}
+use Rattle.std.specs.Prelude.{Result, Ok, Err}
+use Rattle.runs.specs.declared.miss.Miss.{Miss}
+use Rattle.runs.specs.declared.miss.Miss.TheVariants.{Bare, IdleVictim}
 use Rattle.runs.specs.declared.tally.Tally.{Tally}
 use Rattle.runs.specs.declared.worker.Worker.{Worker}
 use Rattle.runs.specs.declared.worker.Worker.TheVariants.{Idle, Holding, Waiting}
@@ -51,13 +52,13 @@ lay_rests S r w Idle s = record { next = refl; spent = refl; rows = refl; rounds
 lay_rests S r w (Holding j) s = same_rests s
 lay_rests S r w (Waiting v l) s = same_rests s
 
-pub service_keeps : (x : Taken) (t : Tally) → let u = with_service t x in
+pub service_keeps : (x : Result ℕ Miss) (t : Tally) → let u = with_service t x in
     (u.rounds ≡ t.rounds) × (u.actions ≡ t.actions) × (u.idle ≡ t.idle) × (u.requests ≡ t.requests) × (u.peak ≡ t.peak)
-service_keeps (Job j) t = (refl, refl, refl, refl, refl)
-service_keeps Bare t = (refl, refl, refl, refl, refl)
-service_keeps IdleVictim t = (refl, refl, refl, refl, refl)
+service_keeps (Ok j) t = (refl, refl, refl, refl, refl)
+service_keeps (Err Bare) t = (refl, refl, refl, refl, refl)
+service_keeps (Err IdleVictim) t = (refl, refl, refl, refl, refl)
 
-given_rests : (v w : ℕ) (x : Taken) (s : State) → Rests s (given v w x s)
+given_rests : (v w : ℕ) (x : Result ℕ Miss) (s : State) → Rests s (given v w x s)
 unfolding given
 given_rests v w x s =
     let (rounds, actions, idle, requests, peak) = service_keeps x s.tally in

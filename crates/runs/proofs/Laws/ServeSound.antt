@@ -10,7 +10,7 @@ use native.Mathlib.Omega.{arith}
 use native.Mathlib.Decide.{ℕ_discrete}
 use lib.ListN.{set, length-set}
 use lib.Seq.{get_or-set_same, get_or-set_other}
-use Rattle.runs.specs.declared.taken.Taken.TheVariants.{Job}
+use Rattle.std.specs.Prelude.{Ok}
 use Rattle.runs.specs.declared.tally.Tally.{Tally}
 use Rattle.runs.specs.declared.worker.Worker.{Worker}
 use Rattle.runs.specs.declared.worker.Worker.TheVariants.{Idle, Holding, Waiting}
@@ -80,7 +80,7 @@ module _ {p : Plan} (ok : Accepted p) {n : ℕ} (most : n ≤ 16) {s : State} (s
       apart e = let h = ap (worker_of s) e in let z : ◌≡◌ {A = ℕ} 0 1 = cc in omega arith
 
       abbrev after : State
-      after = given v w (Job (top_of x d)) s
+      after = given v w (Ok (top_of x d)) s
 
       steal_sound : Sound p n after
       unfolding given

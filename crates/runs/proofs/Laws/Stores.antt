@@ -19,8 +19,8 @@ use lib.Seq.{set-get_or}
 use Rattle.plan.specs.Test.{both}
 use Rattle.plan.specs.Plan.{Plan, size, action}
 use Rattle.courses.specs.Ready.{ready}
-use Rattle.runs.specs.declared.taken.Taken.{Taken}
-use Rattle.runs.specs.declared.taken.Taken.TheVariants.{Job, Bare, IdleVictim}
+use Rattle.std.specs.Prelude.{Result, Ok, Err}
+use Rattle.runs.specs.declared.miss.Miss.{Miss}
 use Rattle.runs.specs.declared.worker.Worker.{Worker}
 use Rattle.runs.specs.declared.worker.Worker.TheVariants.{Idle, Holding, Waiting}
 use Rattle.runs.specs.Setting.{Setting}
@@ -50,10 +50,9 @@ seat_waits p after j i d = go (action p j i).spawn refl
 pub empty_kept : (ds : List (List ℕ)) (v : ℕ) → get_or ds v [] ≡ [] → set ds v [] ≡ ds
 empty_kept ds v e = rw e at (set-get_or ds v [])
 
-pub served_calm : (x : Taken) → waits (thief x) ≡ 0
-served_calm (Job j) = refl
-served_calm Bare = refl
-served_calm IdleVictim = refl
+pub served_calm : (x : Result ℕ Miss) → waits (thief x) ≡ 0
+served_calm (Ok j) = refl
+served_calm (Err m) = refl
 
 module _ (P : List Worker → Type 0) where
   turn_workers : (p : Plan) (r k : ℕ) (x : Worker) (s : State) → P s.workers

@@ -12,8 +12,9 @@ use native.Mathlib.Decide.{ℕ_discrete}
 use lib.Seq.{get_or-set_same, get_or-set_other}
 use native.Mathlib.Omega.{arith}
 use lib.ListN.{length, get_or, set}
-use Rattle.runs.specs.declared.taken.Taken.{Taken}
-use Rattle.runs.specs.declared.taken.Taken.TheVariants.{Job, Bare, IdleVictim}
+use Rattle.std.specs.Prelude.{Result, Ok, Err}
+use Rattle.runs.specs.declared.miss.Miss.{Miss}
+use Rattle.runs.specs.declared.miss.Miss.TheVariants.{Bare, IdleVictim}
 use Rattle.runs.specs.declared.worker.Worker.{Worker}
 use Rattle.runs.specs.declared.worker.Worker.TheVariants.{Idle, Holding, Waiting}
 use Rattle.runs.specs.Setting.{Setting, count_in}
@@ -60,11 +61,11 @@ module _ {n : ℕ} (s : State) (placed : n ≤ length s.workers) where
       → waiting n (set s.workers k x) + waits (worker_of s k) ≡ waiting n s.workers + waits x
   exchanged {k} h x = waiting_set s.workers k x (omega arith) n h
 
-  given_settled : (v w : ℕ) → w < n → waits (worker_of s w) ≡ 1 → Settled n s → (x : Taken) → Settled n (given v w x s)
+  given_settled : (v w : ℕ) → w < n → waits (worker_of s w) ≡ 1 → Settled n s → (x : Result ℕ Miss) → Settled n (given v w x s)
   unfolding given
-  given_settled v w h q i (Job j) = omega (arith, exchanged h (Holding j))
-  given_settled v w h q i Bare = omega (arith, exchanged h Idle)
-  given_settled v w h q i IdleVictim = omega (arith, exchanged h Idle)
+  given_settled v w h q i (Ok j) = omega (arith, exchanged h (Holding j))
+  given_settled v w h q i (Err Bare) = omega (arith, exchanged h Idle)
+  given_settled v w h q i (Err IdleVictim) = omega (arith, exchanged h Idle)
 
   -- whoever is served
   serve_settled : (v who : ℕ) → Picks v n s.workers who → Settled n s → Settled n (serve v who s)
