@@ -4,8 +4,8 @@
 --   Dequed deques ds    == the array holds the deques ds, each within its places; a job stands at a place not above its number
 --   Pushing, Pushed     == job j goes on the bottom of deque w, whose bottom job is of smaller number; it has gone there
 --   TookBottom, TookTop == what taking the bottom job of deque w, and the top of victim v's deque, gives and leaves
-use Rattle.std.specs.Prelude.{ℕ, zero, suc, ◌+◌, ◌*◌, ◌≤◌, ◌<◌, ◌≡◌, Bool, List, [], ◌∷◌, length, get_or, set}
-use Rattle.runs.specs.declared.taken.Taken.{Taken}
+use Rattle.std.specs.Prelude.{ℕ, zero, suc, ◌+◌, ◌*◌, ◌≤◌, ◌<◌, ◌≡◌, Result, Bool, List, [], ◌∷◌, length, get_or, set}
+use Rattle.runs.specs.declared.miss.Miss.{Miss}
 use Rattle.runs.specs.declared.worker.Worker.{Worker}
 use Rattle.runs.specs.Turn.{take_bottom}
 use Rattle.runs.specs.Steal.{drop_top, take_top}
@@ -42,5 +42,5 @@ Pushed w j deques ds = Dequed deques (set ds w (j ∷ get_or ds w []))
 abbrev pub TookBottom : ℕ → Worker → List ℕ → List (List ℕ) → Type 0
 TookBottom w worker deques ds = (worker ≡ (take_bottom (get_or ds w [])).worker) × Dequed deques (set ds w (take_bottom (get_or ds w [])).deque)
 
-abbrev pub TookTop : ℕ → Bool → Taken → List ℕ → List (List ℕ) → Type 0
+abbrev pub TookTop : ℕ → Bool → Result ℕ Miss → List ℕ → List (List ℕ) → Type 0
 TookTop v held taken deques ds = (taken ≡ take_top (get_or ds v []) held) × Dequed deques (set ds v (drop_top (get_or ds v [])))

@@ -6,8 +6,7 @@ ghost use Rattle.std.specs.Prelude.{◌≡◌, ◌+◌, ◌*◌, ◌<◌, set};
 ghost use Rattle.plan.specs.Contract.{Some, ◌⇒◌};
 ghost use Rattle.deques.specs.Dequed.{top_at, len_at, job_at, Dequed, Pushing, Pushed, TookBottom, TookTop};
 
-use numbers::wide8;
-use runs::taken::Taken;
+use runs::miss::Miss;
 use runs::worker::Worker;
 
 pub type Deques = [u8; 4128];
@@ -21,14 +20,14 @@ fn top_of(deques: &Deques, w: usize) -> usize
     requires { w < 16 }
     ensures { (result ≡ top_at deques.now w) × (result < 256) }
 {
-    wide8(deques[TOP + w])
+    usize::from(deques[TOP + w])
 }
 
 fn len_of(deques: &Deques, w: usize) -> usize
     requires { w < 16 }
     ensures { (result ≡ len_at deques.now w) × (result < 256) }
 {
-    wide8(deques[LEN + w])
+    usize::from(deques[LEN + w])
 }
 
 fn job_at(deques: &Deques, w: usize, i: usize) -> u8
@@ -94,20 +93,17 @@ pub fn take_bottom(deques: &mut Deques, w: usize) -> Worker
 }
 
 // Takes the top of victim v's deque: its top job, or which of the two misses it is. `held` says whether the victim holds a job.
-pub fn take_top(deques: &mut Deques, v: usize, held: bool) -> Taken
+pub fn take_top(deques: &mut Deques, v: usize, held: bool) -> Result<u8, Miss>
     requires { Some (Dequed deques.old) × (v < 16) }
     ensures { Dequed deques.old ⇒ TookTop v held result deques.new }
 {
     let n = len_of(deques, v);
     if n == 0 {
-        if held {
-            return Taken::Bare;
-        }
-        return Taken::IdleVictim;
+        return Err(if held { Miss::Bare } else { Miss::IdleVictim });
     }
     let at = top_of(deques, v);
     let j = job_at(deques, v, at);
     set_top(deques, v, at + 1);
     set_len(deques, v, n - 1);
-    Taken::Job(j)
+    Ok(j)
 }

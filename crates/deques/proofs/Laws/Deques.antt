@@ -1,7 +1,7 @@
 -- The sixteen deques in one array: what a store, a shorter deque and a top that moves on make of them.
---   bottom_none, bottom_taken == the bottom job of deque w is taken, where it has none, and where it has n jobs
---   top_none, top_taken       == the top of a victim's deque is
---   push_place                == the place behind the bottom job is not above the number of a job that may go there
+--   bottom_taken == the bottom job of deque w is taken, where it has n jobs
+--   top_taken    == the top of a victim's deque is
+--   push_place   == the place behind the bottom job is not above the number of a job that may go there
 --   pushed_first, pushed_next == such a job goes on the bottom, where deque w has no job, and where it has n
 use Prim.Native.Nat.{ℕ, zero, suc, ◌+◌, ◌-◌, ◌*◌, ◌≤◌, ◌<◌}
 use mathlib.Core.Path.{◌≡◌, refl, ap, sym, ◌∙◌}
@@ -14,10 +14,9 @@ use native.Mathlib.Omega.{arith}
 use native.Mathlib.Decide.{ℕ_discrete}
 use lib.ListN.{length, get_or, set, length-set}
 use lib.Seq.{get_or-set_same, get_or-set_other}
-use Rattle.runs.specs.declared.taken.Taken.TheVariants.{Job}
-use Rattle.runs.specs.declared.worker.Worker.TheVariants.{Idle, Holding}
-use Rattle.runs.specs.Steal.{drop_top, top_of, take_top}
-use Rattle.runs.proofs.Laws.Stores.{empty_kept}
+use Rattle.std.specs.Prelude.{Ok}
+use Rattle.runs.specs.declared.worker.Worker.TheVariants.{Holding}
+use Rattle.runs.specs.Steal.{drop_top, top_of}
 use Rattle.deques.specs.Dequed.{job_at, top_at, len_at, deque_at, Dequed, Pushing, Pushed, TookBottom, TookTop}
 
 -- a deque is as its places are
@@ -84,14 +83,7 @@ module _ {l : List ℕ} {ds : List (List ℕ)} (q : Dequed l ds) (w : ℕ) (h : 
       job : (i : ℕ) → i < len_at l w → job_at (set l (4112 + w) n) w (top_at l w + i) ≡ job_at l w (top_at l w + i)
       job i m = get_or-set_other l (4112 + w) (w * 256 + (top_at l w + i)) n 0 (λ e. omega (arith, q.room w h))
 
-  -- a deque without a job is empty, and stays so
-  none_kept : 0 ≡ len_at l w → (get_or ds w [] ≡ []) × (set ds w [] ≡ ds)
-  none_kept e = let z : get_or ds w [] ≡ [] = sym (deque_of_lem 0 e) in (z, empty_kept ds w z)
-
-  -- no job, or the bottom one
-  pub bottom_none : 0 ≡ len_at l w → TookBottom w Idle l ds
-  bottom_none e = let (none, kept) = none_kept e in rw (none, kept) (refl, q)
-
+  -- the bottom job is taken
   pub bottom_taken : (n : ℕ) → n ≡ len_at l w → n ≢ 0
       → TookBottom w (Holding (job_at l w (top_at l w + (n - 1)))) (set l (4112 + w) (n - 1)) ds
   bottom_taken zero e f = absurd (f refl)
@@ -99,17 +91,14 @@ module _ {l : List ℕ} {ds : List (List ℕ)} (q : Dequed l ds) (w : ℕ) (h : 
       let z : suc m - 1 ≡ m = omega arith in
       rw (z, ← deque_of_lem (suc m) e) (refl, shorter m (deque_at l w (top_at l w) m) refl (omega arith))
 
-  -- no job, or the top one
-  pub top_none : 0 ≡ len_at l w → (held : Bool) → TookTop w held (take_top [] held) l ds
-  top_none e held = let (none, kept) = none_kept e in rw (none, kept) (refl, q)
-
+  -- the top job is
   pub top_taken : (n : ℕ) → n ≡ len_at l w → n ≢ 0 → (held : Bool)
-      → TookTop w held (Job (job_at l w (top_at l w))) (set (set l (4096 + w) (top_at l w + 1)) (4112 + w) (n - 1)) ds
+      → TookTop w held (Ok (job_at l w (top_at l w))) (set (set l (4096 + w) (top_at l w + 1)) (4112 + w) (n - 1)) ds
   top_taken zero e f held = absurd (f refl)
   top_taken (suc m) e f held =
       let z : suc m - 1 ≡ m = omega arith in
       rw (z, add-one, ← deque_of_lem (suc m) e) (
-        ap Job (sym (deque_top l w t m)),
+        ap Ok (sym (deque_top l w t m)),
         deque_changed l' (suc t) m (drop_top (deque_at l w t (suc m))) (simp length-set q.long)
             (λ x a b c. get_or-set_other l₁ (4112 + w) x m 0 c ∙ get_or-set_other l (4096 + w) x (suc t) 0 b)
             (get_or-set_other l₁ (4112 + w) (4096 + w) m 0 (λ x. omega arith) ∙ get_or-set_same l (4096 + w) (suc t) 0 (omega (arith, q.long)))
@@ -143,7 +132,7 @@ module _ {w j : ℕ} {l : List ℕ} {ds : List (List ℕ)} (p : Pushing w j l ds
   q = p.dequed
 
   -- where the job goes is not above its number
-  pub push_place : (n : ℕ) → n ≡ len_at l w → n ≢ 0 → top_at l w + n ≤ j
+  push_place : (n : ℕ) → n ≡ len_at l w → n ≢ 0 → top_at l w + n ≤ j
   push_place zero e f = absurd (f refl)
   push_place (suc m) e f = omega (arith, q.low w m p.known (omega arith), p.below _ _ (sym (deque_of_lem q w p.known (suc m) e)))
 

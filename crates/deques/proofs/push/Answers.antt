@@ -1,8 +1,7 @@
 -- `push` meets its contract: the job goes behind the bottom one, to a place not above its number.
 use mathlib.Core.Path.{sym, ◌∙◌}
 use native.Mathlib.Numerals.{add-one}
-use native.Mathlib.Omega.{arith}
-use Rattle.deques.proofs.Laws.Deques.{push_place, pushed_first, pushed_next}
+use Rattle.deques.proofs.Laws.Deques.{pushed_first, pushed_next}
 use Rattle.deques.proofs.push.Goals as goal
 
 pub returns-then-n-eq0 : goal.returns-then-n-eq0
@@ -10,18 +9,6 @@ returns-then-n-eq0 c ds p =
     let n = c.len_of-n in
     rw (c.set_len.ensures, c.set_job.ensures, c.set_top.ensures)
     (pushed_first p (sym c.if-n-eq0.true ∙ n.ensures.0))
-
-pub set_job-requires-2 : goal.set_job-requires-2
-set_job-requires-2 c =
-    let p = c.requires.1 in
-    let low = push_place p c.len_of-n.result c.len_of-n.ensures.0 c.if-n-eq0.false in
-    (p.known, omega (arith, c.top_of.ensures.0, low, p.small))
-
-pub set_len-requires-2 : goal.set_len-requires-2
-set_len-requires-2 c =
-    let p = c.requires.1 in
-    let low = push_place p c.len_of-n.result c.len_of-n.ensures.0 c.if-n-eq0.false in
-    (p.known, omega (arith, low, p.small))
 
 pub returns : goal.returns
 returns c ds p =
