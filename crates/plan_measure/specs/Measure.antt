@@ -14,10 +14,9 @@
 --                       refusal
 --   Quotient a b q r == a divided by b is q, and r remains
 --   Divided r        == so it is of the measures that were answered
-use Rattle.std.specs.Prelude.{ℕ, zero, suc, ◌+◌, ◌*◌, ◌/◌, ◌%◌, ◌≤◌, ◌<◌, ◌≡◌, ◌⊎◌, Bool, true, false, List, [], ◌∷◌, length, T, eqb, leb}
+use Rattle.std.specs.Prelude.{ℕ, zero, suc, ◌+◌, ◌*◌, ◌/◌, ◌%◌, ◌≤◌, ◌<◌, ◌≡◌, ◌⊎◌, Bool, true, false, List, [], ◌∷◌, length, T, eqb, leb, Result, Ok, Err}
 use Rattle.plan_measure.specs.declared.Measures.{Measures}
-use Rattle.plan_measure.specs.declared.Measured.{Measured}
-use Rattle.plan_measure.specs.declared.Measured.TheVariants.{Refused, Of}
+use Rattle.plan.specs.declared.refusal.Refusal.{Refusal}
 use Rattle.plan.specs.Refusal.{Outcome, refused, accepted, number_of}
 use Rattle.plan.specs.Test.{both, either, largest, below}
 use Rattle.plan.specs.Plan.{Plan, Placed, job, total, placed, parent, enters}
@@ -98,9 +97,9 @@ unfolding measured read_plan
 measures s = measured (read_plan s)
 
 -- the outcome that an answer stands for
-abbrev pub told : Measured → Outcome Measures
-told (Refused cause) = refused (number_of cause)
-told (Of m) = accepted m
+abbrev pub told : Result Measures Refusal → Outcome Measures
+told (Err cause) = refused (number_of cause)
+told (Ok m) = accepted m
 
 pub record Quotient (work longest parallel rest : ℕ) : Type 0 where
   -- "so that quotient × T∞ + remainder = T1 and the remainder is below T∞"
@@ -109,5 +108,5 @@ pub record Quotient (work longest parallel rest : ℕ) : Type 0 where
   -- "T∞ is never 0"
   pub some : 1 ≤ longest
 
-abbrev pub Divided : Measured → Type 0
-Divided r = (m : Measures) → r ≡ Of m → Quotient m.work m.longest m.parallel m.rest
+abbrev pub Divided : Result Measures Refusal → Type 0
+Divided r = (m : Measures) → r ≡ Ok m → Quotient m.work m.longest m.parallel m.rest

@@ -8,13 +8,12 @@ ghost use Rattle.plan_measure.specs.Measure.{measures_of, measures, told, Divide
 ghost use Rattle.plan_measure.specs.Measure.{work as work_of, longest as longest_of, heaviest as heaviest_of};
 ghost use Rattle.plan_measure.specs.Times.{at, PlanOf, ActionsOf, JobGiven, JobTimed, SendGiven, Sent, PassGiven, Passed};
 
-use numbers::{larger, later, units, units16};
 use plan::reader::{Found, read_into};
 use plan::refusal::Refusal;
 use plan::sheet::{PLACES, Sheet, child_at, cost_at, first_of, frame_of, parent_of, target_at};
 
 // The number of actions, T1, T∞, S1, and T1 divided by T∞: the quotient and what remains.
-#[derive(Clone, Copy)]
+#[derive(Clone, Copy, PartialEq, Eq, Debug)]
 pub struct Measures {
     pub total: u32,
     pub work: u32,
@@ -24,22 +23,14 @@ pub struct Measures {
     pub rest: u32,
 }
 
-#[derive(Clone, Copy)]
-pub enum Measured {
-    Refused(Refusal),
-    Of(Measures),
-}
-
 // T1: the costs of the actions, added up.
 pub fn work(actions: usize, plan: &Sheet) -> u32
     requires { Some (ActionsOf actions plan.now) }
     ensures { ActionsOf actions plan.now ⇒ (λ p. result ≡ work_of p) }
 {
     let mut sum = 0;
-    let mut k = 0;
-    while k < actions {
-        sum += units(cost_at(plan, k));
-        k += 1;
+    for k in 0..actions {
+        sum += cost_at(plan, k) as u32;
     }
     sum
 }
@@ -53,13 +44,11 @@ fn heaviest(jobs: usize, plan: &Sheet) -> u32
     let mut path = [0u32; 256];
     path[0] = root;
     let mut most = root;
-    let mut j = 1;
-    while j < jobs {
+    for j in 1..jobs {
         let q = parent_of(plan, j);
         let weight = frame_of(plan, j) + path[q];
         path[j] = weight;
-        most = larger(most, weight);
-        j += 1;
+        most = most.max(weight);
     }
     most
 }
@@ -83,7 +72,7 @@ fn send_join(
         return;
     }
     let target = base + (sent - 1);
-    late[target] = later(late[target], spawned + time[k]);
+    late[target] = late[target].max(spawned + time[k]);
 }
 
 // The joins that the actions at places `from` to `end` send, those of one child.
@@ -100,10 +89,8 @@ fn send_joins(
     ensures { (length late.new ≡ 2048)
         × Sent from end base spawned (target_at plan.now) (at time.now) (at late.old) (at late.new) }
 {
-    let mut k = from;
-    while k < end {
+    for k in from..end {
         send_join(k, base, spawned, plan, time, late);
-        k += 1;
     }
 }
 
@@ -147,12 +134,10 @@ fn time_job(
     ensures { JobGiven base end plan.now time.old late.old ⇒ JobTimed result time.new late.new }
 {
     let mut done = 0;
-    let mut k = base;
-    while k < end {
-        done = later(done, late[k]) + cost_at(plan, k) as u16;
+    for k in base..end {
+        done = done.max(late[k]) + cost_at(plan, k) as u16;
         time[k] = done;
         pass_child(k, base, done, plan, time, late);
-        k += 1;
     }
     done
 }
@@ -166,9 +151,7 @@ fn longest(jobs: usize, plan: &Sheet) -> u32
     let mut time = [0u16; 2048];
     let mut late = [0u16; 2048];
     let mut most = 0;
-    let mut j = jobs;
-    while 0 < j {
-        j -= 1;
+    for j in (0..jobs).rev() {
         most = time_job(
             first_of(plan, j),
             first_of(plan, j + 1),
@@ -177,7 +160,7 @@ fn longest(jobs: usize, plan: &Sheet) -> u32
             &mut late,
         );
     }
-    units16(most)
+    u32::from(most)
 }
 
 // The measures of the plan that the array holds. T∞ is at least 1.
@@ -198,18 +181,18 @@ pub fn measure_read(jobs: usize, actions: usize, plan: &Sheet) -> Measures
 }
 
 // The measures of the plan that the bytes hold, or why they are turned down.
-pub fn measure(bytes: &[u8]) -> Measured
+pub fn measure(bytes: &[u8]) -> Result<Measures, Refusal>
     ensures result_value { told result ≡ measures bytes.now }
     ensures divided { Divided result }
 {
     let mut plan = [0u16; PLACES];
     let mut entering = [0u8; 2048];
     match read_into(bytes, &mut plan, &mut entering) {
-        Found::Refused(cause) => Measured::Refused(cause),
+        Found::Refused(cause) => Err(cause),
         Found::Plan {
             form: _,
             jobs,
             actions,
-        } => Measured::Of(measure_read(jobs, actions, &plan)),
+        } => Ok(measure_read(jobs, actions, &plan)),
     }
 }

@@ -1,5 +1,7 @@
 -- Members of a list, the largest value of a function over them, and how many pass a test.
 use Prim.Native.Nat.{ℕ, zero, suc, ◌+◌, ◌≤◌, ◌<◌, max}
+use Rattle.std.specs.Ordering.{ord_max, nat_cmp}
+use Rattle.std.proofs.lemmas.Bool.Decides.{nat_tests}
 use mathlib.Core.Path.{◌≡◌, refl, ap, sym}
 use mathlib.Core.Logic.{inl, inr}
 use mathlib.Core.Bool.{Bool, true, false}
@@ -106,3 +108,7 @@ member_below (suc n) k h = go (dec_lt k n) (member_below n k)
     go : Dec (k < n) → (k < n → Member k (below n)) → Member k (below (suc n))
     go (yes b) r = member_front k (below n) (n ∷ []) (r b)
     go (no b) r = member_last k (below n) n (omega arith)
+
+-- the method `max` at numbers
+pub max_told : (a b : ℕ) → ord_max nat_cmp a b ≡ max a b
+max_told a b = grind (arith, nat_tests)

@@ -17,7 +17,9 @@ use Rattle.plan.proofs.Laws.Accepted.{accepted_kept}
 use Rattle.plan.proofs.Laws.Outcomes.{refused_accepted}
 use Rattle.plan.proofs.Laws.Spawning.{cost_in_range_lem}
 use Rattle.plan.proofs.Laws.Valid.{size_range, jobs_range}
-use Rattle.plan_measure.specs.declared.Measured.{Measured}
+use Rattle.std.specs.Prelude.{Result}
+use Rattle.plan.specs.declared.refusal.Refusal.{Refusal}
+use Rattle.plan_measure.specs.declared.Measures.{Measures}
 use Rattle.plan_measure.specs.Measure.{work, longest, parallel, rest, measures_of, measured, measures, told, Quotient, Divided}
 use Rattle.plan_measure.proofs.Laws.Times.{begins_before, longest_ends}
 
@@ -33,7 +35,7 @@ module _ (p : Plan) (ok : Accepted p) where
   unfolding parallel rest
   quotient = record { whole = div-add-mod' (work p) (longest p); rest_below = mod-lt (work p) longest_some; some = longest_some }
 
-pub measures_divided : (s : List ℕ) (r : Measured) → told r ≡ measures s → Divided r
+pub measures_divided : (s : List ℕ) (r : Result Measures Refusal) → told r ≡ measures s → Divided r
 unfolding measures measured measures_of
 measures_divided s r e m f = by (read_plan s) refl (sym (ap told f) ∙ e)
   where

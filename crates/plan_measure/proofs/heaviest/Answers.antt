@@ -12,30 +12,16 @@ use Rattle.plan_measure.proofs.Laws.Paths.{weighed_root, weighed_more, path_smal
 use Rattle.plan_measure.proofs.heaviest.Goals as goal
 use Rattle.plan_measure.proofs.heaviest.Goals.{After-frame_of}
 
-pub frame_of-root-requires : goal.frame_of-root-requires
-frame_of-root-requires c = omega arith
-
 pub loop-j-init : goal.loop-j-init
 loop-j-init c =
     let (p, g) = c.requires in
     let r = jobs_range p g.planned.rules in (
-      omega arith,
-      omega (arith, g.count),
       omega (arith, g.count),
       refl,
       λ p g.
           let ok = g.planned.rules in
           weighed_root p ok _ _ (c.frame_of-root.ensures.0 ∙ g.planned.laid.frames 0 (jobs_range p ok).0) refl,
     )
-
-pub parent_of-q-requires : goal.parent_of-q-requires
-parent_of-q-requires c = omega arith
-
-pub frame_of-requires : goal.frame_of-requires
-frame_of-requires c = omega arith
-
-pub offset_bounds-path-q : goal.offset_bounds-path-q
-offset_bounds-path-q c = omega (arith, c.parent_of-q.ensures)
 
 -- the parent of the job that the loop is at, which stands below it
 parent-here : (c : After-frame_of) (p : Plan)
@@ -45,7 +31,7 @@ parent-here : (c : After-frame_of) (p : Plan)
 parent-here c p g =
     let l = c.loop-j in
     let b : l.j < length p = omega (arith, g.count, c.loop-j-test.true) in
-    (c.parent_of-q.ensures.0 ∙ g.planned.spawned.parents l.j l.invariant.0 b, older p g.planned.rules l.j l.invariant.0 b)
+    (c.parent_of-q.ensures.0 ∙ g.planned.spawned.parents l.j c.loop-j.auto.j b, older p g.planned.rules l.j c.loop-j.auto.j b)
 
 pub bounds-path-q : goal.bounds-path-q
 bounds-path-q c =
@@ -62,40 +48,23 @@ overflow_add-weight c =
       arith,
       c.frame_of.ensures,
       ap (at l.path) q,
-      (l.invariant.4 p g).weights (parent p l.j) o,
+      (l.invariant.2 p g).weights (parent p l.j) o,
       path_small p g.planned.rules (parent p l.j) (omega arith),
       jobs_range p g.planned.rules,
     )
-
-pub offset_bounds-path-j : goal.offset_bounds-path-j
-offset_bounds-path-j c = omega arith
-
-pub bounds-path-j : goal.bounds-path-j
-bounds-path-j c = omega arith
-
-pub larger-most-requires : goal.larger-most-requires
-larger-most-requires c = tt
-
-pub overflow_add-j : goal.overflow_add-j
-overflow_add-j c = omega arith
-
-pub loop-j-smaller : goal.loop-j-smaller
-loop-j-smaller c = omega arith
 
 pub loop-j-preserved : goal.loop-j-preserved
 loop-j-preserved c =
     let l = c.loop-j in
     let taken = c.loop-j-test.true in (
-      omega arith,
-      omega (arith, taken),
-      omega (arith, l.invariant),
-      simp length-set l.invariant.3,
+      l.invariant.0,
+      simp length-set l.invariant.1,
       λ p g.
           let ok = g.planned.rules in
           let b : l.j < length p = omega (arith, g.count) in
           let (q, o) = parent-here (goal.at.loop-j-preserved c).After-frame_of p g in
           let f : c.frame_of.result ≡ (job p l.j).frame = c.frame_of.ensures.0 ∙ g.planned.laid.frames l.j b in
-          rw c.larger-most.ensures (weighed_more p ok l.j l.most _ (at l.path) _ (l.invariant.4 p g) l.invariant.0 b
+          rw c.max-most.ensures (weighed_more p ok l.j l.most _ (at l.path) _ (l.invariant.2 p g) c.loop-j.auto.j b
           (omega (arith, f, ap (at l.path) q)) (get_or-set_same l.path l.j _ 0 (omega (arith, l.invariant, taken)))
           (λ k h. get_or-set_other l.path l.j k _ 0 (omega arith))),
     )
@@ -103,5 +72,5 @@ loop-j-preserved c =
 pub returns : goal.returns
 unfolding heaviest
 returns c = λ p g.
-    let e : c.loop-j.j ≡ length p = omega (arith, g.count, c.loop-j-test.false) in
-    rw e at (c.loop-j.invariant.4 p g).largest
+    let e : c.loop-j.j ≡ length p = omega (arith, g.count, c.loop-j-test.false, jobs_range p g.planned.rules) in
+    rw e at (c.loop-j.invariant.2 p g).largest

@@ -1,5 +1,5 @@
 -- `measure::heaviest` meets its contract: path weights are filled in from the root on, since parents are below children.
-use Prim.Native.Nat.{◌-◌, ◌≤◌}
+use Prim.Native.Nat.{◌≤◌}
 use mathlib.Core.Path.{◌≡◌}
 use lib.ListN.{length}
 use Rattle.plan.specs.Plan.{Plan}
@@ -9,8 +9,5 @@ use Rattle.plan_measure.proofs.heaviest.Given as goal
 
 abbrev pub invariant-loop-j : goal.invariant-loop-j
 invariant-loop-j l =
-    (1 ≤ l.j) × (l.j ≤ l.jobs) × (l.jobs ≤ 256) × (length l.path ≡ 256)
+    (l.jobs ≤ 256) × (length l.path ≡ 256)
     × ((p : Plan) → PlanOf l.jobs l.plan p → Weighed p l.j l.most (at l.path))
-
-abbrev pub decreases-loop-j : goal.decreases-loop-j
-decreases-loop-j l = l.jobs - l.j

@@ -14,7 +14,6 @@ pub loop-j-init : goal.loop-j-init
 loop-j-init c =
     let (p, g) = c.requires in (
       omega (arith, g.count, jobs_range p g.planned.rules),
-      omega arith,
       refl,
       refl,
       λ p g.
@@ -22,25 +21,13 @@ loop-j-init c =
           (timed_none p ok _ _ _ g.count (zeros_at 2048), λ z. absurd (omega (arith, g.count, jobs_range p ok))),
     )
 
-pub overflow_sub-j : goal.overflow_sub-j
-overflow_sub-j c = omega arith
-
-pub first_of-requires : goal.first_of-requires
-first_of-requires c = omega arith
-
-pub overflow_add-j : goal.overflow_add-j
-overflow_add-j c = omega arith
-
-pub first_of-requires-in-loop-j : goal.first_of-requires-in-loop-j
-first_of-requires-in-loop-j c = omega arith
-
 pub time_job-most-requires : goal.time_job-most-requires
 time_job-most-requires c =
     let (p, g) = c.requires in
     let i = c.loop-j.invariant in (
       record { plan = p; job = c.loop-j.j - 1 },
-      job_given _ _ p g _ _ _ (omega arith) i.1 c.first_of.ensures.0 c.first_of-in-loop-j.ensures.0
-          _ _ i.2 i.3 (i.4 p g).0,
+      job_given _ _ p g _ _ _ (omega arith) (omega arith) c.first_of.ensures.0 c.first_of-in-loop-j.ensures.0
+          _ _ i.1 i.2 (i.3 p g).0,
     )
 
 -- the job that was timed
@@ -51,22 +38,16 @@ timed : (c : After-time_job-most) (p : Plan)
 timed c p g =
     let i = c.loop-j.invariant in
     c.time_job-most.ensures _
-    (job_given _ _ p g _ _ _ (omega arith) i.1 c.first_of.ensures.0 c.first_of-in-loop-j.ensures.0
-    _ _ i.2 i.3 (i.4 p g).0)
-
-pub loop-j-smaller : goal.loop-j-smaller
-loop-j-smaller c = omega arith
+    (job_given _ _ p g _ _ _ (omega arith) (omega arith) c.first_of.ensures.0 c.first_of-in-loop-j.ensures.0
+    _ _ i.1 i.2 (i.3 p g).0)
 
 pub loop-j-preserved : goal.loop-j-preserved
 loop-j-preserved c =
     let (p, g) = c.requires in
     let n = (timed c p g).long in
-    (c.loop-j.invariant.0, omega arith, n.0, n.1, λ p g. let t = timed c p g in (t.timed, λ z. rw z at t.last))
-
-pub units16-requires : goal.units16-requires
-units16-requires c = tt
+    (c.loop-j.invariant.0, n.0, n.1, λ p g. let t = timed c p g in (t.timed, λ z. rw z at t.last))
 
 pub returns : goal.returns
 returns c = λ p g.
     let l = c.loop-j in
-    c.units16.ensures.0 ∙ root_longest p g.planned.rules l.most ((l.invariant.4 p g).1 (omega arith))
+    c.from.ensures ∙ root_longest p g.planned.rules l.most ((l.invariant.3 p g).1 (omega arith))

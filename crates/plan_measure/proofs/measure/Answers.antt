@@ -1,5 +1,5 @@
 -- `measure::measure` meets its contract.
-use mathlib.Core.Path.{refl, sym}
+use mathlib.Core.Path.{sym}
 use Rattle.plan.specs.Found.{ReadPlan}
 use Rattle.plan.proofs.Laws.Found.{found_plan, found_none}
 use Rattle.plan_measure.proofs.Laws.Measuring.{measures_read, measures_refused}
@@ -7,17 +7,11 @@ use Rattle.plan_measure.proofs.Laws.Parallel.{measures_divided}
 use Rattle.plan_measure.proofs.measure.Goals as goal
 use Rattle.plan_measure.proofs.measure.Goals.{In-Plan}
 
-pub read_into-requires : goal.read_into-requires
-read_into-requires c = (refl, refl)
-
 -- what was read
 plan-read : (c : In-Plan)
     → let r = c.read_into in
     ReadPlan c.args.bytes.now c.in-Plan.form c.in-Plan.jobs c.in-Plan.actions r.new.plan r.new.entering
 plan-read c = found_plan _ _ _ _ c.read_into.ensures _ _ _ c.in-Plan.is
-
-pub measure_read-requires : goal.measure_read-requires
-measure_read-requires c = let g = plan-read (goal.at.measure_read-requires c).In-Plan in (g.is, g.held)
 
 pub returns-in-Refused : goal.returns-in-Refused
 returns-in-Refused c =

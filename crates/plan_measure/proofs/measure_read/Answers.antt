@@ -5,25 +5,10 @@ use Rattle.plan_measure.proofs.Laws.Parallel.{longest_some}
 use Rattle.plan.proofs.Laws.Found.{counts_few}
 use Rattle.plan_measure.proofs.measure_read.Goals as goal
 
-pub work-sum-requires : goal.work-sum-requires
-work-sum-requires c =
-    let (p, g) = c.requires in
-    (p, measured_all p _ _ _ g)
-
-pub longest-most-requires : goal.longest-most-requires
-longest-most-requires c =
-    let (p, g) = c.requires in
-    (p, measured_of p _ _ _ g)
-
 pub overflow_cast-result : goal.overflow_cast-result
 overflow_cast-result c =
     let (p, g) = c.requires in
     omega (arith, counts_few _ _ _ p g)
-
-pub heaviest-requires : goal.heaviest-requires
-heaviest-requires c =
-    let (p, g) = c.requires in
-    (p, measured_of p _ _ _ g)
 
 -- T∞ is not 0
 pub nonzero_div-result : goal.nonzero_div-result

