@@ -5,12 +5,11 @@
 --   run_into plan n choices schedule   == the tally and the schedule's bytes, or the refusal: 1 to 6, then 7, 8, 9
 --   Claimed plan n choices r schedule == demand 3's claim and the sums, of what was returned and written
 --   ran_of r                           == the outcome that an answer stands for
-use Rattle.std.specs.Prelude.{ℕ, ◌≡◌, true, false, List, ◌++◌, length, drop, leb}
+use Rattle.std.specs.Prelude.{ℕ, ◌≡◌, true, false, List, ◌++◌, length, drop, leb, Result as Returned, Ok, Err}
+use Rattle.plan.specs.declared.refusal.Refusal.{Refusal}
 use Rattle.plan.specs.Refusal.{Outcome, refused, accepted, number_of}
 use Rattle.plan.specs.Reader.{Read, read_plan}
 use Rattle.runs.specs.declared.tally.Tally.{Tally}
-use Rattle.scheduler.specs.declared.run.Ran.{Ran}
-use Rattle.scheduler.specs.declared.run.Ran.TheVariants.{Refused, Done}
 use Rattle.runs.specs.State.{State}
 use Rattle.runs.specs.Setting.{setting}
 use Rattle.runs.specs.Run.{admitted}
@@ -53,11 +52,11 @@ unfoldable pub run_into : List ℕ → ℕ → List ℕ → List ℕ → Result
 unfolding read_into read_plan
 run_into plan n choices schedule = read_into (read_plan plan) n choices schedule
 
-abbrev pub ran_of : Ran → Outcome Tally
-ran_of (Refused cause) = refused (number_of cause)
-ran_of (Done t) = accepted t
+abbrev pub ran_of : Returned Tally Refusal → Outcome Tally
+ran_of (Err cause) = refused (number_of cause)
+ran_of (Ok t) = accepted t
 
 -- where the run was done, the plan was accepted, and the claim holds of the rows read off the schedule, with the tally
-abbrev pub Claimed : List ℕ → ℕ → List ℕ → Ran → List ℕ → Type 0
+abbrev pub Claimed : List ℕ → ℕ → List ℕ → Returned Tally Refusal → List ℕ → Type 0
 Claimed plan n choices r schedule =
-    (t : Tally) → r ≡ Done t → (x : Read) × (read_plan plan ≡ accepted x) × Bounded (setting x.plan n choices) x.form schedule t
+    (t : Tally) → r ≡ Ok t → (x : Read) × (read_plan plan ≡ accepted x) × Bounded (setting x.plan n choices) x.form schedule t

@@ -3,7 +3,8 @@
 --   RunsIn form actions plan entering p == what it is given: what all rounds are (`rounds` S/Rounds), and a form that the plan can have
 --   Answered form n choices before r after p == the answer r and the schedule `after` are those of a run of p, and the claim of
 --                                     demand 3 holds of them
-use Rattle.std.specs.Prelude.{ℕ, ◌<◌, ◌≡◌, List, T}
+use Rattle.std.specs.Prelude.{ℕ, ◌<◌, ◌≡◌, List, T, Result as Returned, Ok}
+use Rattle.plan.specs.declared.refusal.Refusal.{Refusal}
 use Rattle.plan.specs.Refusal.{accepted}
 use Rattle.plan.specs.Plan.{Plan}
 use Rattle.runs.specs.declared.tally.Tally.{Tally}
@@ -12,8 +13,6 @@ use Rattle.runs.specs.Run.{admitted}
 use Rattle.runs.specs.Claim.{Bounded}
 use Rattle.plan.specs.Rules.{costs_fit}
 use Rattle.rounds.specs.Rounds.{RunIn}
-use Rattle.scheduler.specs.declared.run.Ran.{Ran}
-use Rattle.scheduler.specs.declared.run.Ran.TheVariants.{Done}
 use Rattle.scheduler.specs.Entry.{Result, resulted, made, ran_of}
 
 pub record RunsIn (form actions : ℕ) (plan entering : List ℕ) (p : Plan) : Type 0 where
@@ -21,8 +20,8 @@ pub record RunsIn (form actions : ℕ) (plan entering : List ℕ) (p : Plan) : T
   pub byte : form < 256
   pub costs : T (costs_fit form p)
 
-abbrev pub Answered : ℕ → ℕ → List ℕ → List ℕ → Ran → List ℕ → Plan → Type 0
+abbrev pub Answered : ℕ → ℕ → List ℕ → List ℕ → Returned Tally Refusal → List ℕ → Plan → Type 0
 Answered form n choices before r after p =
     (◌≡◌ {A = Result} (record { answer = ran_of r; schedule = after })
     (resulted form (made (admitted (accepted (record { form = form; plan = p })) n choices)) n before))
-    × ((t : Tally) → r ≡ Done t → Bounded (setting p n choices) form after t)
+    × ((t : Tally) → r ≡ Ok t → Bounded (setting p n choices) form after t)

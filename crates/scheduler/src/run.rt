@@ -8,29 +8,19 @@ ghost use Rattle.scheduler.specs.Choices.{largest_of};
 
 use crate::length::schedule_length;
 use crate::write::write_schedule;
-use numbers::{larger8, wide8};
 use plan::reader::{Found, read_into};
 use plan::refusal::Refusal;
 use plan::sheet::{PLACES, Sheet};
 use rounds::run::run_rounds;
 use runs::tally::Tally;
 
-// The counts of a run, or why there was none.
-#[derive(Clone, Copy)]
-pub enum Ran {
-    Refused(Refusal),
-    Done(Tally),
-}
-
 // The largest choice, or 0 where there is none. A loop without a branch, which runs in wide steps.
 fn largest(choices: &[u8]) -> u8
     ensures { result ≡ largest_of choices.now }
 {
     let mut most = 0u8;
-    let mut i = 0;
-    while i < choices.len() {
-        most = larger8(most, choices[i]);
-        i += 1;
+    for c in choices {
+        most = most.max(*c);
     }
     most
 }
@@ -45,10 +35,11 @@ fn choices_fit(choices: &[u8], n: usize) -> bool
     if choices.len() == 0 {
         return n <= 1;
     }
-    wide8(largest(choices)) < n
+    usize::from(largest(choices)) < n
 }
 
-// Runs the plan that the array holds and writes its schedule in that form. `entering` has how many joins enter each action.
+// Runs the plan that the array holds and writes its schedule in that form: the counts of the run, or why there was none. `entering`
+// has how many joins enter each action.
 pub fn run_read(
     form: u32,
     actions: usize,
@@ -57,32 +48,32 @@ pub fn run_read(
     plan: &Sheet,
     entering: &[u8; 2048],
     schedule: &mut [u8],
-) -> Ran
+) -> Result<Tally, Refusal>
     requires { Some (RunsIn form actions plan.now entering.now) }
     ensures { RunsIn form actions plan.now entering.now
         ⇒ Answered form workers choices.now schedule.old result schedule.new }
 {
     if workers == 0 {
-        return Ran::Refused(Refusal::Workers);
+        return Err(Refusal::Workers);
     }
     if 16 < workers {
-        return Ran::Refused(Refusal::Workers);
+        return Err(Refusal::Workers);
     }
     let n = workers as usize;
     if !choices_fit(choices, n) {
-        return Ran::Refused(Refusal::Choices);
+        return Err(Refusal::Choices);
     }
     if schedule.len() < schedule_length(form, actions) {
-        return Ran::Refused(Refusal::Short);
+        return Err(Refusal::Short);
     }
     let mut rows = [0u32; 2048];
     let t = run_rounds(n, actions, choices, plan, entering, &mut rows);
     write_schedule(schedule, form, n, actions, &rows);
-    Ran::Done(t)
+    Ok(t)
 }
 
-// Runs the plan that the bytes hold and writes its schedule.
-pub fn run(plan: &[u8], workers: u32, choices: &[u8], schedule: &mut [u8]) -> Ran
+// Runs the plan that the bytes hold and writes its schedule: the counts of the run, or why there was none.
+pub fn run(plan: &[u8], workers: u32, choices: &[u8], schedule: &mut [u8]) -> Result<Tally, Refusal>
     ensures schedule_after { record { answer = ran_of result; schedule = schedule.new }
         ≡ run_into plan.now workers choices.now schedule.old }
     ensures claimed { Claimed plan.now workers choices.now result schedule.new }
@@ -90,7 +81,7 @@ pub fn run(plan: &[u8], workers: u32, choices: &[u8], schedule: &mut [u8]) -> Ra
     let mut sheet = [0u16; PLACES];
     let mut entering = [0u8; 2048];
     match read_into(plan, &mut sheet, &mut entering) {
-        Found::Refused(cause) => Ran::Refused(cause),
+        Found::Refused(cause) => Err(cause),
         Found::Plan {
             form,
             jobs: _,

@@ -22,12 +22,10 @@ fn write_narrow(out: &mut [u8], actions: usize, rows: &Rows)
     requires { (actions ≤ 2048) × (2 * actions ≤ length out.old) × Words 16 actions rows.now }
     ensures { RowsWritten 16 actions rows.now out.old out.new }
 {
-    let mut k = 0;
-    while k < actions {
+    for k in 0..actions {
         let x = row_at(rows, k);
         out[2 * k] = (x / 256) as u8;
         out[2 * k + 1] = (x % 256) as u8;
-        k += 1;
     }
 }
 
@@ -41,10 +39,8 @@ fn write_wide(out: &mut [u8], actions: usize, rows: &Rows)
         held: 0,
         bits: 0,
     };
-    let mut k = 0;
-    while k < actions {
-        sink = put(out, sink, row_at(rows, k) as u64, 20);
-        k += 1;
+    for k in 0..actions {
+        sink = put(out, sink, u64::from(row_at(rows, k)), 20);
     }
     finish(out, sink);
 }

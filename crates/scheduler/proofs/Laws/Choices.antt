@@ -1,14 +1,14 @@
 -- The tests of the choices.
---   largest_step, largest_all       == the largest of the choices passed: of one more, of all
+--   largest_step                    == the largest of the choices passed, of one more
 --   too_many, largest_fit, none_fit == what the tests tell: of more than 4,096 choices, of some, of none
 use Prim.Native.Nat.{ℕ, ◌+◌, ◌≤◌, ◌<◌, ◌-◌, max}
-use mathlib.Core.Path.{◌≡◌, refl, sym, ap}
+use mathlib.Core.Path.{◌≡◌, refl, sym}
 use mathlib.Core.Bool.{Bool, true, false}
 use mathlib.Core.List.{List, [], ◌∷◌, ◌++◌}
 use native.Mathlib.Omega.{arith}
 use native.Mathlib.Numerals.{add-one}
 use lib.ListN.{length, get_or, take}
-use lib.Seq.{take_all, take-suc}
+use lib.Seq.{take-suc}
 use lib.Dec.{T, leb, ltb, leb→le, le→leb, ltb→lt, lt→ltb}
 use Rattle.plan.specs.Test.{both, either, all}
 use Rattle.plan.proofs.Laws.Lists.{both_left, both_right, both_intro, false_of, all_at, all_by}
@@ -21,9 +21,6 @@ pub largest_step : (l : List ℕ) (i : ℕ) → i < length l → max (largest_of
 largest_step l i h =
     let whole : take (i + 1) l ≡ take i l ++ (get_or l i 0 ∷ []) = rw add-one (take-suc l i 0 h) in
     rw whole (omega (arith, largest_append (λ x. x) (take i l) (get_or l i 0 ∷ [])))
-
-pub largest_all : (l : List ℕ) (i : ℕ) → length l ≤ i → largest_of (take i l) ≡ largest_of l
-largest_all l i h = ap largest_of (take_all i l h)
 
 module _ (n : ℕ) (l : List ℕ) where
   few : Bool

@@ -4,6 +4,7 @@
 --   refuses_workers, refuses_choices, refuses_short == the run is turned down, by the first test that fails
 --   run_asked, rows_asked, run_answers == where none does: its parts are given what they need, and it answers so
 use Prim.Native.Nat.{ℕ, ◌+◌, ◌≤◌, ◌<◌}
+use Rattle.std.specs.Prelude.{Result as Returned, Ok, Err}
 use mathlib.Core.Path.{◌≡◌, sym, ap, ◌∙◌}
 use mathlib.Core.Bool.{true, false}
 use mathlib.Core.List.{List, ◌++◌}
@@ -22,8 +23,6 @@ use Rattle.plan.proofs.Laws.Costs.{accepted_costs}
 use Rattle.plan.proofs.Laws.Lists.{both_intro, both_left, both_right, true_of, false_of, of_true}
 use Rattle.runs.specs.Setting.{setting}
 use Rattle.runs.specs.declared.tally.Tally.{Tally}
-use Rattle.scheduler.specs.declared.run.Ran.{Ran}
-use Rattle.scheduler.specs.declared.run.Ran.TheVariants.{Refused as RefusedRun, Done}
 use Rattle.runs.specs.State.{State}
 use Rattle.runs.specs.Run.{run, workers_fit, choices_fit, admitted}
 use Rattle.courses.specs.Schedule.{round_bits, schedule_length, schedule_bytes}
@@ -45,17 +44,17 @@ read_runs bytes form jobs actions plan entering g = record {
 }
 
 -- what is answered to the bytes; where there was no run the claim says nothing
-abbrev Answers : List ℕ → ℕ → List ℕ → List ℕ → Ran → List ℕ → Type 0
+abbrev Answers : List ℕ → ℕ → List ℕ → List ℕ → Returned Tally Refusal → List ℕ → Type 0
 Answers bytes n choices before r after =
     (◌≡◌ {A = Result} (record { answer = ran_of r; schedule = after }) (run_into bytes n choices before)) × Claimed bytes n choices r after
 
 module _ (bytes : List ℕ) (n : ℕ) (choices schedule : List ℕ) where
   pub refuses_plan : (cause : Refusal) → read_plan bytes ≡ refused (number_of cause)
-      → Answers bytes n choices schedule (RefusedRun cause) schedule
+      → Answers bytes n choices schedule (Err cause) schedule
   unfolding run_into read_into
-  refuses_plan cause e = (rw e, λ t q. absurd (let z : ◌≡◌ {A = ℕ} 0 1 = cc in omega arith))
+  refuses_plan cause e = (rw e, λ t q. cc)
 
-  pub answers_read : (form : ℕ) (p : Plan) (r : Ran) (after : List ℕ) → read_plan bytes ≡ accepted (record { form = form; plan = p })
+  pub answers_read : (form : ℕ) (p : Plan) (r : Returned Tally Refusal) (after : List ℕ) → read_plan bytes ≡ accepted (record { form = form; plan = p })
       → Answered form n choices schedule r after p → Answers bytes n choices schedule r after
   unfolding run_into read_into
   answers_read form p r after e (a, claimed) =
@@ -70,11 +69,11 @@ module _ {form actions : ℕ} {plan entering : List ℕ} {p : Plan} (given : Run
 
   module _ (n : ℕ) (choices schedule : List ℕ) where
     refuses : (cause : Refusal) → admitted (accepted x) n choices ≡ refused (number_of cause)
-        → Answered form n choices schedule (RefusedRun cause) schedule p
+        → Answered form n choices schedule (Err cause) schedule p
     unfolding resulted
-    refuses cause e = (rw e, λ t q. absurd (let z : ◌≡◌ {A = ℕ} 0 1 = cc in omega arith))
+    refuses cause e = (rw e, λ t q. cc)
 
-    pub refuses_workers : (1 ≤ n → n ≤ 16 → ⊥) → Answered form n choices schedule (RefusedRun Refusal.Workers) schedule p
+    pub refuses_workers : (1 ≤ n → n ≤ 16 → ⊥) → Answered form n choices schedule (Err Refusal.Workers) schedule p
     unfolding admitted workers_fit
     refuses_workers never =
         let e : workers_fit n ≡ false = false_of (workers_fit n) (λ t.
@@ -89,7 +88,7 @@ module _ {form actions : ℕ} {plan entering : List ℕ} {p : Plan} (given : Run
       unfolding workers_fit
       fits = true_of (workers_fit n) (both_intro (leb 1 n) (leb n 16) (le→leb 1 n some) (le→leb n 16 most))
 
-      pub refuses_choices : choices_fit n choices ≡ false → Answered form n choices schedule (RefusedRun Refusal.Choices) schedule p
+      pub refuses_choices : choices_fit n choices ≡ false → Answered form n choices schedule (Err Refusal.Choices) schedule p
       unfolding admitted
       refuses_choices e = refuses Refusal.Choices (rw (admitted, fits, e))
 
@@ -107,11 +106,11 @@ module _ {form actions : ℕ} {plan entering : List ℕ} {p : Plan} (given : Run
         whole : length (schedule_bytes form n s.rows) ≡ schedule_length form actions
         whole = made_fits fitting ∙ ap (schedule_length form) (sym g.all)
 
-        pub refuses_short : length schedule < schedule_length form actions → Answered form n choices schedule (RefusedRun Refusal.Short) schedule p
+        pub refuses_short : length schedule < schedule_length form actions → Answered form n choices schedule (Err Refusal.Short) schedule p
         unfolding resulted
         refuses_short h =
             let l : length schedule < length (schedule_bytes form n s.rows) = omega (arith, whole) in
-            (rw (ran, resulted, lt-leb _ _ l), λ t q. absurd (let z : ◌≡◌ {A = ℕ} 0 1 = cc in omega arith))
+            (rw (ran, resulted, lt-leb _ _ l), λ t q. cc)
 
         -- what all rounds are given
         pub run_asked : RunGiven n actions choices plan entering p
@@ -138,7 +137,7 @@ module _ {form actions : ℕ} {plan entering : List ℕ} {p : Plan} (given : Run
           rows_asked = (given.byte, most, in_few g, long, rw g.all (made_words fitting words words_are))
 
           pub run_answers : (out : List ℕ) → ScheduleWritten form n actions words schedule out
-              → Answered form n choices schedule (Done t) out p
+              → Answered form n choices schedule (Ok t) out p
           unfolding resulted
           run_answers out w =
               let bytes = schedule_bytes form n s.rows in

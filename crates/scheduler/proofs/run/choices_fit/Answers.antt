@@ -14,5 +14,5 @@ returns-then-choices-eq0 c = none_fit _ _ c.if-choices-eq0.true
 pub returns : goal.returns
 returns c =
     let a = c.args in
-    ap (λ m. ltb m a.n) (c.wide8.ensures.0 ∙ c.largest.ensures)
+    ap (λ m. ltb m a.n) (c.from.ensures ∙ c.largest.ensures)
     ∙ largest_fit a.n a.choices.now (omega arith) (omega arith)

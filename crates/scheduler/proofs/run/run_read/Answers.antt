@@ -3,12 +3,9 @@ use Prim.Native.Nat.{◌≤◌}
 use mathlib.Core.Path.{◌≡◌, refl, sym, ◌∙◌}
 use mathlib.Core.Bool.{true}
 use native.Mathlib.Omega.{arith}
-use borrow.Author.Tests.{not-true, not-false}
 use Rattle.runs.specs.Run.{choices_fit}
 use Rattle.rounds.proofs.Laws.Beginning.{in_few}
 use Rattle.scheduler.proofs.Laws.RunAnswers.{refuses_workers, refuses_choices, refuses_short, run_asked, rows_asked, run_answers}
-use mathlib.Core.Path.{ap}
-use mathlib.Core.Bool.{not}
 use borrow.Author.Rules.{rules}
 use Rattle.scheduler.proofs.run.run_read.Goals as goal
 use Rattle.scheduler.proofs.run.run_read.Goals.{Else-not-choices_fit}
@@ -21,10 +18,10 @@ returns-then-workers-gt16 c = λ p g. refuses_workers g _ _ _ (λ some most. ome
 
 pub returns-then-not-choices_fit : goal.returns-then-not-choices_fit
 returns-then-not-choices_fit c = λ p g.
-    refuses_choices g _ _ _ (omega arith) (omega arith) (sym c.choices_fit.ensures ∙ not-true _ (ap not c.if-not-choices_fit.true))
+    refuses_choices g _ _ _ (omega arith) (omega arith) (sym c.choices_fit.ensures ∙ c.if-not-choices_fit.true)
 
 fit : (c : Else-not-choices_fit) → let a = c.args in choices_fit a.workers a.choices.now ≡ true
-fit c = sym c.choices_fit.ensures ∙ not-false _ (ap not c.if-not-choices_fit.false)
+fit c = sym c.choices_fit.ensures ∙ c.if-not-choices_fit.false
 
 manned : (c : Else-not-choices_fit) → (1 ≤ c.args.workers) × (c.args.workers ≤ 16)
 manned c = omega (arith, c.if-workers-gt16.false, c.if-workers-eq0.false)
