@@ -1,5 +1,4 @@
 -- What holds of the pool of a run.
-pub mod Words
 pub mod Jobs
 pub mod Counts
 pub mod Start

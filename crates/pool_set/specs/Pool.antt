@@ -3,9 +3,9 @@
 --   pooled pool j          == job j is in the set
 --   children_of pool j      == how many children of job j live
 --   Put j b pool pool'     == pool' is pool, but for job j, which is in the set where b is true and only there
---   First pool r           == r is the lowest job in the set, or 256 where the set is empty
+--   First pool o           == o is the lowest job in the set, or none where the set is empty
 --   Counted j n pool pool' == pool' is pool, but n children of job j live
-use Rattle.std.specs.Prelude.{ℕ, ◌+◌, ◌/◌, ◌%◌, ◌≤◌, ◌<◌, ◌≡◌, ◌≢◌, Bool, true, false, List, eqb, length, get_or}
+use Rattle.std.specs.Prelude.{ℕ, ◌+◌, ◌/◌, ◌%◌, ◌<◌, ◌≡◌, ◌≢◌, Bool, true, false, List, Option, Some, None, eqb, length, get_or}
 use Rattle.crew.specs.Crew.{member, whether}
 
 abbrev pub pooled : List ℕ → ℕ → Bool
@@ -19,10 +19,9 @@ pub record Put (j : ℕ) (b : Bool) (pool pool' : List ℕ) : Type 0 where
   pub each : (i : ℕ) → i < 256 → pooled pool' i ≡ whether (eqb i j) b (pooled pool i)
   pub same : (i : ℕ) → children_of pool' i ≡ children_of pool i
 
-pub record First (pool : List ℕ) (r : ℕ) : Type 0 where
-  pub most : r ≤ 256
-  pub there : r < 256 → pooled pool r ≡ true
-  pub none : (i : ℕ) → i < 256 → i < r → pooled pool i ≡ false
+abbrev pub First : List ℕ → Option ℕ → Type 0
+First pool (Some r) = (r < 256) × (pooled pool r ≡ true) × ((i : ℕ) → i < r → pooled pool i ≡ false)
+First pool None = (i : ℕ) → i < 256 → pooled pool i ≡ false
 
 pub record Counted (j n : ℕ) (pool pool' : List ℕ) : Type 0 where
   pub long : length pool' ≡ 260

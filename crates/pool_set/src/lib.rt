@@ -5,7 +5,7 @@
 ghost use Rattle.std.specs.Prelude.{◌≡◌, ◌≢◌, true, false, suc, ◌-◌, ◌<◌, eqb, length};
 ghost use Rattle.pool_set.specs.Pool.{pooled, children_of, Put, First, Counted};
 
-mod word;
+use crew::set::{has, lowest, with, without};
 
 pub type Pool = [u64; 260];
 
@@ -16,7 +16,7 @@ pub fn add(pool: &mut Pool, j: usize)
     requires { (j < 256) × (length pool.old ≡ 260) }
     ensures { Put j true pool.old pool.new }
 {
-    pool[j / 64] = word::with(pool[j / 64], j % 64);
+    pool[j / 64] = with(pool[j / 64], j % 64);
 }
 
 // Job j goes out of the set.
@@ -24,7 +24,7 @@ pub fn remove(pool: &mut Pool, j: usize)
     requires { (j < 256) × (length pool.old ≡ 260) }
     ensures { Put j false pool.old pool.new }
 {
-    pool[j / 64] = word::without(pool[j / 64], j % 64);
+    pool[j / 64] = without(pool[j / 64], j % 64);
 }
 
 // Whether job j is in the set.
@@ -32,26 +32,19 @@ pub fn contains(pool: &Pool, j: usize) -> bool
     requires { j < 256 }
     ensures { result ≡ pooled pool.now j }
 {
-    (pool[j / 64] >> (j % 64)) % 2 == 1
+    has(pool[j / 64], j % 64)
 }
 
-// The lowest job in the set, or 256 where the set is empty.
-pub fn first(pool: &Pool) -> usize
+// The lowest job in the set, or none where the set is empty.
+pub fn first(pool: &Pool) -> Option<usize>
     ensures { First pool.now result }
 {
-    if pool[0] != 0 {
-        return word::lowest(pool[0]);
+    for k in 0..CHILDREN {
+        if pool[k] != 0 {
+            return Some(64 * k + lowest(pool[k]));
+        }
     }
-    if pool[1] != 0 {
-        return 64 + word::lowest(pool[1]);
-    }
-    if pool[2] != 0 {
-        return 128 + word::lowest(pool[2]);
-    }
-    if pool[3] != 0 {
-        return 192 + word::lowest(pool[3]);
-    }
-    256
+    None
 }
 
 // One more child of job j lives.
@@ -59,7 +52,7 @@ pub fn gain_child(pool: &mut Pool, j: usize)
     requires { (j < 256) × (length pool.old ≡ 260) × (children_of pool.old j < 256) }
     ensures { Counted j (suc (children_of pool.old j)) pool.old pool.new }
 {
-    pool[CHILDREN + j] = pool[CHILDREN + j] + 1;
+    pool[CHILDREN + j] += 1;
 }
 
 // One child of job j lives no more: whether it was the last.
@@ -68,7 +61,6 @@ pub fn lose_child(pool: &mut Pool, j: usize) -> bool
     ensures { Counted j (children_of pool.old j - 1) pool.old pool.new
         × (result ≡ eqb (children_of pool.old j - 1) 0) }
 {
-    let left = pool[CHILDREN + j] - 1;
-    pool[CHILDREN + j] = left;
-    left == 0
+    pool[CHILDREN + j] -= 1;
+    pool[CHILDREN + j] == 0
 }

@@ -2,6 +2,7 @@
 --   tz_lowest  == `trailing_zeros` of a set that is not empty is its lowest worker
 --   tz_rest    == s & (s - 1) is the set without that worker
 --   lowest_one == a set has one lowest worker
+--   lowest_lt  == it is below k where the set has k digits
 use Prim.Native.Nat.{ℕ, zero, suc, ◌-◌, ◌/◌, ◌%◌, ◌^◌, ◌≤◌, ◌<◌}
 use mathlib.Core.Path.{◌≡◌, refl, sym, ap, ap₂, ◌∙◌}
 use mathlib.Core.Bool.{Bool, true, false, true≢false}
@@ -11,7 +12,7 @@ use lib.Dec.{eqb, eqb-zero-suc, eqb-suc-zero, eqb-suc-suc}
 use lib.Bits.{bit_and, and_self}
 use lib.Count.{under, count_trailing_zeros}
 use Rattle.crew.specs.Crew.{whether, odd, member, Lowest}
-use Rattle.crew.proofs.Laws.Members.{and_half, and_odd}
+use Rattle.crew.proofs.Laws.Members.{member_small, and_half, and_odd}
 
 -- the lowest digit is 0 or 1
 data Parity (n : ℕ) : Type 0 where
@@ -95,3 +96,6 @@ lowest_one s a b p q = le_antisymm (not_above p q) (not_above q p)
   where
     not_above : {x y : ℕ} → Lowest s x → Lowest s y → x ≤ y
     not_above {x} {y} p q = le_of_suc-le-suc (lt_of_not-le (λ h. true≢false (sym q.there ∙ p.none y h)))
+
+pub lowest_lt : {k s w : ℕ} → Lowest s w → s < 2 ^ k → w < k
+lowest_lt {k} {s} {w} low h = lt_of_not-le (λ l. true≢false (sym low.there ∙ member_small k s w h l))

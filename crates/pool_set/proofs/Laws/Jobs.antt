@@ -13,6 +13,7 @@ use borrow.Author.Tests.{eq-eqb, ne_eqb}
 use lib.Dec.{eqb}
 use lib.ListN.{length, get_or, set, length-set}
 use lib.Seq.{get_or-set_same, get_or-set_other}
+use Rattle.std.specs.Prelude.{Some, None}
 use Rattle.crew.specs.Crew.{member, whether, Marked, Lowest}
 use Rattle.crew.proofs.Laws.Members.{member_none}
 use Rattle.pool_set.specs.Pool.{pooled, Put, First}
@@ -47,24 +48,20 @@ module _ (pool : List ℕ) (k : ℕ) (empty : (u : ℕ) → u < k → get_or poo
   none_below : (i : ℕ) → i / 64 < k → pooled pool i ≡ false
   none_below i h = ap (λ (x : ℕ). member x (i % 64)) (empty (i / 64) h) ∙ member_none (i % 64)
 
-  pub first_word : {b : ℕ} → k < 4 → Lowest (get_or pool k 0) b → b < 64 → First pool (k * 64 + b)
-  first_word {b} h low l = record {
-    most = omega arith;
-    there = λ g. ap₂ (λ (x y : ℕ). member (get_or pool x 0) y) word digit ∙ low.there;
-    none = λ i g s. by_cases (ℕ_discrete (i / 64) k)
+  pub first_word : {b : ℕ} → k < 4 → Lowest (get_or pool k 0) b → b < 64 → First pool (Some (64 * k + b))
+  first_word {b} h low l = (
+    omega arith,
+    ap₂ (λ (x y : ℕ). member (get_or pool x 0) y) word digit ∙ low.there,
+    λ i s. by_cases (ℕ_discrete (i / 64) k)
         (λ e. ap (λ (x : ℕ). member (get_or pool x 0) (i % 64)) e ∙ low.none (i % 64) (omega arith))
-        (λ f. none_below i (omega arith));
-  }
+        (λ f. none_below i (omega arith)),
+  )
     where
-      word : (k * 64 + b) / 64 ≡ k
+      word : (64 * k + b) / 64 ≡ k
       word = omega arith
 
-      digit : (k * 64 + b) % 64 ≡ b
+      digit : (64 * k + b) % 64 ≡ b
       digit = omega arith
 
-pub first_none : (pool : List ℕ) → ((u : ℕ) → u < 4 → get_or pool u 0 ≡ 0) → First pool 256
-first_none pool empty = record {
-  most = omega arith;
-  there = λ g. absurd (omega arith);
-  none = λ i g s. none_below pool 4 empty i (omega arith);
-}
+pub first_none : (pool : List ℕ) → ((u : ℕ) → u < 4 → get_or pool u 0 ≡ 0) → First pool None
+first_none pool empty i g = none_below pool 4 empty i (omega arith)
