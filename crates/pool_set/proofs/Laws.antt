@@ -1,4 +1,3 @@
 -- What holds of the pool of a run.
 pub mod Jobs
-pub mod Counts
 pub mod Start

@@ -7,6 +7,3 @@ use Rattle.crew.proofs.set.others.Goals as goal
 
 pub overflow_sub-result : goal.overflow_sub-result
 overflow_sub-result c = let h : c.args.n < 64 = omega arith in rw (one_kept h) (pow-lt c.requires.0)
-
-pub returns : goal.returns
-returns c = let h : c.args.n < 64 = omega arith in rw (one_kept h)
