@@ -13,10 +13,9 @@
 --   RowTaken form t k r plan == what taking over row k, behind those, answers: so it is with row k, or a number is out of range
 --   Taken form rows r plan == what taking all rows over answers: the array has their plan, or a number is out of range
 --   LaidAs form jobs actions plan p == the array has the plan p, of so many jobs and actions, whose costs fit that form, a byte
-use Rattle.std.specs.Prelude.{ℕ, zero, suc, ◌+◌, ◌-◌, ◌*◌, ◌/◌, ◌%◌, ◌≤◌, ◌<◌, ◌≡◌, Bool, true, false, List, length, get_or, take, set, T, eqb, leb}
+use Rattle.std.specs.Prelude.{ℕ, zero, suc, ◌+◌, ◌-◌, ◌*◌, ◌/◌, ◌%◌, ◌≤◌, ◌<◌, ◌≡◌, Bool, true, false, List, length, get_or, take, set, T, eqb, leb, Result, Ok, Err}
+use Rattle.plan.specs.declared.refusal.Refusal.{Refusal}
 use Rattle.plan.specs.declared.refusal.Refusal.TheVariants.{Range}
-use Rattle.plan_table.specs.declared.rows.Jobs.{Jobs as Counted}
-use Rattle.plan_table.specs.declared.rows.Jobs.TheVariants.{Refused, Count}
 use Rattle.plan.specs.Plan.{Plan, job, total}
 use Rattle.plan.specs.Rules.{in_range, costs_fit}
 use Rattle.plan.specs.Test.{both}
@@ -77,13 +76,13 @@ pub record RowsTaken (form : ℕ) (t : List ℕ) (k : ℕ) (plan : List ℕ) : T
   pub costs : (i : ℕ) → i < k → cost_at plan i ≡ (row_at t (5 * i)).cost
   pub unspawned : (c : ℕ) → c < 256 → spawn_of plan c ≡ 0
 
-abbrev pub RowTaken : ℕ → List ℕ → ℕ → Bool → List ℕ → Type 0
-RowTaken form t k true plan = RowsTaken form t (suc k) plan
-RowTaken form t k false plan = ranged form (plan_of (rows_of t)) ≡ false
+abbrev pub RowTaken : ℕ → List ℕ → ℕ → Result Unit Refusal → List ℕ → Type 0
+RowTaken form t k (Ok done) plan = RowsTaken form t (suc k) plan
+RowTaken form t k (Err cause) plan = (cause ≡ Range) × (ranged form (plan_of (rows_of t)) ≡ false)
 
-abbrev pub Taken : ℕ → List Row → Counted → List ℕ → Type 0
-Taken form rows (Refused cause) plan = (cause ≡ Range) × (ranged form (plan_of rows) ≡ false)
-Taken form rows (Count n) plan = LaidIn n (length rows) plan (plan_of rows) × T (costs_fit form (plan_of rows))
+abbrev pub Taken : ℕ → List Row → Result ℕ Refusal → List ℕ → Type 0
+Taken form rows (Err cause) plan = (cause ≡ Range) × (ranged form (plan_of rows) ≡ false)
+Taken form rows (Ok n) plan = LaidIn n (length rows) plan (plan_of rows) × T (costs_fit form (plan_of rows))
 
 pub record LaidAs (form jobs actions : ℕ) (plan : List ℕ) (p : Plan) : Type 0 where
   pub held : LaidIn jobs actions plan p

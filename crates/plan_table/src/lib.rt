@@ -9,65 +9,69 @@ ghost use Rattle.plan_table.specs.GivenRows.{LaidAs};
 
 mod rows;
 
-use crate::rows::{Jobs, table_rules, take_rows, write_rows};
+use crate::rows::{table_rules, take_rows, write_rows};
 use plan::reader::{Found, is_form, read_into};
 use plan::refusal::Refusal;
 use plan::rules::{join_rules, spawn_rules};
 use plan::sheet::{PLACES, Sheet};
-use plan_writer::{Answer, encode};
+use plan_writer::encode;
 
 // Writes the open table of the plan that the bytes hold, and tells the number of rows.
-pub fn plan_to_table(bytes: &[u8], rows: &mut [u16]) -> Answer
+pub fn plan_to_table(bytes: &[u8], rows: &mut [u16]) -> Result<usize, Refusal>
     ensures { record { answer = answer_of result; buffer = rows.new } ≡ to_table bytes.now rows.old }
 {
     let mut plan = [0u16; PLACES];
     let mut entering = [0u8; 2048];
     match read_into(bytes, &mut plan, &mut entering) {
-        Found::Refused(cause) => Answer::Refused(cause),
+        Found::Refused(cause) => Err(cause),
         Found::Plan { actions, .. } => {
             if rows.len() < 5 * actions {
-                return Answer::Refused(Refusal::Short);
+                return Err(Refusal::Short);
             }
             write_rows(actions, &plan, rows);
-            Answer::Count(actions)
+            Ok(actions)
         }
     }
 }
 
 // Writes the bytes, in a form, of the plan whose jobs and actions the array has, where it keeps its rules and there is room, and
 // tells their number.
-fn close(form: u32, jobs: usize, rows: usize, plan: &mut Sheet, bytes: &mut [u8]) -> Answer
+fn close(
+    form: u32,
+    jobs: usize,
+    rows: usize,
+    plan: &mut Sheet,
+    bytes: &mut [u8],
+) -> Result<usize, Refusal>
     requires { Some (LaidAs form jobs rows plan.old) }
     ensures { LaidAs form jobs rows plan.old
         ⇒ (λ p. record { answer = answer_of result; buffer = bytes.new } ≡ encoded form (ruled form p) bytes.old) }
 {
     let mut entering = [0u8; 2048];
     if !spawn_rules(jobs, rows, plan) {
-        return Answer::Refused(Refusal::Spawn);
+        return Err(Refusal::Spawn);
     }
     if !join_rules(jobs, rows, plan, &mut entering) {
-        return Answer::Refused(Refusal::Join);
+        return Err(Refusal::Join);
     }
     encode(form, jobs, rows, plan, bytes)
 }
 
 // Writes the bytes, in the form told, of the plan that an open table holds, and tells the number of bytes.
-pub fn table_to_plan(form: u32, table: &[u16], bytes: &mut [u8]) -> Answer
+pub fn table_to_plan(form: u32, table: &[u16], bytes: &mut [u8]) -> Result<usize, Refusal>
     ensures { record { answer = answer_of result; buffer = bytes.new } ≡ to_plan form table.now bytes.old }
 {
     if !is_form(form) {
-        return Answer::Refused(Refusal::Form);
+        return Err(Refusal::Form);
     }
     if !table_rules(table) {
-        return Answer::Refused(Refusal::Table);
+        return Err(Refusal::Table);
     }
     let rows = table.len() / 5;
     if 2048 < rows {
-        return Answer::Refused(Refusal::Range);
+        return Err(Refusal::Range);
     }
     let mut plan = [0u16; PLACES];
-    match take_rows(form, table, &mut plan) {
-        Jobs::Refused(cause) => Answer::Refused(cause),
-        Jobs::Count(jobs) => close(form, jobs, rows, &mut plan, bytes),
-    }
+    let jobs = take_rows(form, table, &mut plan)?;
+    close(form, jobs, rows, &mut plan, bytes)
 }

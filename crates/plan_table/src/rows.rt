@@ -6,7 +6,6 @@ ghost use Rattle.plan.specs.Sheet.{job_at, Blank};
 ghost use Rattle.plan_table.specs.Table.{table_of, row_rules, rows_of};
 ghost use Rattle.plan_table.specs.GivenRows.{RowsGiven, row_on, with_row, fits_at, TableKept, cost_stands, RowsTaken, RowTaken, Taken};
 
-use numbers::wide16;
 use plan::refusal::Refusal;
 use plan::sheet::{
     Sheet, child_at, cost_at, first_of, frame_of, job_at, set_action, set_first, set_frame,
@@ -32,14 +31,13 @@ pub fn write_rows(actions: usize, plan: &Sheet, rows: &mut [u16])
     requires { Some (RowsGiven actions plan.now) × (5 * actions ≤ length rows.old) }
     ensures { RowsGiven actions plan.now ⇒ (λ p. rows.new ≡ table_of p ++ drop (5 * actions) rows.old) }
 {
-    let mut k = 0;
-    while k < actions {
+    for k in 0..actions {
         write_row(k, plan, rows);
-        k += 1;
     }
 }
 
 // A row may stand below the row before it.
+#[tactic(auto, unfolding(crate::specs::GivenRows::fits_at))]
 fn row_goes_on(table: &[u16], at: usize) -> bool
     requires { (at % 5 ≡ 0) × (at + 5 ≤ length table.now) }
     ensures { result ≡ fits_at table.now at }
@@ -53,8 +51,8 @@ fn row_goes_on(table: &[u16], at: usize) -> bool
     if at == 0 {
         return table[0] == 0;
     }
-    let before = wide16(table[at - 5]);
-    let here = wide16(table[at]);
+    let before = usize::from(table[at - 5]);
+    let here = usize::from(table[at]);
     if here == before + 1 {
         return true;
     }
@@ -68,82 +66,67 @@ fn row_goes_on(table: &[u16], at: usize) -> bool
 pub fn table_rules(table: &[u16]) -> bool
     ensures { result ≡ both (eqb (length table.now % 5) 0) (row_rules (rows_of table.now)) }
 {
-    if table.len() == 0 {
+    if table.is_empty() {
         return false;
     }
     if table.len() % 5 != 0 {
         return false;
     }
-    let mut at = 0;
-    while at < table.len() {
-        if !row_goes_on(table, at) {
+    for k in 0..table.len() / 5 {
+        if !row_goes_on(table, 5 * k) {
             return false;
         }
-        at += 5;
     }
     true
 }
 
-// How many jobs the first rows of a table hold.
-#[derive(Clone, Copy)]
-pub enum Jobs {
-    Refused(Refusal),
-    Count(usize),
-}
-
 // A cost may stand in a table of a form: 1 to 15, and in form 1 no other than 1.
+#[tactic(auto, unfolding(crate::specs::GivenRows::cost_stands))]
 fn cost_stands(form: u32, cost: u16) -> bool
     ensures { result ≡ cost_stands form cost }
 {
     if form == 1 {
         return cost == 1;
     }
-    if cost == 0 {
-        return false;
-    }
-    cost <= 15
+    1 <= cost && cost <= 15
 }
 
 // Takes row k over into the array, if its numbers and its place in its job are in range. Behind the last job begun the array has
 // the end of the rows taken, so a row that begins a job finds its own place there.
-fn take_row(form: u32, table: &[u16], k: usize, plan: &mut Sheet) -> bool
+fn take_row(form: u32, table: &[u16], k: usize, plan: &mut Sheet) -> Result<(), Refusal>
     requires { (k < length table.now / 5) × RowsTaken form table.now k plan.old }
     ensures { RowTaken form table.now k result plan.new }
 {
     let at = 5 * k;
-    let number = wide16(table[at]);
+    let number = usize::from(table[at]);
     let weight = table[at + 1];
     let cost = table[at + 4];
     if weight == 0 {
-        return false;
+        return Err(Refusal::Range);
     }
     if !cost_stands(form, cost) {
-        return false;
+        return Err(Refusal::Range);
     }
     if 256 <= number {
-        return false;
+        return Err(Refusal::Range);
     }
     if 255 <= k - first_of(plan, number) {
-        return false;
+        return Err(Refusal::Range);
     }
     set_frame(plan, number, weight);
     set_first(plan, number + 1, k + 1);
     set_action(plan, k, number, table[at + 2], table[at + 3], cost);
-    true
+    Ok(())
 }
 
 // Takes the rows over into the array, and tells how many jobs they have.
-pub fn take_rows(form: u32, table: &[u16], plan: &mut Sheet) -> Jobs
+pub fn take_rows(form: u32, table: &[u16], plan: &mut Sheet) -> Result<usize, Refusal>
     requires { TableKept table.now × (length table.now / 5 ≤ 2048) × Blank plan.old }
     ensures { Taken form (rows_of table.now) result plan.new }
 {
     let rows = table.len() / 5;
-    let mut k = 0;
-    while k < rows {
-        if !take_row(form, table, k, plan) {
-            return Jobs::Refused(Refusal::Range);
-        }
-        k += 1;
+    for k in 0..rows {
+        take_row(form, table, k, plan)?;
     }
-    Jobs::Count(wide16(table[5 * rows - 5]) + 1)
+    Ok(usize::from(table[5 * rows - 5]) + 1)
 }

@@ -5,7 +5,6 @@
 use Prim.Native.Nat.{ℕ, zero, suc, ◌+◌, ◌-◌, ◌*◌, ◌/◌, ◌≤◌, ◌<◌}
 use mathlib.Core.Path.{◌≡◌, ap, sym, ◌∙◌}
 use mathlib.Core.Logic.{◌≢◌}
-use mathlib.Core.Bool.{Bool, true, false}
 use mathlib.Core.List.{List}
 use native.Mathlib.Omega.{arith}
 use native.Mathlib.Nat.{not-suc-le-zero}
@@ -15,15 +14,11 @@ use lib.ListN.{length, get_or, length-set}
 use lib.Seq.{get_or-set_same, get_or-set_other}
 use lib.Dec.{T}
 use borrow.Author.Count.{below_more}
-use Rattle.plan.specs.declared.refusal.Refusal.{Refusal}
-use Rattle.plan.specs.declared.refusal.Refusal.TheVariants.{Range}
-use Rattle.plan_table.specs.declared.rows.Jobs.{Jobs as Counted}
-use Rattle.plan_table.specs.declared.rows.Jobs.TheVariants.{Refused, Count}
 use Rattle.plan.specs.Plan.{total, placed, no_placed}
 use Rattle.plan.specs.Rules.{in_range, costs_fit}
 use Rattle.plan.specs.Sheet.{child_at, target_at, frame_of, first_of, job_at, cost_at, with_action, with_frame, with_first, Blank, LaidIn}
 use Rattle.plan_table.specs.Table.{Row, rows_of, plan_of}
-use Rattle.plan_table.specs.GivenRows.{row_at, TableKept, RowFits, begun, ranged, RowsTaken, RowTaken, Taken}
+use Rattle.plan_table.specs.GivenRows.{row_at, TableKept, RowFits, begun, RowsTaken}
 use Rattle.plan.proofs.Laws.Lists.{zeros_at}
 use Rattle.plan.proofs.Laws.Placed.{start, start_suc, start_all, start_rises}
 use Rattle.plan.proofs.Laws.Sheets.{action_kept, action_there}
@@ -173,14 +168,6 @@ module _ {form : ℕ} {t : List ℕ} {k : ℕ} {plan : List ℕ} (g : RowsTaken 
         unspawned = λ c l. same (4865 + c) (omega arith) ∙ g.unspawned c l;
       }
 
--- by the answer
-module _ (form : ℕ) (t : List ℕ) (k : ℕ) (r : Bool) (plan : List ℕ) (g : RowTaken form t k r plan) where
-  pub row_taken : r ≡ true → RowsTaken form t (k + 1) plan
-  row_taken e = let h : RowsTaken form t (suc k) plan = rw e at g in rw add-one h
-
-  pub row_refused : r ≡ false → ranged form (plan_of (rows_of t)) ≡ false
-  row_refused e = rw e at g
-
 module _ {form : ℕ} {t plan : List ℕ} (g : RowsTaken form t (length t / 5) plan) where
   pub rows_costs : T (costs_fit form (plan_of (rows_of t)))
   rows_costs = table_costs g.kept form g.fit
@@ -219,14 +206,3 @@ module _ {form : ℕ} {t plan : List ℕ} (g : RowsTaken form t (length t / 5) p
       begins j h (yes e) =
           ap (first_of plan) (e ∙ sym all) ∙ g.end ∙ sym n ∙ sym (start_all (plan_of (rows_of t))) ∙ ap (start (plan_of (rows_of t))) (sym e)
       begins j h (no d) = g.firsts j (omega (arith, all))
-
--- what was taken, by the answer
-
-module _ (form : ℕ) {t : List ℕ} (g : TableKept t) (r : Counted) (plan : List ℕ) (taken : Taken form (rows_of t) r plan) where
-  pub taken_refused : (cause : Refusal) → r ≡ Refused cause → (cause ≡ Range) × (ranged form (plan_of (rows_of t)) ≡ false)
-  taken_refused cause e = rw e at taken
-
-  pub taken_count : (jobs : ℕ) → r ≡ Count jobs → LaidIn jobs (length t / 5) plan (plan_of (rows_of t)) × T (costs_fit form (plan_of (rows_of t)))
-  taken_count jobs e =
-      let l : LaidIn jobs (length (rows_of t)) plan (plan_of (rows_of t)) × T (costs_fit form (plan_of (rows_of t))) = rw e at taken in
-      (rw (rows_length_lem g) at l.0, l.1)

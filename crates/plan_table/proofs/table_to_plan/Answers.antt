@@ -5,17 +5,17 @@ use mathlib.Core.Bool.{true}
 use native.Mathlib.Omega.{arith}
 use lib.ListN.{length}
 use lib.Dec.{eqb, eqb→eq}
+use Rattle.std.proofs.lemmas.Result.{err_from_is_err_and}
 use Rattle.plan.specs.Test.{both}
 use Rattle.plan.specs.Reader.{is_form}
 use Rattle.plan_table.specs.Table.{rows_of, row_rules, plan_of}
 use Rattle.plan_table.specs.GivenRows.{TableKept, LaidAs}
 use Rattle.plan.proofs.Laws.Lists.{of_true, both_left, both_right}
-use Rattle.plan_table.proofs.Laws.RowsInRange.{table_long}
-use Rattle.plan_table.proofs.Laws.TakeRows.{taken_refused, taken_count}
+use Rattle.plan_table.proofs.Laws.RowsInRange.{rows_length_lem, table_long}
 use Rattle.plan_table.proofs.Laws.Answers.{form_refused, plan_refused, plan_range, plan_ruled}
 use Rattle.plan.proofs.Laws.Accepted.{form_small}
 use Rattle.plan_table.proofs.table_to_plan.Goals as goal
-use Rattle.plan_table.proofs.table_to_plan.Goals.{Else-not-is_form, Else-not-table_rules, In-Count}
+use Rattle.plan_table.proofs.table_to_plan.Goals.{Else-not-is_form, Else-not-table_rules, In_ok-jobs}
 
 pub returns-then-not-is_form : goal.returns-then-not-is_form
 returns-then-not-is_form c = form_refused _ _ _ (sym c.is_form.ensures ∙ c.if-not-is_form.true)
@@ -47,26 +47,27 @@ pub take_rows-requires : goal.take_rows-requires
 take_rows-requires c = (kept (goal.at.take_rows-requires c).Else-not-table_rules, omega arith, refl)
 
 -- the array has the rows' plan
-laid : (c : In-Count) → is_form c.args.form ≡ true → TableKept c.args.table.now
-    → LaidAs c.args.form c.in-Count.jobs (length c.args.table.now / 5) c.take_rows.new.plan (plan_of (rows_of c.args.table.now))
+laid : (c : In_ok-jobs) → is_form c.args.form ≡ true → TableKept c.args.table.now
+    → LaidAs c.args.form c.in_ok-jobs.jobs (length c.args.table.now / 5) c.take_rows.new.plan (plan_of (rows_of c.args.table.now))
 laid c known kept =
     let form = c.args.form in
-    let l = taken_count form kept c.take_rows.result _ c.take_rows.ensures _ c.in-Count.is in
-    record { held = l.0; costs = l.1; byte = form_small form (of_true (is_form form) known) }
+    let l = c.in_ok-jobs.ensures in
+    record { held = rw (rows_length_lem kept) at l.0; costs = l.1; byte = form_small form (of_true (is_form form) known) }
 
 pub close-requires : goal.close-requires
 close-requires c =
     let at = goal.at.close-requires c in
-    (_, laid at.In-Count (known at.Else-not-is_form) (kept at.Else-not-table_rules))
+    (_, laid at.In_ok-jobs (known at.Else-not-is_form) (kept at.Else-not-table_rules))
 
-pub returns-in-Refused : goal.returns-in-Refused
-returns-in-Refused c =
-    let at = goal.at.returns-in-Refused c in
-    let e = taken_refused c.args.form (kept at.Else-not-table_rules) c.take_rows.result _ c.take_rows.ensures _ c.in-Refused.is in
-    rw e.0 (plan_range _ _ _ (known at.Else-not-is_form) (rules at.Else-not-table_rules) e.1)
+pub returns-in_err-jobs : goal.returns-in_err-jobs
+returns-in_err-jobs c =
+    let at = goal.at.returns-in_err-jobs c in
+    let p = err_from_is_err_and c.from_residual.result c.from_residual.ensures.1 in
+    let e = c.in_err-jobs.ensures in
+    rw (p.1, p.2, e.0) (plan_range _ _ _ (known at.Else-not-is_form) (rules at.Else-not-table_rules) e.1)
 
-pub returns-in-Count : goal.returns-in-Count
-returns-in-Count c =
-    let at = goal.at.returns-in-Count c in
+pub returns : goal.returns
+returns c =
+    let at = goal.at.returns c in
     let known = known at.Else-not-is_form in
-    c.close.ensures _ (laid at.In-Count known (kept at.Else-not-table_rules)) ∙ plan_ruled _ _ _ known (rules at.Else-not-table_rules)
+    c.close.ensures _ (laid at.In_ok-jobs known (kept at.Else-not-table_rules)) ∙ plan_ruled _ _ _ known (rules at.Else-not-table_rules)

@@ -1,11 +1,6 @@
 -- `plan_table::rows::take_rows` meets its contract. The loop's invariant: the array has what the first k rows put there.
-use Prim.Native.Nat.{◌-◌, ◌/◌, ◌≤◌}
-use lib.ListN.{length}
 use Rattle.plan_table.specs.GivenRows.{RowsTaken}
 use Rattle.plan_table.proofs.rows.take_rows.Given as goal
 
 abbrev pub invariant-loop-k : goal.invariant-loop-k
-invariant-loop-k l = (l.k ≤ length l.table / 5) × RowsTaken l.form l.table l.k l.plan
-
-abbrev pub decreases-loop-k : goal.decreases-loop-k
-decreases-loop-k l = length l.table / 5 - l.k
+invariant-loop-k l = RowsTaken l.form l.table l.k l.plan

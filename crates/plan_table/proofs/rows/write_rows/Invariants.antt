@@ -1,6 +1,6 @@
 -- `plan_table::rows::write_rows` meets its contract. The loop's invariant: the first k rows of the plan's table are written, and what is
 -- behind them is as it was.
-use Prim.Native.Nat.{◌*◌, ◌-◌, ◌≤◌}
+use Prim.Native.Nat.{◌*◌}
 use mathlib.Core.Path.{◌≡◌}
 use mathlib.Core.List.{◌++◌}
 use lib.ListN.{length, take, drop}
@@ -11,8 +11,5 @@ use Rattle.plan_table.proofs.rows.write_rows.Given as goal
 
 abbrev pub invariant-loop-k : goal.invariant-loop-k
 invariant-loop-k l =
-    (l.k ≤ l.actions) × (length l.rows ≡ length l.initial.rows)
+    (length l.rows ≡ length l.initial.rows)
     × ((p : Plan) → RowsGiven l.actions l.plan p → l.rows ≡ take (5 * l.k) (table_of p) ++ drop (5 * l.k) l.initial.rows)
-
-abbrev pub decreases-loop-k : goal.decreases-loop-k
-decreases-loop-k l = l.actions - l.k
