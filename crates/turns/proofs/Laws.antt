@@ -6,5 +6,4 @@ pub mod Held
 pub mod Joins
 pub mod Sending
 pub mod Settling
-pub mod Spending
 pub mod Rows

@@ -4,7 +4,6 @@ ghost use Rattle.std.specs.Prelude.{◌≡◌, ◌≢◌, ◌-◌, ◌≤◌, �
 ghost use Rattle.turns.specs.Progress.{done_of, with_done, spent_at, Spent, missing_at, with_missing};
 ghost use Rattle.plan.specs.Sheet.{cost_at};
 
-use numbers::{byte, wide8};
 use plan::sheet::{Sheet, cost_at};
 
 pub type Progress = [u8; 2560];
@@ -18,7 +17,7 @@ pub fn done_of(progress: &Progress, j: usize) -> usize
     requires { j < 256 }
     ensures { (result ≡ done_of progress.now j) × (result < 256) }
 {
-    wide8(progress[j])
+    usize::from(progress[j])
 }
 
 // One action more of job j is done.
@@ -26,7 +25,7 @@ pub fn count_done(progress: &mut Progress, j: usize)
     requires { (j < 256) × (done_of progress.old j < 255) }
     ensures { progress.new ≡ with_done progress.old j }
 {
-    progress[j] = progress[j] + 1;
+    progress[j] += 1;
 }
 
 // Spends a round on the action at place k, the next one of job j: whether it goes on after this round. Where an action takes one round,
@@ -39,9 +38,9 @@ pub fn spend(progress: &mut Progress, j: usize, k: usize, plan: &Sheet) -> bool
     if cost == 1 {
         return false;
     }
-    let spent = wide8(progress[SPENT + j]) + 1;
+    let spent = usize::from(progress[SPENT + j]) + 1;
     if spent < cost {
-        progress[SPENT + j] = byte(spent);
+        progress[SPENT + j] = spent as u8;
         return true;
     }
     progress[SPENT + j] = 0;
@@ -53,7 +52,7 @@ pub fn missing_at(progress: &Progress, k: usize) -> usize
     requires { k < 2048 }
     ensures { (result ≡ missing_at progress.now k) × (result < 256) }
 {
-    wide8(progress[MISSING + k])
+    usize::from(progress[MISSING + k])
 }
 
 // The action at place k misses so many joins.
@@ -69,7 +68,6 @@ pub fn take_join(progress: &mut Progress, k: usize) -> u8
     requires { (k < 2048) × (missing_at progress.old k ≢ 0) }
     ensures { (result ≡ missing_at progress.old k - 1) × (progress.new ≡ with_missing progress.old k result) }
 {
-    let left = progress[MISSING + k] - 1;
-    progress[MISSING + k] = left;
-    left
+    progress[MISSING + k] -= 1;
+    progress[MISSING + k]
 }

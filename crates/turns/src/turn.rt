@@ -6,7 +6,6 @@ use crate::finish::finish;
 use crate::progress::{Progress, done_of, missing_at, spend};
 use crate::rows::{Rows, set_row};
 use deques::{Deques, push, take_bottom};
-use numbers::{byte, wide8};
 use plan::sheet::{Sheet, child_at, first_of, frame_of, parent_of};
 use runs::worker::Worker;
 
@@ -25,7 +24,7 @@ fn send(k: usize, j: usize, w: usize, plan: &Sheet, progress: &mut Progress, deq
         ⇒ Sent j w progress.new deques.new }
 {
     if finish(k, j, plan, progress) {
-        push(deques, w, byte(parent_of(plan, j)));
+        push(deques, w, parent_of(plan, j) as u8);
     }
 }
 
@@ -44,21 +43,21 @@ fn settle(
         ⇒ Acted j w result progress.now deques.new }
 {
     if k + 1 == first_of(plan, j + 1) {
-        let worker = take_bottom(deques, w);
-        let lighter = weight - frame_of(plan, j);
         return Turned {
-            worker,
-            weight: lighter,
+            worker: take_bottom(deques, w),
+            weight: weight - frame_of(plan, j),
         };
     }
     if missing_at(progress, k + 1) == 0 {
         return Turned {
-            worker: Worker::Holding(byte(j)),
+            worker: Worker::Holding(j as u8),
             weight,
         };
     }
-    let worker = take_bottom(deques, w);
-    Turned { worker, weight }
+    Turned {
+        worker: take_bottom(deques, w),
+        weight,
+    }
 }
 
 // Worker w does the next action of job j, whose place is k.
@@ -81,12 +80,10 @@ fn act(
         return settle(k, j, w, weight, plan, progress, deques);
     }
     // 2. The spawner goes on the bottom and the worker holds the child.
-    push(deques, w, byte(j));
-    let worker = Worker::Holding(byte(child - 1));
-    let heavier = weight + frame_of(plan, child - 1);
+    push(deques, w, j as u8);
     Turned {
-        worker,
-        weight: heavier,
+        worker: Worker::Holding((child - 1) as u8),
+        weight: weight + frame_of(plan, child - 1),
     }
 }
 
@@ -109,7 +106,7 @@ pub fn turn(
     let Worker::Holding(held) = worker else {
         return Turned { worker, weight };
     };
-    let j = wide8(held);
+    let j = usize::from(held);
     let k = first_of(plan, j) + done_of(progress, j);
     if spend(progress, j, k, plan) {
         return Turned { worker, weight };

@@ -68,8 +68,8 @@ module _ {k j w : ℕ} {plan progress deques : List ℕ} {m : Moment} (g : Sendi
         pub send_parent : q < 255
         send_parent = omega (arith, raised.1 q i, raised.0, held_room a)
 
-        pub send_pushing : {x : ℕ} → x ≡ q → Pushing w x deques s.deques
-        send_pushing h =
+        pub send_pushing : Pushing w q deques s.deques
+        send_pushing =
             let e : deque_of s w ≡ [] = wakes_empty ok (held_sound a) w a.holding wakes_it in
             record {
               dequed = g.dequed;
@@ -78,9 +78,8 @@ module _ {k j w : ℕ} {plan progress deques : List ℕ} {m : Moment} (g : Sendi
               below = λ y d c. let z : ◌≡◌ {A = ℕ} 0 1 = cc in absurd (omega arith);
             }
 
-        pub send_wakes : {deques' : List ℕ} {x : ℕ} → x ≡ q → (Pushing w x deques s.deques → Pushed w x deques' s.deques)
-            → Sent j w progress' deques' m
-        send_wakes h b =
+        pub send_wakes : {deques' : List ℕ} → (Pushing w q deques s.deques → Pushed w q deques' s.deques) → Sent j w progress' deques' m
+        send_wakes b =
             let c : wakes p s.next (after_of s j) j (next_of s j) ≡ true = sym d.told ∙ e in
             let z : q ≡ parent p j = raised.1 q i in
-            record { progressed = d.progressed; dequed = rw (c, ← z, ← h) (b (send_pushing h)) }
+            record { progressed = d.progressed; dequed = rw (c, ← z) (b send_pushing) }

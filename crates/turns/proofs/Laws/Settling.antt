@@ -109,8 +109,8 @@ module _ {k j w weighs : ℕ} {plan progress deques : List ℕ} {m : Moment} (g 
         omega (arith, jobs_range (p a) (ok a), older (p a) (ok a) c o b)
 
     -- the spawner goes on the bottom
-    pub act_pushing : {progress' deques' : List ℕ} → Sent j w progress' deques' m → (v : ℕ) → v ≡ j → Pushing w v deques' (aboves j w m)
-    act_pushing sent v e = record {
+    pub act_pushing : {progress' deques' : List ℕ} → Sent j w progress' deques' m → Pushing w j deques' (aboves j w m)
+    act_pushing sent = record {
       dequed = sent.dequed;
       known = (held_room a).4;
       small = omega (arith, act_child);
@@ -124,13 +124,13 @@ module _ {k j w weighs : ℕ} {plan progress deques : List ℕ} {m : Moment} (g 
         omega (arith, g.weighed, weight_small (p a) (ok a) (s a).next, a.planned.laid.frames c z, frame_range (p a) (ok a) c z)
 
     pub act_spawns : (t : Turned) {progress' deques' deques'' : List ℕ} → t.worker ≡ Holding c → t.weight ≡ weighs + frame_of plan c
-        → Sent j w progress' deques' m → (v : ℕ) → v ≡ j → Pushed w v deques'' (aboves j w m) → Acted j w t progress' deques'' m
-    act_spawns t h z sent v e d =
+        → Sent j w progress' deques' m → Pushed w j deques'' (aboves j w m) → Acted j w t progress' deques'' m
+    act_spawns t h z sent d =
         let above = above_of (p a) (s a) w j in
         seated a (record { worker = Holding c; deque = j ∷ above })
         (seat_spawn (p a) (after_of (s a) j) j (next_of (s a) j) above spawns) t h
         (omega (arith, g.weighed, a.planned.laid.frames c act_child.0, weight_spawn (ok a) (s a).next (held_act a) c spawns))
-        sent.progressed (rw (e, set-set, get_or-set_same (s a).deques w above [] (stored a)) at d)
+        sent.progressed (rw (set-set, get_or-set_same (s a).deques w above [] (stored a)) at d)
 
 -- 3. it spawns none
 module _ {k j w weighs : ℕ} {plan progress deques : List ℕ} {m : Moment} (g : Settling k j w weighs plan progress deques m) where

@@ -10,8 +10,8 @@ finish-requires c = (_, send_finishing c.requires.1)
 pub parent_of-requires : goal.parent_of-requires
 parent_of-requires c = (held_room c.requires.1.held).0
 
-pub byte-requires : goal.byte-requires
-byte-requires c =
+pub overflow_cast-parent_of : goal.overflow_cast-parent_of
+overflow_cast-parent_of c =
     let g = c.requires.1 in
     let small = send_parent g (c.finish.ensures _ (send_finishing g)) c.if-finish.true c.parent_of.ensures.0 in
     omega arith
@@ -19,12 +19,11 @@ byte-requires c =
 pub push-requires : goal.push-requires
 push-requires c =
     let g = c.requires.1 in
-    (_, send_pushing g (c.finish.ensures _ (send_finishing g)) c.if-finish.true c.parent_of.ensures.0 c.byte.ensures)
+    (_, send_pushing g (c.finish.ensures _ (send_finishing g)) c.if-finish.true c.parent_of.ensures.0)
 
 pub returns-then-finish : goal.returns-then-finish
 returns-then-finish c m g =
-    send_wakes g (c.finish.ensures _ (send_finishing g)) c.if-finish.true c.parent_of.ensures.0 c.byte.ensures
-    (c.push.ensures _)
+    send_wakes g (c.finish.ensures _ (send_finishing g)) c.if-finish.true c.parent_of.ensures.0 (c.push.ensures _)
 
 pub returns-else-finish : goal.returns-else-finish
 returns-else-finish c m g = send_still g (c.finish.ensures _ (send_finishing g)) c.if-finish.false

@@ -1,7 +1,6 @@
 -- `turn::settle` meets its contract.
-use mathlib.Core.Path.{refl, ap, sym, ◌∙◌}
+use mathlib.Core.Path.{refl, sym, ◌∙◌}
 use native.Mathlib.Omega.{arith}
-use Rattle.runs.specs.declared.worker.Worker.TheVariants.{Holding}
 use Rattle.turns.proofs.Laws.Held.{held_room}
 use Rattle.turns.proofs.Laws.Settling.{settle_lighter, settle_ends, settle_room, settle_goes, settle_stalls}
 use Rattle.turns.proofs.turn.settle.Goals as goal
@@ -18,14 +17,14 @@ first_of-requires c = omega (arith, held_room c.requires.1.held)
 pub frame_of-requires : goal.frame_of-requires
 frame_of-requires c = (held_room c.requires.1.held).0
 
-pub overflow_sub-lighter : goal.overflow_sub-lighter
-overflow_sub-lighter c =
+pub overflow_sub-result : goal.overflow_sub-result
+overflow_sub-result c =
     omega (arith, c.frame_of.ensures, settle_lighter c.requires.1 (c.if-k-first_of.true ∙ c.first_of.ensures.0))
 
 pub returns-then-k-first_of : goal.returns-then-k-first_of
 returns-then-k-first_of c m g =
     settle_ends g (c.if-k-first_of.true ∙ c.first_of.ensures.0) _ (omega (arith, c.frame_of.ensures))
-    (c.take_bottom-worker.ensures _ g.sent.dequed)
+    (c.take_bottom.ensures _ g.sent.dequed)
 
 pub overflow_add-k-2 : goal.overflow_add-k-2
 overflow_add-k-2 c = omega (arith, held_room c.requires.1.held)
@@ -33,15 +32,15 @@ overflow_add-k-2 c = omega (arith, held_room c.requires.1.held)
 pub missing_at-requires : goal.missing_at-requires
 missing_at-requires c = settle_room c.requires.1 (omega (arith, c.first_of.ensures))
 
-pub byte-requires : goal.byte-requires
-byte-requires c = (held_room c.requires.1.held).0
+pub overflow_cast-result : goal.overflow_cast-result
+overflow_cast-result c = omega (arith, held_room c.requires.1.held)
 
 pub returns-then-missing_at-eq0 : goal.returns-then-missing_at-eq0
 returns-then-missing_at-eq0 c m g =
     settle_goes g (omega (arith, c.first_of.ensures)) (sym c.missing_at.ensures.0 ∙ c.if-missing_at-eq0.true) _
-    (ap Holding c.byte.ensures) refl
+    refl refl
 
 pub returns : goal.returns
 returns c m g =
     settle_stalls g (omega (arith, c.first_of.ensures)) (omega (arith, c.missing_at.ensures)) _ refl
-    (c.take_bottom-worker-2.ensures _ g.sent.dequed)
+    (c.take_bottom-2.ensures _ g.sent.dequed)

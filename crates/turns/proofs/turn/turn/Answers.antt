@@ -1,43 +1,37 @@
 -- `turn::turn` meets its contract: the action goes on, or the row is the one of the action that the worker does, and `act` does the rest.
 use mathlib.Core.Path.{refl, sym}
 use native.Mathlib.Omega.{arith}
-use Rattle.turns.proofs.Laws.Rows.{turning_some, turning_small, turning_room, turning_goes, turning_acting, turning_taken}
+use Rattle.turns.proofs.Laws.Rows.{turning_small, turning_room, turning_goes, turning_acting, turning_taken}
 use Rattle.turns.proofs.turn.turn.Goals as goal
-
-pub returns-in_default : goal.returns-in_default
-returns-in_default c m t = absurd (turning_some t c.in_default.not-Holding)
-
-pub first_of-requires : goal.first_of-requires
-first_of-requires c = omega (arith, c.wide8-j.ensures)
 
 pub spend-requires : goal.spend-requires
 spend-requires c =
-    turning_room c.requires.1 c.in-Holding.is c.wide8-j.ensures.0 c.first_of.ensures.0
+    turning_room c.requires.1 c.in-Holding.is c.from-j.ensures c.first_of.ensures.0
     c.done_of.ensures.0
 
 pub returns-then-spend : goal.returns-then-spend
 returns-then-spend c m t =
-    turning_goes t c.in-Holding.is c.wide8-j.ensures.0 c.first_of.ensures.0
+    turning_goes t c.in-Holding.is c.from-j.ensures c.first_of.ensures.0
     c.done_of.ensures.0 c.spend.ensures c.if-spend.true _ (sym c.in-Holding.is) refl
 
 pub set_row-requires : goal.set_row-requires
 set_row-requires c =
     let t = c.requires.1 in
-    let room = turning_room t c.in-Holding.is c.wide8-j.ensures.0 c.first_of.ensures.0
+    let room = turning_room t c.in-Holding.is c.from-j.ensures c.first_of.ensures.0
     c.done_of.ensures.0 in
     omega (arith, turning_small t)
 
 pub act-requires : goal.act-requires
 act-requires c = (
   _,
-  turning_acting c.requires.1 c.in-Holding.is c.wide8-j.ensures.0
+  turning_acting c.requires.1 c.in-Holding.is c.from-j.ensures
       c.first_of.ensures.0 c.done_of.ensures.0 c.spend.ensures c.if-spend.false,
 )
 
 pub returns : goal.returns
 returns c m t =
     let is = c.in-Holding.is in
-    let job = c.wide8-j.ensures.0 in
+    let job = c.from-j.ensures in
     let at = c.first_of.ensures.0 in
     let so = c.done_of.ensures.0 in
     let act = c.act.ensures m (turning_acting t is job at so c.spend.ensures c.if-spend.false) in
