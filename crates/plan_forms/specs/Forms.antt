@@ -6,14 +6,13 @@
 --   plain o              == the plan o where all its costs are 1, or 15
 --   to_form2, to_form1     == what the two entries answer and leave in the lent buffer
 --   Converted from to s r bytes == the first of those bytes hold the plan that the bytes s hold, s in the one form and they in the other
-use Rattle.std.specs.Prelude.{ℕ, ◌≡◌, true, false, List, take, eqb}
+use Rattle.std.specs.Prelude.{ℕ, ◌≡◌, true, false, List, take, eqb, Result, Ok}
 use Rattle.fields.specs.Field.{Step, stop, step, field_at}
+use Rattle.plan.specs.declared.refusal.Refusal.{Refusal}
 use Rattle.plan.specs.Refusal.{Outcome, refused, accepted}
 use Rattle.plan.specs.Plan.{Plan}
 use Rattle.plan.specs.Rules.{costs_fit}
 use Rattle.plan.specs.Reader.{Read, read_plan}
-use Rattle.plan_writer.specs.declared.Answer.{Answer}
-use Rattle.plan_writer.specs.declared.Answer.TheVariants.{Count}
 use Rattle.plan_writer.specs.Written.{Written, encoded}
 
 abbrev pub plan_read : Outcome Read → Outcome Plan
@@ -44,7 +43,7 @@ unfoldable pub to_form1 : List ℕ → List ℕ → Written
 unfolding encoded plain read_as
 to_form1 s buffer = encoded 1 (plain (read_as 2 s)) buffer
 
-abbrev pub Converted : (from to : ℕ) → List ℕ → Answer → List ℕ → Type 0
+abbrev pub Converted : (from to : ℕ) → List ℕ → Result ℕ Refusal → List ℕ → Type 0
 Converted from to s r bytes =
-    (n : ℕ) → r ≡ Count n
+    (n : ℕ) → r ≡ Ok n
     → (p : Plan) × (read_plan s ≡ accepted (record { form = from; plan = p })) × (read_plan (take n bytes) ≡ accepted (record { form = to; plan = p }))

@@ -13,7 +13,7 @@ use fields::field::{Field, cut};
 use plan::reader::{Found, read_into};
 use plan::refusal::Refusal;
 use plan::sheet::{PLACES, Sheet, cost_at};
-use plan_writer::{Answer, encode};
+use plan_writer::encode;
 
 // Reads the plan that the bytes hold into its array, where they are of the form that is expected.
 fn read_as(form: u32, s: &[u8], plan: &mut Sheet) -> Found
@@ -35,39 +35,37 @@ fn costs_one(jobs: usize, actions: usize, plan: &Sheet) -> bool
     requires { Some (PlanIn jobs actions plan.now) }
     ensures { PlanIn jobs actions plan.now ⇒ (λ p. result ≡ costs_fit 1 p) }
 {
-    let mut k = 0;
-    while k < actions {
+    for k in 0..actions {
         if cost_at(plan, k) != 1 {
             return false;
         }
-        k += 1;
     }
     true
 }
 
 // Writes, in form 2, the plan that bytes of form 1 hold, and tells the number of bytes.
-pub fn to_form_2(plan: &[u8], bytes: &mut [u8]) -> Answer
+pub fn to_form_2(plan: &[u8], bytes: &mut [u8]) -> Result<usize, Refusal>
     ensures bytes_after { record { answer = answer_of result; buffer = bytes.new } ≡ to_form2 plan.now bytes.old }
     ensures converted { Converted 1 2 plan.now result bytes.new }
 {
     let mut sheet = [0u16; PLACES];
     match read_as(1, plan, &mut sheet) {
-        Found::Refused(cause) => Answer::Refused(cause),
+        Found::Refused(cause) => Err(cause),
         Found::Plan { jobs, actions, .. } => encode(2, jobs, actions, &sheet, bytes),
     }
 }
 
 // Writes, in form 1, the plan that bytes of form 2 hold, where all its costs are 1, and tells the number of bytes.
-pub fn to_form_1(plan: &[u8], bytes: &mut [u8]) -> Answer
+pub fn to_form_1(plan: &[u8], bytes: &mut [u8]) -> Result<usize, Refusal>
     ensures bytes_after { record { answer = answer_of result; buffer = bytes.new } ≡ to_form1 plan.now bytes.old }
     ensures converted { Converted 2 1 plan.now result bytes.new }
 {
     let mut sheet = [0u16; PLACES];
     match read_as(2, plan, &mut sheet) {
-        Found::Refused(cause) => Answer::Refused(cause),
+        Found::Refused(cause) => Err(cause),
         Found::Plan { jobs, actions, .. } => {
             if !costs_one(jobs, actions, &sheet) {
-                return Answer::Refused(Refusal::Cost);
+                return Err(Refusal::Cost);
             }
             encode(1, jobs, actions, &sheet, bytes)
         }

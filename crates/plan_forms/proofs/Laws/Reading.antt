@@ -2,7 +2,6 @@
 --   as_stopped, as_other, as_read == by what the first field is: 1, 2, or what reading tells
 --   as_accepted, as_known         == so a plan is read exactly where the bytes hold one of that form
 --   as_answers                    == what the function that reads answers
---   found_as, none_as             == what its caller has
 use Prim.Native.Nat.{ℕ}
 use native.Mathlib.Decide.{ℕ_discrete}
 use mathlib.Core.Path.{◌≡◌, refl, sym, ap, ◌∙◌}
@@ -11,15 +10,14 @@ use mathlib.Core.List.{List}
 use borrow.Author.Tests.{eq-eqb, ne_eqb}
 use Rattle.fields.specs.Field.{Step, stop, step, field_at}
 use Rattle.plan.specs.declared.reader.Found.{Found}
-use Rattle.plan.specs.declared.refusal.Refusal.{Refusal}
-use Rattle.plan.specs.Refusal.{Outcome, refused, accepted, number_of}
+use Rattle.plan.specs.Refusal.{Outcome, refused, accepted}
 use Rattle.plan.specs.Plan.{Plan}
 use Rattle.plan.specs.Reader.{Read, read_plan}
 use Rattle.plan.specs.Found.{ReadInto}
 use Rattle.plan.proofs.Laws.Accepted.{accepted_first}
 use Rattle.plan.proofs.Laws.Outcomes.{refused_accepted, accepted_same}
 use Rattle.plan_forms.specs.Forms.{plan_read, expects, read_as}
-use Rattle.plan_forms.specs.Given.{PlanAs, ReadAs}
+use Rattle.plan_forms.specs.Given.{ReadAs}
 
 step_same : (a b m n : ℕ) → ◌≡◌ {A = Step ℕ} (step a m) (step b n) → a ≡ b
 step_same a b m n e = cc
@@ -70,11 +68,3 @@ module _ (form : ℕ) (s : List ℕ) where
       go : (x : Step ℕ) → field_at s 8 0 ≡ x → read_plan s ≡ accepted (record { form = form; plan = p })
       go (stop k) e = refused_accepted (sym (as_stopped k e) ∙ r)
       go (step first at) e = by_form first at e p r (ℕ_discrete first form)
-
--- what a caller has, by the answer
-module _ (form : ℕ) (s : List ℕ) (r : Found) (plan : List ℕ) (h : ReadAs form s r plan) where
-  pub found_as : (own jobs actions : ℕ) → r ≡ Found.Plan own jobs actions → PlanAs form s jobs actions plan
-  found_as own jobs actions e = rw e at h
-
-  pub none_as : (cause : Refusal) → r ≡ Found.Refused cause → read_as form s ≡ refused (number_of cause)
-  none_as cause e = rw e at h

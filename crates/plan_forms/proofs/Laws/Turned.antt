@@ -3,16 +3,17 @@
 --   turns_back_down, costs_down, turned_back == into form 1: a refusal, 15, or the plan's bytes
 --   again_as               == the plan's bytes in a form that its costs fit hold that plan
 --   converted              == what was written is the plan that was read
+use Rattle.std.specs.Prelude.{Result}
 use Prim.Native.Nat.{ℕ}
 use mathlib.Core.Path.{◌≡◌}
 use mathlib.Core.Bool.{true, false}
 use mathlib.Core.List.{List}
 use lib.Dec.{T}
+use Rattle.plan.specs.declared.refusal.Refusal.{Refusal}
 use Rattle.plan.specs.Refusal.{refused, accepted}
 use Rattle.plan.specs.Plan.{Plan}
 use Rattle.plan.specs.Rules.{costs_fit}
 use Rattle.plan.specs.Reader.{is_form, read_plan}
-use Rattle.plan_writer.specs.declared.Answer.{Answer}
 use Rattle.plan_writer.specs.Writer.{plan_bytes}
 use Rattle.plan_writer.specs.Written.{encoded, answer_of}
 use Rattle.plan.proofs.Laws.Accepted.{accepted_kept}
@@ -46,7 +47,7 @@ module _ (s : List ℕ) (from to : ℕ) (p : Plan) (read : read_plan s ≡ accep
   pub again_as : read_plan (plan_bytes to p) ≡ accepted (record { form = to; plan = p })
   again_as = again to p known costs (accepted_kept s (record { form = from; plan = p }) read)
 
-  pub converted : (buffer : List ℕ) (r : Answer) (bytes : List ℕ) → record { answer = answer_of r; buffer = bytes } ≡ encoded to (accepted p) buffer
+  pub converted : (buffer : List ℕ) (r : Result ℕ Refusal) (bytes : List ℕ) → record { answer = answer_of r; buffer = bytes } ≡ encoded to (accepted p) buffer
       → Converted from to s r bytes
   converted buffer r bytes e n f =
       (p, read, read_back to p known costs (accepted_kept s (record { form = from; plan = p }) read) buffer r bytes e n f)

@@ -2,7 +2,6 @@
 use Prim.Native.Nat.{◌<◌}
 use mathlib.Core.Path.{refl, sym, ◌∙◌}
 use native.Mathlib.Omega.{arith}
-use borrow.Author.Count.{below_more}
 use Rattle.plan.specs.Plan.{total}
 use Rattle.plan.specs.Rules.{costs_fit}
 use Rattle.plan.proofs.Laws.Found.{counts_few}
@@ -10,11 +9,8 @@ use Rattle.plan.proofs.Laws.Lists.{true_of, false_of}
 use Rattle.plan_writer.proofs.Laws.Costs.{costs_place, costs_by}
 use Rattle.plan_forms.proofs.costs_one.Goals as goal
 
-pub loop-k-init : goal.loop-k-init
-loop-k-init c = (omega arith, (counts_few _ _ _ _ c.requires.1).1, λ i b. omega arith)
-
 pub cost_at-requires : goal.cost_at-requires
-cost_at-requires c = omega arith
+cost_at-requires c = omega (arith, counts_few _ _ _ _ c.requires.1)
 
 pub returns-then-cost_at-ne1 : goal.returns-then-cost_at-ne1
 returns-then-cost_at-ne1 c p g =
@@ -23,19 +19,6 @@ returns-then-cost_at-ne1 c p g =
     let h : k < total p = omega (arith, g.all, c.loop-k-test.true) in
     omega (arith, c.if-cost_at-ne1.true, c.cost_at.ensures.0, g.planned.laid.costs k h, costs_place 1 p t k h refl)))
 
-pub overflow_add-k : goal.overflow_add-k
-overflow_add-k c = omega arith
-
-pub loop-k-smaller : goal.loop-k-smaller
-loop-k-smaller c = omega arith
-
-pub loop-k-preserved : goal.loop-k-preserved
-loop-k-preserved c = (
-  omega arith,
-  omega arith,
-  below_more _ _ c.loop-k.invariant.2 (omega (arith, c.cost_at.ensures.0, c.if-cost_at-ne1.false)),
-)
-
 pub returns : goal.returns
 returns c p g =
-    sym (true_of (costs_fit 1 p) (costs_by 1 p (λ k h _. sym (g.planned.laid.costs k h) ∙ c.loop-k.invariant.2 k (omega (arith, g.all)))))
+    sym (true_of (costs_fit 1 p) (costs_by 1 p (λ k h _. sym (g.planned.laid.costs k h) ∙ c.loop-k.invariant k (omega (arith, g.all)))))

@@ -5,7 +5,6 @@ use native.Mathlib.Omega.{arith}
 use Rattle.plan.specs.Rules.{costs_fit}
 use Rattle.plan.proofs.Laws.Lists.{of_true}
 use Rattle.plan.proofs.Laws.Found.{ruled_in}
-use Rattle.plan_writer.proofs.Laws.ReadBack.{no_count}
 use Rattle.plan_forms.proofs.Laws.Turned.{turns_back_down, costs_down, turned_back, converted}
 use Rattle.plan_forms.proofs.to_form_1.Goals as goal
 
@@ -13,23 +12,16 @@ use Rattle.plan_forms.proofs.to_form_1.Goals as goal
 pub costs_one-requires : goal.costs_one-requires
 costs_one-requires c = let r = c.in-Plan.ensures in (r.is, r.held)
 
-pub returns-then-not-costs_one : goal.returns-then-not-costs_one
-returns-then-not-costs_one c =
+pub returns-then-not-costs_one-clause-bytes_after : goal.returns-then-not-costs_one-clause-bytes_after
+returns-then-not-costs_one-clause-bytes_after c =
     let r = c.in-Plan.ensures in
-    record {
-      bytes_after = costs_down _ _ _ r.told (sym (c.costs_one.ensures r.is r.held) ∙ c.if-not-costs_one.true);
-      converted = no_count _ _;
-    }
+    costs_down _ _ _ r.told (sym (c.costs_one.ensures r.is r.held) ∙ c.if-not-costs_one.true)
 
 pub encode-requires : goal.encode-requires
 encode-requires c = let r = c.in-Plan.ensures in ((r.is, ruled_in r.held), omega arith)
 
-pub returns-in-Refused : goal.returns-in-Refused
-returns-in-Refused c =
-    record {
-      bytes_after = turns_back_down _ _ _ c.in-Refused.ensures;
-      converted = no_count _ _;
-    }
+pub returns-in-Refused-clause-bytes_after : goal.returns-in-Refused-clause-bytes_after
+returns-in-Refused-clause-bytes_after c = turns_back_down _ _ _ c.in-Refused.ensures
 
 pub returns-else-not-costs_one : goal.returns-else-not-costs_one
 returns-else-not-costs_one c =
