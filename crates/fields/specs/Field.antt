@@ -7,9 +7,8 @@
 --   Step A           == what was read and the next place, or the number of the refusal
 --   field_at s w at   == the field of w bits at place at of the bytes s, or that the bits ran out
 --   step_of f         == the step that the field reader's answer stands for
-use Rattle.std.specs.Prelude.{ℕ, zero, suc, ◌+◌, ◌*◌, ◌/◌, ◌%◌, ◌^◌, ◌<◌, true, false, List, [], ◌∷◌, ◌++◌, length, get_or, take, drop, replicate, leb}
+use Rattle.std.specs.Prelude.{ℕ, zero, suc, ◌+◌, ◌*◌, ◌/◌, ◌%◌, ◌^◌, ◌<◌, true, false, List, [], ◌∷◌, ◌++◌, length, get_or, take, drop, replicate, leb, Option, Some, None}
 use Rattle.fields.specs.declared.field.Field.{Field}
-use Rattle.fields.specs.declared.field.Field.TheVariants.{RanOut, Cut}
 
 abbrev pub Bytes : List ℕ → Type 0
 Bytes s = (i : ℕ) → get_or s i 0 < 256
@@ -44,6 +43,6 @@ unfolding bits
 field_at s w at =
     elim (leb (at + w) (8 * length s)) [ true ↦ step (number (take w (drop at (bits s)))) (at + w) | false ↦ stop 1 ]
 
-abbrev pub step_of : Field → Step ℕ
-step_of RanOut = stop 1
-step_of (Cut value next) = step value next
+abbrev pub step_of : Option Field → Step ℕ
+step_of None = stop 1
+step_of (Some f) = step f.value f.next

@@ -5,13 +5,11 @@ ghost use Rattle.fields.specs.Field.{field_at, step_of, bits_of};
 ghost use Rattle.fields.specs.FieldParts.{Windowed, Loose};
 ghost use Rattle.fields.specs.Sink.{Sound, Room, Put, Done};
 
-use numbers::long8;
-
-// A field and the next place, or that the bits ran out.
+// What a field has, and the next place.
 #[derive(Clone, Copy)]
-pub enum Field {
-    RanOut,
-    Cut { value: u32, next: usize },
+pub struct Field {
+    pub value: u32,
+    pub next: usize,
 }
 
 // The four bytes from some byte on as one number, with zeros for those behind the end, and how many of their bits are there.
@@ -33,7 +31,7 @@ fn joined(a: u64, b: u64, c: u64, d: u64) -> u64
 fn byte_or_0(s: &[u8], i: usize) -> u64
     ensures { (result ≡ get_or s.now i 0) × (result < 256) }
 {
-    if i < s.len() { long8(s[i]) } else { 0 }
+    u64::from(s.get(i).copied().unwrap_or(0))
 }
 
 // How many bits there are from byte i on, where less than a window is left.
@@ -41,7 +39,7 @@ fn bits_left(s: &[u8], i: usize) -> usize
     requires { length s.now < i + 4 }
     ensures { result ≡ 8 * (length s.now - i) }
 {
-    if s.len() < i { 0 } else { 8 * (s.len() - i) }
+    8 * s.len().saturating_sub(i)
 }
 
 // The window from byte i on.
@@ -52,10 +50,10 @@ pub fn window_at(s: &[u8], i: usize) -> Window
     if i + 4 <= s.len() {
         return Window {
             bits: joined(
-                long8(s[i]),
-                long8(s[i + 1]),
-                long8(s[i + 2]),
-                long8(s[i + 3]),
+                u64::from(s[i]),
+                u64::from(s[i + 1]),
+                u64::from(s[i + 2]),
+                u64::from(s[i + 3]),
             ),
             held: 32,
         };
@@ -72,38 +70,36 @@ pub fn window_at(s: &[u8], i: usize) -> Window
 }
 
 // The field of `width` bits at bit `at` of a window: what stands before it is shifted out to the left, and what stands behind it
-// to the right.
-pub fn cut_in(w: Window, at: usize, width: usize) -> Field
+// to the right. No answer where the bits run out before its end.
+pub fn cut_in(w: Window, at: usize, width: usize) -> Option<Field>
     requires { at + width ≤ 32 }
     ensures { (t : List ℕ) → Windowed w t → step_of result ≡ field_at t width at }
 {
     let next = at + width;
     if w.held < next {
-        return Field::RanOut;
+        return None;
     }
     let value = (w.bits << at) % 4294967296 >> (32 - width);
-    Field::Cut {
+    Some(Field {
         value: value as u32,
         next,
-    }
+    })
 }
 
-// The field of `width` bits at place `at`, counted in bits.
-pub fn cut(s: &[u8], at: usize, width: usize) -> Field
+// The field of `width` bits at place `at`, counted in bits, if so many are there.
+pub fn cut(s: &[u8], at: usize, width: usize) -> Option<Field>
     requires { (at < 4294967296) × (width ≤ 24) }
     ensures { step_of result ≡ field_at s.now width at }
 {
     let i = at / 8;
     if s.len() < i {
-        return Field::RanOut;
+        return None;
     }
-    let Field::Cut { value, next } = cut_in(window_at(s, i), at % 8, width) else {
-        return Field::RanOut;
-    };
-    Field::Cut {
+    let Field { value, next } = cut_in(window_at(s, i), at % 8, width)?;
+    Some(Field {
         value,
         next: 8 * i + next,
-    }
+    })
 }
 
 // What is written of a row of fields: the whole bytes, and the bits that do not fill one yet, at the top of 32.

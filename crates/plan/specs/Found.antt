@@ -2,8 +2,9 @@
 --   ReadPlan s form jobs actions plan entering == the bytes s hold a plan of that form, of so many jobs and actions; the array holds
 --                       it, and `entering` how many joins enter each action; it has its full length, which nothing else tells of a lent array
 --   ReadInto s r plan entering == the answer r is the refusal, or that this is so
-use Rattle.std.specs.Prelude.{ℕ, ◌≡◌, List, length}
+use Rattle.std.specs.Prelude.{ℕ, ◌≡◌, List, length, Result, Ok, Err}
 use Rattle.plan.specs.declared.reader.Found.{Found}
+use Rattle.plan.specs.declared.refusal.Refusal.{Refusal}
 use Rattle.plan.specs.Refusal.{refused, accepted, number_of}
 use Rattle.plan.specs.Plan.{Plan}
 use Rattle.plan.specs.Reader.{read_plan}
@@ -17,6 +18,6 @@ pub record ReadPlan (s : List ℕ) (form jobs actions : ℕ) (plan entering : Li
   pub entered : Entered is entering
   pub whole : length entering ≡ 2048
 
-abbrev pub ReadInto : List ℕ → Found → (plan entering : List ℕ) → Type 0
-ReadInto s (Found.Refused cause) plan entering = read_plan s ≡ refused (number_of cause)
-ReadInto s (Found.Plan form jobs actions) plan entering = ReadPlan s form jobs actions plan entering
+abbrev pub ReadInto : List ℕ → Result Found Refusal → (plan entering : List ℕ) → Type 0
+ReadInto s (Err cause) plan entering = read_plan s ≡ refused (number_of cause)
+ReadInto s (Ok found) plan entering = ReadPlan s found.form found.jobs found.actions plan entering

@@ -1,12 +1,7 @@
 -- Places listed in rising order: those below a bound where a function is not 0.
---   grown_to count more == the count, one more where something came in
 --   upto l m       == the place right after the m places that stand first in the list l
 --   Listed f n count l == the first `count` numbers of the list are, in rising order, the places below n where f is not 0
-use Rattle.std.specs.Prelude.{ℕ, zero, suc, ◌+◌, ◌≤◌, ◌<◌, ◌≡◌, Bool, true, false, List, length, get_or}
-
-abbrev pub grown_to : ℕ → Bool → ℕ
-grown_to count true = count + 1
-grown_to count false = count
+use Rattle.std.specs.Prelude.{ℕ, zero, suc, ◌≤◌, ◌<◌, ◌≡◌, List, length, get_or}
 
 abbrev pub upto : List ℕ → ℕ → ℕ
 upto l zero = 0

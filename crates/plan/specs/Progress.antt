@@ -7,10 +7,10 @@
 --   one_job_at form s k at   == a job, where k actions were read before
 --   formed form x          == what was read of a plan of that form, its jobs x
 --   ActionsRead, HeaderRead, JobRead, PlanRead == the answer is that of the definition, and the array has what was read
-use Rattle.std.specs.Prelude.{ℕ, suc, ◌+◌, ◌≡◌, true, false, List, [], ◌∷◌, length, eqb, ltb}
-use Rattle.plan.specs.declared.action.Progress.{Progress}
+use Rattle.std.specs.Prelude.{ℕ, suc, ◌+◌, ◌≡◌, true, false, List, [], ◌∷◌, length, eqb, ltb, Result, Ok, Err}
 use Rattle.plan.specs.declared.reader.Header.{Header}
 use Rattle.plan.specs.declared.reader.Body.{Body}
+use Rattle.plan.specs.declared.refusal.Refusal.{Refusal}
 use Rattle.plan.specs.Refusal.{number_of}
 use Rattle.plan.specs.Test.{either}
 use Rattle.plan.specs.Plan.{Action, Job, Plan, total}
@@ -30,9 +30,9 @@ abbrev pub with_jobs : List ℕ → (k j : ℕ) → List Job → List ℕ
 with_jobs plan k j [] = plan
 with_jobs plan k j (x ∷ l) = with_jobs (with_job plan k j x) (k + length x.actions) (suc j) l
 
-abbrev pub ActionsRead : ℕ → List ℕ → (at j k n : ℕ) (plan plan' : List ℕ) → Progress → Type 0
-ActionsRead form s at j k n plan plan' (Progress.Refused cause) = actions_at form s n at ≡ stop (number_of cause)
-ActionsRead form s at j k n plan plan' (Progress.At next) =
+abbrev pub ActionsRead : ℕ → List ℕ → (at j k n : ℕ) (plan plan' : List ℕ) → Result ℕ Refusal → Type 0
+ActionsRead form s at j k n plan plan' (Err cause) = actions_at form s n at ≡ stop (number_of cause)
+ActionsRead form s at j k n plan plan' (Ok next) =
     (l : List Action) × (actions_at form s n at ≡ step l next) × (plan' ≡ with_actions plan k j l)
 
 pub record Head : Type 0 where
@@ -56,22 +56,22 @@ unfolding header_at
 one_job_at form s k at =
     then (header_at s k at) (λ h at. then (actions_at form s h.size at) (λ l at. step (record { frame = h.weight; actions = l }) at))
 
-abbrev pub HeaderRead : List ℕ → (at j k : ℕ) (plan plan' : List ℕ) → Header → Type 0
-HeaderRead s at j k plan plan' (Header.Refused cause) = header_at s k at ≡ stop (number_of cause)
-HeaderRead s at j k plan plan' (Header.Is size next) =
-    (weight : ℕ) × (header_at s k at ≡ step (record { weight = weight; size = size }) next) × (plan' ≡ with_frame plan j weight)
+abbrev pub HeaderRead : List ℕ → (at j k : ℕ) (plan plan' : List ℕ) → Result Header Refusal → Type 0
+HeaderRead s at j k plan plan' (Err cause) = header_at s k at ≡ stop (number_of cause)
+HeaderRead s at j k plan plan' (Ok h) =
+    (weight : ℕ) × (header_at s k at ≡ step (record { weight = weight; size = h.size }) h.next) × (plan' ≡ with_frame plan j weight)
 
-abbrev pub JobRead : ℕ → List ℕ → (at j k : ℕ) (plan plan' : List ℕ) → Header → Type 0
-JobRead form s at j k plan plan' (Header.Refused cause) = one_job_at form s k at ≡ stop (number_of cause)
-JobRead form s at j k plan plan' (Header.Is end next) =
-    (x : Job) × (one_job_at form s k at ≡ step x next) × (end ≡ k + length x.actions) × (plan' ≡ with_job plan k j x)
+abbrev pub JobRead : ℕ → List ℕ → (at j k : ℕ) (plan plan' : List ℕ) → Result Header Refusal → Type 0
+JobRead form s at j k plan plan' (Err cause) = one_job_at form s k at ≡ stop (number_of cause)
+JobRead form s at j k plan plan' (Ok h) =
+    (x : Job) × (one_job_at form s k at ≡ step x h.next) × (h.size ≡ k + length x.actions) × (plan' ≡ with_job plan k j x)
 
 -- the jobs that were read of a plan of that form
 abbrev pub formed : ℕ → Step Plan → Step Read
 formed form x = then x (λ p at. step (record { form = form; plan = p }) at)
 
-abbrev pub PlanRead : Step Read → (plan plan' : List ℕ) → Body → Type 0
-PlanRead x plan plan' (Body.Refused cause) = x ≡ stop (number_of cause)
-PlanRead x plan plan' (Body.Is form jobs actions next) =
-    (p : Plan) × (x ≡ step (record { form = form; plan = p }) next) × (jobs ≡ length p) × (actions ≡ total p)
+abbrev pub PlanRead : Step Read → (plan plan' : List ℕ) → Result Body Refusal → Type 0
+PlanRead x plan plan' (Err cause) = x ≡ stop (number_of cause)
+PlanRead x plan plan' (Ok b) =
+    (p : Plan) × (x ≡ step (record { form = b.found.form; plan = p }) b.next) × (b.found.jobs ≡ length p) × (b.found.actions ≡ total p)
     × (plan' ≡ with_jobs plan 0 0 p)

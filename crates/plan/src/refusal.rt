@@ -4,7 +4,7 @@
 ghost use Rattle.std.specs.Prelude.{◌≡◌};
 ghost use Rattle.plan.specs.Refusal.{number_of};
 
-#[derive(Clone, Copy)]
+#[derive(Clone, Copy, Debug, PartialEq, Eq)]
 pub enum Refusal {
     RanOut,
     Form,
@@ -29,29 +29,31 @@ pub enum Refusal {
 }
 
 // The number that the documents give to a cause.
-pub fn number(r: Refusal) -> u8
-    ensures { result ≡ number_of r }
-{
-    match r {
-        Refusal::RanOut => 1,
-        Refusal::Form => 2,
-        Refusal::Range => 3,
-        Refusal::Spawn => 4,
-        Refusal::Join => 5,
-        Refusal::Fill => 6,
-        Refusal::Workers => 7,
-        Refusal::Choices => 8,
-        Refusal::Short => 9,
-        Refusal::Table => 10,
-        Refusal::Schedule => 11,
-        Refusal::Rule => 12,
-        Refusal::Name => 13,
-        Refusal::Round => 14,
-        Refusal::Cost => 15,
-        Refusal::Changes => 16,
-        Refusal::Pair => 17,
-        Refusal::Deadline => 18,
-        Refusal::Windows => 19,
-        Refusal::Clock => 20,
+impl From<Refusal> for u8 {
+    ghost from_gives = { λ r n. n ≡ number_of r };
+
+    fn from(r: Refusal) -> u8 {
+        match r {
+            Refusal::RanOut => 1,
+            Refusal::Form => 2,
+            Refusal::Range => 3,
+            Refusal::Spawn => 4,
+            Refusal::Join => 5,
+            Refusal::Fill => 6,
+            Refusal::Workers => 7,
+            Refusal::Choices => 8,
+            Refusal::Short => 9,
+            Refusal::Table => 10,
+            Refusal::Schedule => 11,
+            Refusal::Rule => 12,
+            Refusal::Name => 13,
+            Refusal::Round => 14,
+            Refusal::Cost => 15,
+            Refusal::Changes => 16,
+            Refusal::Pair => 17,
+            Refusal::Deadline => 18,
+            Refusal::Windows => 19,
+            Refusal::Clock => 20,
+        }
     }
 }

@@ -5,34 +5,23 @@ ghost use Rattle.plan.specs.Plan.{total};
 ghost use Rattle.plan.specs.Rules.{spawn_rules, join_rules};
 ghost use Rattle.plan.specs.Sheet.{child_at, target_at, LaidIn, SpawnedIn};
 ghost use Rattle.plan.specs.Entering.{Unentered, Entered};
-ghost use Rattle.plan.specs.Listed.{grown_to, Listed};
+ghost use Rattle.plan.specs.Listed.{Listed};
 ghost use Rattle.plan.specs.Kept.{SpawnAt, SpawnTold, AllTold, JoinAt, JoinsFrom, JoinTold, LastsIn, LastsTold};
 
 use crate::sheet::{
     Sheet, child_at, first_of, job_at, parent_of, set_spawner, spawn_of, target_at,
 };
-use numbers::wide16;
-
-// The next free place of a list: the same one where nothing came in. Compiled, it is no branch.
-fn grown(count: usize, more: bool) -> usize
-    requires { count < 2048 }
-    ensures { result ≡ grown_to count more }
-{
-    if more { count + 1 } else { count }
-}
 
 // Lists the actions that spawn, and says how many there are: whether an action spawns is hard to foresee, so that a loop over all
-// actions that branches on it would cost more than this list.
+// actions that branches on it would cost more than this list, whose next free place is worked out without a branch.
 fn note_spawns(actions: usize, plan: &Sheet, list: &mut [u16; 2048]) -> usize
-    requires { (actions ≤ 2048) × (length list.old ≡ 2048) }
+    requires { actions ≤ 2048 }
     ensures { Listed (child_at plan.now) actions result list.new }
 {
     let mut count = 0;
-    let mut k = 0;
-    while k < actions {
+    for k in 0..actions {
         list[count] = k as u16;
-        count = grown(count, 0 < child_at(plan, k));
-        k += 1;
+        count += usize::from(0 < child_at(plan, k));
     }
     count
 }
@@ -65,12 +54,10 @@ fn spawns_kept(jobs: usize, actions: usize, plan: &mut Sheet) -> bool
 {
     let mut list = [0u16; 2048];
     let count = note_spawns(actions, plan, &mut list);
-    let mut m = 0;
-    while m < count {
-        if !spawn_rule(jobs, wide16(list[m]), plan) {
+    for k in &list[..count] {
+        if !spawn_rule(jobs, usize::from(*k), plan) {
             return false;
         }
-        m += 1;
     }
     true
 }
@@ -80,12 +67,10 @@ fn all_spawned(jobs: usize, plan: &Sheet) -> bool
     requires { jobs ≤ 256 }
     ensures { AllTold jobs plan.now result }
 {
-    let mut c = 1;
-    while c < jobs {
+    for c in 1..jobs {
         if spawn_of(plan, c) == 0 {
             return false;
         }
-        c += 1;
     }
     true
 }
@@ -97,23 +82,18 @@ pub fn spawn_rules(jobs: usize, actions: usize, plan: &mut Sheet) -> bool
     ensures { LaidIn jobs actions plan.old
         ⇒ (λ p. (result ≡ spawn_rules p) × (T result → SpawnedIn jobs actions plan.new p)) }
 {
-    if !spawns_kept(jobs, actions, plan) {
-        return false;
-    }
-    all_spawned(jobs, plan)
+    spawns_kept(jobs, actions, plan) && all_spawned(jobs, plan)
 }
 
 // Lists the actions that send a join, and says how many there are.
 fn note_joins(actions: usize, plan: &Sheet, list: &mut [u16; 2048]) -> usize
-    requires { (actions ≤ 2048) × (length list.old ≡ 2048) }
+    requires { actions ≤ 2048 }
     ensures { Listed (target_at plan.now) actions result list.new }
 {
     let mut count = 0;
-    let mut k = 0;
-    while k < actions {
+    for k in 0..actions {
         list[count] = k as u16;
-        count = grown(count, 0 < target_at(plan, k));
-        k += 1;
+        count += usize::from(0 < target_at(plan, k));
     }
     count
 }
@@ -154,12 +134,10 @@ fn joins_kept(actions: usize, plan: &Sheet, entering: &mut [u8; 2048]) -> bool
 {
     let mut list = [0u16; 2048];
     let count = note_joins(actions, plan, &mut list);
-    let mut m = 0;
-    while m < count {
-        if !join_rule(wide16(list[m]), plan, entering) {
+    for k in &list[..count] {
+        if !join_rule(usize::from(*k), plan, entering) {
             return false;
         }
-        m += 1;
     }
     true
 }
@@ -169,12 +147,10 @@ fn lasts_send(jobs: usize, plan: &Sheet) -> bool
     requires { Some (LastsIn jobs plan.now) }
     ensures { LastsTold jobs plan.now result }
 {
-    let mut j = 1;
-    while j < jobs {
+    for j in 1..jobs {
         if target_at(plan, first_of(plan, j + 1) - 1) == 0 {
             return false;
         }
-        j += 1;
     }
     true
 }
@@ -186,8 +162,5 @@ pub fn join_rules(jobs: usize, actions: usize, plan: &Sheet, entering: &mut [u8;
     ensures { SpawnedIn jobs actions plan.now
         ⇒ (λ p. (result ≡ join_rules p) × (T result → Entered p entering.new × (length entering.new ≡ 2048))) }
 {
-    if !lasts_send(jobs, plan) {
-        return false;
-    }
-    joins_kept(actions, plan, entering)
+    lasts_send(jobs, plan) && joins_kept(actions, plan, entering)
 }

@@ -4,8 +4,6 @@ ghost use Rattle.std.specs.Prelude.{◌≡◌, ◌<◌};
 ghost use Rattle.plan.specs.Sheet.{child_at, target_at, frame_of, first_of, parent_of, spawn_of, job_at, cost_at};
 ghost use Rattle.plan.specs.Sheet.{with_action, with_frame, with_first, with_spawner};
 
-use numbers::{units16, wide16};
-
 // From 0 on the children of the 2,048 actions and from 2,048 on their targets, each a number plus 1, or 0 for none; from 4,096
 // on the 256 frames; from 4,352 on the 257 places of first actions, that of the end with them; from 4,609 on the parents; from
 // 4,865 on the positions of the jobs' spawns, plus 1, or 0 where none is noted; from 5,121 on the actions' jobs; from 7,169 on
@@ -33,7 +31,7 @@ pub fn child_at(plan: &Sheet, k: usize) -> usize
     requires { k < 2048 }
     ensures { (result ≡ child_at plan.now k) × (result < 65536) }
 {
-    wide16(plan[k])
+    usize::from(plan[k])
 }
 
 // The position in its job's parent that the action at place k sends its join to, plus 1, or 0.
@@ -41,7 +39,7 @@ pub fn target_at(plan: &Sheet, k: usize) -> usize
     requires { k < 2048 }
     ensures { (result ≡ target_at plan.now k) × (result < 65536) }
 {
-    wide16(plan[TARGET + k])
+    usize::from(plan[TARGET + k])
 }
 
 // The job of the action at place k.
@@ -49,7 +47,7 @@ pub fn job_at(plan: &Sheet, k: usize) -> usize
     requires { k < 2048 }
     ensures { (result ≡ job_at plan.now k) × (result < 65536) }
 {
-    wide16(plan[JOB + k])
+    usize::from(plan[JOB + k])
 }
 
 // The cost of the action at place k.
@@ -57,7 +55,7 @@ pub fn cost_at(plan: &Sheet, k: usize) -> usize
     requires { k < 2048 }
     ensures { (result ≡ cost_at plan.now k) × (result < 65536) }
 {
-    wide16(plan[COST + k])
+    usize::from(plan[COST + k])
 }
 
 // The weight of job j's frame.
@@ -65,7 +63,7 @@ pub fn frame_of(plan: &Sheet, j: usize) -> u32
     requires { j < 256 }
     ensures { (result ≡ frame_of plan.now j) × (result < 65536) }
 {
-    units16(plan[FRAME + j])
+    u32::from(plan[FRAME + j])
 }
 
 // The place of job j's first action, or that of the end where j is the number of jobs.
@@ -73,7 +71,7 @@ pub fn first_of(plan: &Sheet, j: usize) -> usize
     requires { j < 257 }
     ensures { (result ≡ first_of plan.now j) × (result < 65536) }
 {
-    wide16(plan[FIRST + j])
+    usize::from(plan[FIRST + j])
 }
 
 // The job that spawns job j, where that is noted.
@@ -81,7 +79,7 @@ pub fn parent_of(plan: &Sheet, j: usize) -> usize
     requires { j < 256 }
     ensures { (result ≡ parent_of plan.now j) × (result < 65536) }
 {
-    wide16(plan[PARENT + j])
+    usize::from(plan[PARENT + j])
 }
 
 // The position of job j's spawn in its parent, plus 1, or 0 where none is noted.
@@ -89,7 +87,7 @@ pub fn spawn_of(plan: &Sheet, j: usize) -> usize
     requires { j < 256 }
     ensures { (result ≡ spawn_of plan.now j) × (result < 65536) }
 {
-    wide16(plan[SPAWNED + j])
+    usize::from(plan[SPAWNED + j])
 }
 
 // The action at place k is one of job j, with its child and its target, each plus 1 or 0, and its cost.

@@ -1,12 +1,11 @@
 -- How many members of a list pass a test, also of its first members, and the numbers below a bound.
 use Prim.Native.Nat.{ℕ, zero, suc, ◌+◌, ◌≤◌, ◌<◌}
 use mathlib.Core.Path.{◌≡◌, refl, ap, sym, ◌∙◌}
-use mathlib.Core.Bool.{Bool, true, false, not}
+use mathlib.Core.Bool.{Bool, true, false}
 use mathlib.Core.List.{List, [], ◌∷◌, ◌++◌, map}
 use native.Mathlib.Omega.{arith}
 use native.Mathlib.Nat.{le_of_suc-le-suc, not-suc-le-zero, zero-add}
 use native.Mathlib.Decide.{dec_lt}
-use borrow.Author.Tests.{not-true, not-false}
 use lib.Dec.{T}
 use lib.ListN.{length, get_or, take, drop, length-append, take-append-drop, get_or-append}
 use lib.Seq.{take-suc, get_or_at}
@@ -19,11 +18,11 @@ dec_t true = yes tt
 dec_t false = no (λ x. x)
 
 -- what a branch on a negated test tells
-pub not_passed : (b : Bool) → not b ≡ true → T b → ⊥
-not_passed b e t = rw (not-true b e) at t
+pub not_passed : (b : Bool) → b ≡ false → T b → ⊥
+not_passed b e t = rw e at t
 
-pub passed : (b : Bool) → not b ≡ false → T b
-passed b e = of_true b (not-false b e)
+pub passed : (b : Bool) → b ≡ true → T b
+passed b e = of_true b e
 
 pub either_left : (a b : Bool) → T a → T (either a b)
 either_left true b t = tt

@@ -3,6 +3,7 @@ use Prim.Native.Nat.{ℕ, ◌≤◌}
 use mathlib.Core.Path.{◌≡◌}
 use mathlib.Core.List.{List}
 use native.Mathlib.Omega.{arith}
+use Rattle.std.specs.Prelude.{Result, Ok, Err}
 use Rattle.plan.specs.declared.reader.Found.{Found}
 use Rattle.plan.specs.declared.refusal.Refusal.{Refusal}
 use Rattle.plan.specs.Refusal.{refused, number_of}
@@ -12,11 +13,11 @@ use Rattle.plan.specs.Sheet.{RuledIn, PlanIn}
 use Rattle.plan.specs.Found.{ReadPlan, ReadInto}
 use Rattle.plan.proofs.Laws.Valid.{jobs_range, total_range}
 
-module _ (s : List ℕ) (r : Found) (plan entering : List ℕ) (h : ReadInto s r plan entering) where
-  pub found_plan : (form jobs actions : ℕ) → r ≡ Found.Plan form jobs actions → ReadPlan s form jobs actions plan entering
-  found_plan form jobs actions e = rw e at h
+module _ (s : List ℕ) (r : Result Found Refusal) (plan entering : List ℕ) (h : ReadInto s r plan entering) where
+  pub found_plan : (found : Found) → r ≡ Ok found → ReadPlan s found.form found.jobs found.actions plan entering
+  found_plan found e = rw e at h
 
-  pub found_none : (cause : Refusal) → r ≡ Found.Refused cause → read_plan s ≡ refused (number_of cause)
+  pub found_none : (cause : Refusal) → r ≡ Err cause → read_plan s ≡ refused (number_of cause)
   found_none cause e = rw e at h
 
 -- an array that holds a plan has it, parents left out

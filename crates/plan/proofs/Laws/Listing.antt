@@ -5,12 +5,14 @@ use mathlib.Core.Logic.{◌≢◌}
 use mathlib.Core.List.{List}
 use native.Mathlib.Omega.{arith}
 use native.Mathlib.Decide.{dec_lt}
-use native.Mathlib.Nat.{not-suc-le-zero}
+use native.Mathlib.Nat.{add-zero, not-suc-le-zero}
 use native.Mathlib.Numerals.{add-one}
 use lib.Dec.{ltb, lt→ltb, ltb→lt}
-use lib.ListN.{length, get_or, set, length-set}
+use lib.ListN.{length, get_or, take, set, length-set}
 use lib.Seq.{get_or-set_same, get_or-set_other}
-use Rattle.plan.specs.Listed.{grown_to, upto, Listed}
+use Rattle.std.specs.Int.{from_bool}
+use Rattle.std.proofs.lemmas.List.{get_or-take}
+use Rattle.plan.specs.Listed.{upto, Listed}
 use Rattle.plan.proofs.Laws.Lists.{true_of, false_of}
 
 -- nothing is listed
@@ -102,12 +104,12 @@ module _ (f : ℕ → ℕ) (k count : ℕ) (l : List ℕ) (g : Listed f k count 
           let q : m ≡ count = omega arith in
           g.rest i (omega (arith, ap (upto new) q, old_upto count (omega arith))) (omega (arith, ap (λ n. get_or new n 0) q, new_at))
 
-  pub listed_more : (s r : ℕ) → s ≡ f k → r ≡ grown_to count (ltb 0 s) → Listed f (k + 1) r (set l count k)
-  listed_more s r e is = rw (is, add-one k) (go (dec_lt 0 s))
+  pub listed_more : (s more : ℕ) → s ≡ f k → more ≡ from_bool (ltb 0 s) → Listed f (k + 1) (count + more) (set l count k)
+  listed_more s more e is = rw (is, add-one k) (go (dec_lt 0 s))
     where
-      go : Dec (0 < s) → Listed f (suc k) (grown_to count (ltb 0 s)) (set l count k)
+      go : Dec (0 < s) → Listed f (suc k) (count + from_bool (ltb 0 s)) (set l count k)
       go (yes b) = rw (true_of (ltb 0 s) (lt→ltb 0 s b), add-one count) (listed_one (omega arith))
-      go (no b) = rw (false_of (ltb 0 s) (λ t. b (ltb→lt 0 s t))) (listed_none (omega arith))
+      go (no b) = rw (false_of (ltb 0 s) (λ t. b (ltb→lt 0 s t)), add-zero count) (listed_none (omega arith))
 
 -- what each place of a row hands on to the next comes from the row's first place to its end
 row : (P : ℕ → Type 0) (d a b : ℕ) → a + d ≡ b → ((i : ℕ) → a ≤ i → i < b → P i → P (suc i)) → P a → P b
@@ -133,3 +135,8 @@ module _ (f : ℕ → ℕ) (n count : ℕ) (l : List ℕ) (g : Listed f n count 
 -- the place after a listed one
 pub upto_more : (l : List ℕ) (m k : ℕ) → k ≡ get_or l m 0 → suc k ≡ upto l (m + 1)
 upto_more l m k e = ap suc e ∙ ap (upto l) (sym (add-one m))
+
+-- the first places of a list alone
+pub upto_take : (l : List ℕ) (n m : ℕ) → m ≤ n → upto (take n l) m ≡ upto l m
+upto_take l n zero h = refl
+upto_take l n (suc m) h = ap suc (get_or-take n l m 0 h)

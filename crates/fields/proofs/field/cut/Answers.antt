@@ -10,17 +10,17 @@ use Rattle.fields.proofs.field.cut.Goals as goal
 pub returns-then-s-i : goal.returns-then-s-i
 returns-then-s-i c = let a = c.args in sym (field_beyond a.s.now a.width a.at (omega arith))
 
-pub returns-in_default : goal.returns-in_default
-returns-in_default c =
+pub returns-in_err-value : goal.returns-in_err-value
+returns-in_err-value c =
     let a = c.args in
-    let e = c.cut_in.ensures (drop (a.at / 8) a.s.now) c.window_at.ensures in
-    sym (field_at_lem a.s.now a.width a.at (omega arith) ∙ rw (← e, c.in_default.is))
+    let e = c.in_err-value.ensures (drop (a.at / 8) a.s.now) c.window_at.ensures in
+    rw c.from_residual.ensures (sym (field_at_lem a.s.now a.width a.at (omega arith) ∙ rw (← e)))
 
 pub returns : goal.returns
 returns c =
     let a = c.args in
-    let e = c.cut_in.ensures (drop (a.at / 8) a.s.now) c.window_at.ensures in
-    sym (field_at_lem a.s.now a.width a.at (omega arith) ∙ rw (← e, c.in-Cut.is))
+    let e = c.in_ok-value.ensures (drop (a.at / 8) a.s.now) c.window_at.ensures in
+    sym (field_at_lem a.s.now a.width a.at (omega arith) ∙ rw (← e))
 
 pub overflow_add-result : goal.overflow_add-result
 overflow_add-result c =

@@ -7,7 +7,7 @@ use Rattle.fields.proofs.field.window_at.Goals as goal
 pub returns-then-i-s : goal.returns-then-i-s
 returns-then-i-s c =
     let a = c.args in
-    bytes_window a.s.now a.i _ _ _ _ _ _ c.long8.ensures c.long8-then-i-s.ensures c.long8-then-i-s-2.ensures c.long8-then-i-s-3.ensures c.joined.ensures (omega arith)
+    bytes_window a.s.now a.i _ _ _ _ _ _ (c.from.ensures, omega arith) (c.from-then-i-s.ensures, omega arith) (c.from-then-i-s-2.ensures, omega arith) (c.from-then-i-s-3.ensures, omega arith) c.joined.ensures (omega arith)
 
 pub returns : goal.returns
 returns c =

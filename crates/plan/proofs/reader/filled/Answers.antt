@@ -15,7 +15,7 @@ use Rattle.fields.specs.Field.{step, field_at, step_of, bits, number}
 use Rattle.plan.specs.Reader.{fills}
 use Rattle.fields.proofs.Laws.Bits.{bits_length, number_bits_of, field_read, field_stop}
 use Rattle.plan.proofs.reader.filled.Goals as goal
-use Rattle.plan.proofs.reader.filled.Goals.{In-Cut}
+use Rattle.plan.proofs.reader.filled.Goals.{In-Some}
 
 both_false : (a : Bool) → both a false ≡ false
 both_false true = refl
@@ -51,12 +51,12 @@ returns-in_default c =
     absurd (omega (arith, p, (field_stop a.s.now ((8 - a.at % 8) % 8) a.at 1 (sym c.cut.ensures ∙ ap step_of c.in_default.is)).1))
 
 is_filled :
-    (c : In-Cut) → fills c.args.s.now c.args.at ≡ both (eqb (c.in-Cut.next / 8) (length c.args.s.now)) (eqb c.in-Cut.value 0)
+    (c : In-Some) → fills c.args.s.now c.args.at ≡ both (eqb (c.in-Some.zeros.next / 8) (length c.args.s.now)) (eqb c.in-Some.zeros.value 0)
 is_filled c =
-    fills_is _ _ ((8 - c.args.at % 8) % 8) _ _ (sym c.cut.ensures ∙ ap step_of c.in-Cut.is) (omega arith) (omega arith)
+    fills_is _ _ ((8 - c.args.at % 8) % 8) _ _ (sym c.cut.ensures ∙ ap step_of c.in-Some.is) (omega arith) (omega arith)
 
-pub returns-then-value-ne0 : goal.returns-then-value-ne0
-returns-then-value-ne0 c = rw (is_filled (goal.at.returns-then-value-ne0 c).In-Cut, ne_eqb _ 0 c.if-value-ne0.true, both_false)
+pub returns-then-zeros-eq0 : goal.returns-then-zeros-eq0
+returns-then-zeros-eq0 c = rw (is_filled (goal.at.returns-then-zeros-eq0 c).In-Some, eq-eqb _ 0 c.if-zeros-eq0.true, both_true)
 
-pub returns : goal.returns
-returns c = rw (is_filled (goal.at.returns c).In-Cut, eq-eqb _ 0 c.if-value-ne0.false, both_true)
+pub returns-else-zeros-eq0 : goal.returns-else-zeros-eq0
+returns-else-zeros-eq0 c = rw (is_filled (goal.at.returns-else-zeros-eq0 c).In-Some, ne_eqb _ 0 c.if-zeros-eq0.false, both_false)

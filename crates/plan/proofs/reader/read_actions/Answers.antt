@@ -1,5 +1,5 @@
 -- `reader::read_actions` meets its contract. The loop's invariant: the actions l are read and written, and what `actions_at` gives
--- is l and then what it gives of the rest. The measure is how many are left.
+-- is l and then what it gives of the rest.
 use Prim.Native.Nat.{ℕ, suc, ◌+◌, ◌-◌, ◌<◌}
 use native.Mathlib.Nat.{add-zero, sub-zero}
 use native.Mathlib.Numerals.{add-one}
@@ -7,7 +7,8 @@ use native.Mathlib.Omega.{arith}
 use mathlib.Core.Path.{◌≡◌, refl, sym, ◌∙◌}
 use mathlib.Core.List.{List, [], ◌∷◌, ◌++◌, append-nil}
 use lib.ListN.{length, length-append}
-use Rattle.plan.specs.declared.action.Progress.{Progress}
+use Rattle.std.specs.Prelude.{Ok}
+use Rattle.std.proofs.lemmas.Result.{err_from_is_err_and}
 use Rattle.plan.specs.Plan.{Action}
 use Rattle.fields.specs.Field.{Step, stop, step}
 use Rattle.plan.specs.Reader.{action_at, actions_at}
@@ -39,7 +40,7 @@ module _ (form : ℕ) (s : List ℕ) (at j from count : ℕ) (plan₀ plan : Lis
   stopped : (n : ℕ) → action_at form s place ≡ stop n → actions_at form s count at ≡ stop n
   stopped n e = h.rest ∙ rw left (actions_out form s h.l (count - suc (length h.l)) place n e)
 
-  went_on : (plan' : List ℕ) (next : ℕ) → ActionRead form s place j k plan plan' (Progress.At next) → Begun form s at j from count plan₀ plan' next (suc k)
+  went_on : (plan' : List ℕ) (next : ℕ) → ActionRead form s place j k plan plan' (Ok next) → Begun form s at j from count plan₀ plan' next (suc k)
   went_on plan' next (x, e, w) =
       let n : length (h.l ++ (x ∷ [])) ≡ suc (length h.l) = omega (arith, length-append h.l (x ∷ [])) in
       record {
@@ -60,20 +61,14 @@ read_action-requires c =
     let p = c.requires in
     (omega (arith, h.near, h.here, p.0, c.loop-k-test.true), p.1, omega (arith, p.2, c.loop-k-test.true))
 
-pub returns-in-Refused : goal.returns-in-Refused
-returns-in-Refused c =
-    stopped _ _ _ _ _ _ _ _ _ _ c.loop-k.invariant c.loop-k-test.true _ (rw c.in-Refused.is at c.read_action.ensures)
-
-pub overflow_add-k : goal.overflow_add-k
-overflow_add-k c =
-    omega (arith, c.requires.2, c.loop-k-test.true)
-
-pub loop-k-smaller : goal.loop-k-smaller
-loop-k-smaller c = omega arith
+pub returns-in_err-place : goal.returns-in_err-place
+returns-in_err-place c =
+    let p = err_from_is_err_and c.from_residual.result c.from_residual.ensures.1 in
+    rw (p.1, p.2) (stopped _ _ _ _ _ _ _ _ _ _ c.loop-k.invariant c.loop-k-test.true _ c.in_err-place.ensures)
 
 pub loop-k-preserved : goal.loop-k-preserved
 loop-k-preserved c =
-    rw add-one (went_on _ _ _ _ _ _ _ _ _ _ c.loop-k.invariant c.loop-k-test.true _ _ (rw c.in-At.is at c.read_action.ensures))
+    rw add-one (went_on _ _ _ _ _ _ _ _ _ _ c.loop-k.invariant c.loop-k-test.true _ _ c.in_ok-place.ensures)
 
 pub returns : goal.returns
 unfolding actions_at

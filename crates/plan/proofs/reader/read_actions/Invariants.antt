@@ -1,5 +1,5 @@
 -- `reader::read_actions` meets its contract. The loop's invariant: the actions l are read and written, and what `actions_at` gives
--- is l and then what it gives of the rest. The measure is how many are left.
+-- is l and then what it gives of the rest.
 use Prim.Native.Nat.{ℕ, ◌+◌, ◌*◌, ◌-◌, ◌≤◌}
 use mathlib.Core.Path.{◌≡◌}
 use mathlib.Core.List.{List}
@@ -20,6 +20,3 @@ pub record Begun (form : ℕ) (s : List ℕ) (at j from count : ℕ) (plan₀ pl
 
 abbrev pub invariant-loop-k : goal.invariant-loop-k
 invariant-loop-k l = Begun l.form l.s l.at l.j l.from l.count l.initial.plan l.plan l.place l.k
-
-abbrev pub decreases-loop-k : goal.decreases-loop-k
-decreases-loop-k l = l.end - l.k

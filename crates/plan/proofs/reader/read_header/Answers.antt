@@ -41,35 +41,35 @@ returns-in_default c = rw (← c.cut.ensures, c.in_default.is)
 
 pub returns-then-weight-eq0 : goal.returns-then-weight-eq0
 unfolding header_at
-returns-then-weight-eq0 c = rw (← c.cut.ensures, c.in-Cut.is, c.if-weight-eq0.true)
+returns-then-weight-eq0 c = rw (← c.cut.ensures, c.in-Some.is, c.if-weight-eq0.true)
 
 pub cut-requires-2 : goal.cut-requires-2
 cut-requires-2 c =
     let p = c.requires in
-    (omega (arith, (field_read _ 16 _ _ _ (sym c.in-Cut.ensures)).1, p.0), omega arith)
+    (omega (arith, (field_read _ 16 _ _ _ (sym c.in-Some.ensures)).1, p.0), omega arith)
 
 -- the way on after a weight that is not 0
 went_on :
-    (c : Else-weight-eq0) → header_at c.args.s.now c.args.earlier c.args.at ≡ size_at c.args.s.now c.args.earlier c.in-Cut.weight c.in-Cut.after
-went_on c = heavy _ _ _ _ _ (sym c.in-Cut.ensures) c.if-weight-eq0.false
+    (c : Else-weight-eq0) → header_at c.args.s.now c.args.earlier c.args.at ≡ size_at c.args.s.now c.args.earlier c.in-Some.weight.value c.in-Some.weight.next
+went_on c = heavy _ _ _ _ _ (sym c.in-Some.ensures) c.if-weight-eq0.false
 
 pub returns-in_default-cut : goal.returns-in_default-cut
 returns-in_default-cut c = rw (went_on (goal.at.returns-in_default-cut c).Else-weight-eq0, ← c.cut-2.ensures, c.in_default-cut.is)
 
 pub returns-then-size-eq0 : goal.returns-then-size-eq0
 returns-then-size-eq0 c =
-    rw (went_on (goal.at.returns-then-size-eq0 c).Else-weight-eq0, ← c.cut-2.ensures, c.in-Cut-cut.is, c.if-size-eq0.true)
+    rw (went_on (goal.at.returns-then-size-eq0 c).Else-weight-eq0, ← c.cut-2.ensures, c.in-Some-cut.is, c.if-size-eq0.true)
 
 pub returns-then-earlier-size-gt2048 : goal.returns-then-earlier-size-gt2048
 returns-then-earlier-size-gt2048 c =
-    went_on (goal.at.returns-then-earlier-size-gt2048 c).Else-weight-eq0 ∙ over _ _ _ _ _ _ (sym c.in-Cut-cut.ensures) c.if-earlier-size-gt2048.true
+    went_on (goal.at.returns-then-earlier-size-gt2048 c).Else-weight-eq0 ∙ over _ _ _ _ _ _ (sym c.in-Some-cut.ensures) c.if-earlier-size-gt2048.true
 
 pub overflow_cast-weight : goal.overflow_cast-weight
-overflow_cast-weight c = omega (arith, (field_read _ 16 _ _ _ (sym c.in-Cut.ensures)).0)
+overflow_cast-weight c = omega (arith, (field_read _ 16 _ _ _ (sym c.in-Some.ensures)).0)
 
 pub returns : goal.returns
 returns c = (
   _,
-  went_on (goal.at.returns c).Else-weight-eq0 ∙ within _ _ _ _ _ _ (sym c.in-Cut-cut.ensures) c.if-size-eq0.false c.if-earlier-size-gt2048.false,
+  went_on (goal.at.returns c).Else-weight-eq0 ∙ within _ _ _ _ _ _ (sym c.in-Some-cut.ensures) c.if-size-eq0.false c.if-earlier-size-gt2048.false,
   c.set_frame.ensures,
 )

@@ -1,11 +1,13 @@
 -- `reader::read_jobs` meets its contract. The loop's invariant: the jobs p are read and written, and what `jobs_at` gives is p and
--- then what it gives of the rest. The measure is how many jobs are left.
+-- then what it gives of the rest.
 use Prim.Native.Nat.{ℕ, suc, ◌+◌, ◌-◌, ◌<◌}
 use native.Mathlib.Nat.{sub-zero}
 use native.Mathlib.Omega.{arith}
 use mathlib.Core.Path.{◌≡◌, refl, ap, sym, ◌∙◌}
 use mathlib.Core.List.{List, [], ◌∷◌, ◌++◌, append-nil}
 use lib.ListN.{length, length-append}
+use Rattle.std.specs.Prelude.{Ok}
+use Rattle.std.proofs.lemmas.Result.{err_from_is_err_and}
 use Rattle.plan.specs.declared.reader.Header.{Header}
 use Rattle.plan.specs.Plan.{Job, total}
 use Rattle.fields.specs.Field.{Step, stop, step}
@@ -24,7 +26,6 @@ begin form s at jobs plan =
       rest = rw sub-zero (go (jobs_at form s jobs 0 at));
       count = refl;
       all = refl;
-      few = omega arith;
       low = omega arith;
       near = omega arith;
       written = refl;
@@ -41,17 +42,16 @@ module _ (form : ℕ) (s : List ℕ) (at jobs : ℕ) (plan₀ plan : List ℕ) (
   stopped : (m : ℕ) → one_job_at form s actions place ≡ stop m → jobs_at form s jobs 0 at ≡ stop m
   stopped m e = h.rest ∙ rw here (jobs_stop form s h.p m (jobs - (j + 1)) actions place e)
 
-  went_on : (plan' : List ℕ) (end next : ℕ) → JobRead form s place j actions plan plan' (Header.Is end next) → Begun form s at jobs plan₀ plan' next end (j + 1)
-  went_on plan' end next (x, e, f, w) =
-      let r = job_next form s actions place x next e in
+  went_on : (plan' : List ℕ) (job : Header) → JobRead form s place j actions plan plan' (Ok job) → Begun form s at jobs plan₀ plan' job.next job.size (j + 1)
+  went_on plan' job (x, e, f, w) =
+      let r = job_next form s actions place x job.next e in
       let a : 0 + total h.p ≡ actions = omega (arith, h.all) in
       let b : 0 + length h.p ≡ j = omega (arith, h.count) in
       record {
         p = h.p ++ (x ∷ []);
-        rest = h.rest ∙ rw (here, f) (jobs_more form s h.p x (jobs - (j + 1)) actions place next e);
+        rest = h.rest ∙ rw (here, f) (jobs_more form s h.p x (jobs - (j + 1)) actions place job.next e);
         count = omega (arith, h.count, length-append h.p (x ∷ []));
         all = omega (arith, h.all, total_append h.p (x ∷ []));
-        few = omega (arith, t);
         low = omega (arith, r.1);
         near = omega (arith, r.2, h.near);
         written = w ∙ ap (λ q. with_job q actions j x) h.written ∙ sym (jobs_one_more plan₀ 0 0 h.p x ∙ rw (a, b));
@@ -66,28 +66,20 @@ read_job-requires c =
     let p = c.requires in
     (omega (arith, h.near, h.low, p.0, p.1, c.loop-j-test.true), omega (arith, p.1, c.loop-j-test.true), h.low)
 
-pub returns-in-Refused : goal.returns-in-Refused
-returns-in-Refused c =
-    ap (formed _) (stopped _ _ _ _ _ _ _ _ _ c.loop-j.invariant c.loop-j-test.true _ (rw c.in-Refused.is at c.read_job.ensures))
-
-pub overflow_add-j : goal.overflow_add-j
-overflow_add-j c =
-    omega (arith, c.loop-j-test.true, c.requires.1)
-
-pub loop-j-smaller : goal.loop-j-smaller
-loop-j-smaller c =
-    omega (arith, c.loop-j-test.true)
+pub returns-in_err-job : goal.returns-in_err-job
+returns-in_err-job c =
+    let p = err_from_is_err_and c.from_residual.result c.from_residual.ensures.1 in
+    rw (p.1, p.2) (ap (formed _) (stopped _ _ _ _ _ _ _ _ _ c.loop-j.invariant c.loop-j-test.true _ c.in_err-job.ensures))
 
 pub loop-j-preserved : goal.loop-j-preserved
-loop-j-preserved c =
-    went_on _ _ _ _ _ _ _ _ _ c.loop-j.invariant c.loop-j-test.true _ _ _ (rw c.in-Is.is at c.read_job.ensures)
+loop-j-preserved c = went_on _ _ _ _ _ _ _ _ _ c.loop-j.invariant c.loop-j-test.true _ _ c.in_ok-job.ensures
 
 pub returns : goal.returns
 unfolding jobs_at
 returns c =
     let h = c.loop-j.invariant in
-    let n : c.loop-j.j ≡ c.args.jobs = omega (arith, c.loop-j-test.false, h.few) in
+    let n : c.loop-j.j ≡ c.args.jobs = omega (arith, c.loop-j-test.false) in
     let m : c.args.jobs - c.loop-j.j ≡ 0 = omega (arith, n) in
     let a = c.args in
-    let e : jobs_at a.form a.s.now a.jobs 0 a.at ≡ step h.p c.loop-j.place = h.rest ∙ rw (m, append-nil) in
+    let e : jobs_at a.form a.s.now a.jobs 0 a.at ≡ step h.p c.loop-j.next = h.rest ∙ rw (m, append-nil) in
     (h.p, ap (formed a.form) e, sym n ∙ h.count, h.all, h.written)

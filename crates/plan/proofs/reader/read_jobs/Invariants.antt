@@ -1,5 +1,5 @@
 -- `reader::read_jobs` meets its contract. The loop's invariant: the jobs p are read and written, and what `jobs_at` gives is p and
--- then what it gives of the rest. The measure is how many jobs are left.
+-- then what it gives of the rest.
 use Prim.Native.Nat.{ℕ, ◌+◌, ◌*◌, ◌-◌, ◌≤◌}
 use mathlib.Core.Path.{◌≡◌}
 use mathlib.Core.List.{List}
@@ -15,13 +15,9 @@ pub record Begun (form : ℕ) (s : List ℕ) (at jobs : ℕ) (plan₀ plan : Lis
   pub rest : jobs_at form s jobs 0 at ≡ after p (jobs_at form s (jobs - j) actions place)
   pub count : j ≡ length p
   pub all : actions ≡ total p
-  pub few : j ≤ jobs
   pub low : actions ≤ 2048
   pub near : place ≤ at + 24 * j + 22 * actions
   pub written : plan ≡ with_jobs plan₀ 0 0 p
 
 abbrev pub invariant-loop-j : goal.invariant-loop-j
-invariant-loop-j l = Begun l.form l.s l.at l.jobs l.initial.plan l.plan l.place l.actions l.j
-
-abbrev pub decreases-loop-j : goal.decreases-loop-j
-decreases-loop-j l = l.jobs - l.j
+invariant-loop-j l = Begun l.form l.s l.at l.jobs l.initial.plan l.plan l.next l.actions l.j

@@ -1,5 +1,4 @@
 -- `plan::rules::lasts_send` meets its contract. The loop's invariant: the last action of every job passed but 0 sends a join.
--- The measure is what is left of the jobs.
 use Prim.Native.Nat.{◌+◌, ◌-◌}
 use mathlib.Core.Path.{◌≡◌, ap, sym, ◌∙◌}
 use native.Mathlib.Omega.{arith}
@@ -11,10 +10,7 @@ use Rattle.plan.proofs.rules.lasts_send.Goals as goal
 use Rattle.plan.proofs.rules.lasts_send.Goals.{After-target_at}
 
 pub loop-j-init : goal.loop-j-init
-loop-j-init c = (omega arith, λ n b g e. omega arith)
-
-pub overflow_add-j : goal.overflow_add-j
-overflow_add-j c = let x = c.requires in omega (arith, jobs_in_range x.0 x.1.laid.range, x.1.count)
+loop-j-init c n b g e = omega arith
 
 pub first_of-requires : goal.first_of-requires
 first_of-requires c = let x = c.requires in omega (arith, jobs_in_range x.0 x.1.laid.range, x.1.count)
@@ -37,19 +33,13 @@ pub returns-then-target_at-eq0 : goal.returns-then-target_at-eq0
 returns-then-target_at-eq0 c =
     record {
       kept = λ x. absurd x;
-      broken = λ _. (c.loop-j.j, c.loop-j.invariant.0, c.loop-j-test.true, sym (sent (goal.at.returns-then-target_at-eq0 c).After-target_at) ∙ c.if-target_at-eq0.true);
+      broken = λ _. (c.loop-j.j, c.loop-j.auto.j, c.loop-j-test.true, sym (sent (goal.at.returns-then-target_at-eq0 c).After-target_at) ∙ c.if-target_at-eq0.true);
     }
-
-pub overflow_add-j-in-loop-j : goal.overflow_add-j-in-loop-j
-overflow_add-j-in-loop-j c = omega arith
-
-pub loop-j-smaller : goal.loop-j-smaller
-loop-j-smaller c = omega arith
 
 pub loop-j-preserved : goal.loop-j-preserved
 loop-j-preserved c =
-    (omega arith, below_more _ _ c.loop-j.invariant.1 (λ _ e. c.if-target_at-eq0.false (sent (goal.at.loop-j-preserved c).After-target_at ∙ e)))
+    below_more _ _ c.loop-j.invariant (λ _ e. c.if-target_at-eq0.false (sent (goal.at.loop-j-preserved c).After-target_at ∙ e))
 
 pub returns : goal.returns
 returns c =
-    record { kept = λ _ n g b. c.loop-j.invariant.1 n (omega arith) g; broken = λ f. absurd (f tt) }
+    record { kept = λ _ n g b. c.loop-j.invariant n (omega arith) g; broken = λ f. absurd (f tt) }

@@ -6,19 +6,17 @@ use Rattle.plan.proofs.Laws.Lists.{false_of}
 use Rattle.plan.proofs.Laws.Counts.{passed, not_passed}
 use Rattle.plan.proofs.Laws.Spawning.{jobs_in_range}
 use Rattle.plan.proofs.Laws.Recording.{spawns_told}
-use mathlib.Core.Path.{ap}
-use mathlib.Core.Bool.{not}
 use Rattle.plan.proofs.rules.spawn_rules.Goals as goal
 
-pub returns-then-not-spawns_kept : goal.returns-then-not-spawns_kept
-returns-then-not-spawns_kept c = λ p g.
+pub returns-else-spawns_kept : goal.returns-else-spawns_kept
+returns-else-spawns_kept c = λ p g.
     let k = c.spawns_kept in
-    (sym (false_of (spawn_rules p) ((k.ensures p g).broken (not_passed k.result (ap not c.if-not-spawns_kept.true)))), λ x. absurd x)
+    rw c.if-spawns_kept.false (sym (false_of (spawn_rules p) ((k.ensures p g).broken (not_passed k.result c.if-spawns_kept.false))), λ x. absurd x)
 
 pub all_spawned-requires : goal.all_spawned-requires
 all_spawned-requires c = let x = c.requires in omega (arith, x.1.count, jobs_in_range x.0 x.1.laid.range)
 
-pub returns : goal.returns
-returns c = λ p g.
+pub returns-then-spawns_kept : goal.returns-then-spawns_kept
+returns-then-spawns_kept c = λ p g.
     let k = c.spawns_kept in
-    spawns_told p _ _ _ g.count g.all ((k.ensures p g).kept (passed k.result (ap not c.if-not-spawns_kept.false))) _ c.all_spawned.ensures
+    spawns_told p _ _ _ g.count g.all ((k.ensures p g).kept (passed k.result c.if-spawns_kept.true)) _ c.all_spawned.ensures

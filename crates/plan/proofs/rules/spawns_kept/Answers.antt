@@ -1,6 +1,8 @@
 -- `plan::rules::spawns_kept` meets its contract. The loop's invariant: the array holds what the actions up to the last
--- listed one passed spawn. The measure is what is left of the list.
-use mathlib.Core.Path.{◌≡◌, refl}
+-- listed one passed spawn.
+use Prim.Native.Nat.{◌≤◌, ◌<◌}
+use mathlib.Core.Path.{◌≡◌, ◌∙◌}
+use Rattle.std.proofs.lemmas.List.{get_or-take, length-take}
 use native.Mathlib.Omega.{arith}
 use Rattle.plan.specs.Plan.{Plan}
 use Rattle.plan.specs.Sheet.{LaidIn}
@@ -8,60 +10,58 @@ use Rattle.plan.specs.Kept.{SpawnAt}
 use Rattle.plan.proofs.Laws.Lists.{told_yes, told_no}
 use Rattle.plan.proofs.Laws.Counts.{passed, not_passed}
 use Rattle.plan.proofs.Laws.Spawning.{total_in_range}
-use Rattle.plan.proofs.Laws.Listing.{upto_more}
+use Rattle.plan.proofs.Laws.Listing.{upto_more, upto_take}
 use Rattle.plan.proofs.Laws.Recording.{recorded_start, spawn_next, spawns_all}
-use mathlib.Core.Path.{ap}
-use mathlib.Core.Bool.{not}
 use Rattle.plan.proofs.rules.spawns_kept.Goals as goal
-use Rattle.plan.proofs.rules.spawns_kept.Goals.{After-wide16}
+use Rattle.plan.proofs.rules.spawns_kept.Goals.{Start, After-from}
+
+-- there are as many actions as places
+few : (c : Start) → c.args.actions ≤ 2048
+few c = let x = c.requires in omega (arith, x.1.all, total_in_range x.0 x.1.laid.range)
 
 pub note_spawns-count-requires : goal.note_spawns-count-requires
-note_spawns-count-requires c =
-    let x = c.requires in (omega (arith, x.1.all, total_in_range x.0 x.1.laid.range), refl)
+note_spawns-count-requires c = few (goal.at.note_spawns-count-requires c).Start
 
-pub loop-m-init : goal.loop-m-init
-loop-m-init c =
-    let x = c.requires in
-    (omega (arith, x.1.all, total_in_range x.0 x.1.laid.range), omega arith, λ p g. recorded_start _ _ _ p g)
+pub slice_bounds-list-end : goal.slice_bounds-list-end
+slice_bounds-list-end c = omega (arith, c.note_spawns-count.ensures.few, c.note_spawns-count.ensures.long, few (goal.at.slice_bounds-list-end c).Start)
 
-pub offset_bounds-list-m : goal.offset_bounds-list-m
-offset_bounds-list-m c = omega (arith, c.note_spawns-count.ensures.few)
+pub slice_bounds-k-items-end : goal.slice_bounds-k-items-end
+slice_bounds-k-items-end c =
+    let l = c.note_spawns-count in
+    omega (arith, length-take l.result l.new.list, l.ensures.few, l.ensures.long, few (goal.at.slice_bounds-k-items-end c).Start)
 
-pub bounds-list-m : goal.bounds-list-m
-bounds-list-m c = omega (arith, c.note_spawns-count.ensures.few)
+pub loop-k-init : goal.loop-k-init
+loop-k-init c p g = recorded_start _ _ _ p g
 
-pub wide16-requires : goal.wide16-requires
-wide16-requires c = tt
+-- the place is one of those listed
+listed : (c : After-from) → c.loop-k.k-index < c.note_spawns-count.result
+listed c =
+    let l = c.note_spawns-count in
+    omega (arith, c.loop-k-test.true, length-take l.result l.new.list)
 
 -- the next action that spawns is reached
-next : (c : After-wide16) (p : Plan)
+next : (c : After-from) (p : Plan)
     → let a = c.args in
-    LaidIn a.jobs a.actions a.plan.now p → SpawnAt a.jobs c.wide16.result c.loop-m.plan p
+    LaidIn a.jobs a.actions a.plan.now p → SpawnAt a.jobs c.from.result c.loop-k.plan p
 next c p g =
-    spawn_next _ _ _ _ _ p g c.note_spawns-count.ensures _ _ _ c.loop-m-test.true c.wide16.ensures.0 (c.loop-m.invariant.2 p g)
+    let l = c.note_spawns-count in
+    spawn_next _ _ _ _ _ p g l.ensures _ _ _ (listed c) (c.from.ensures ∙ get_or-take l.result l.new.list c.loop-k.k-index 0 (listed c))
+    (rw (upto_take l.new.list l.result c.loop-k.k-index (omega (arith, listed c))) at (c.loop-k.invariant p g))
 
 pub spawn_rule-requires : goal.spawn_rule-requires
-spawn_rule-requires c = let x = c.requires in (x.0, next (goal.at.spawn_rule-requires c).After-wide16 x.0 x.1)
+spawn_rule-requires c = let x = c.requires in (x.0, next (goal.at.spawn_rule-requires c).After-from x.0 x.1)
 
 pub returns-then-not-spawn_rule : goal.returns-then-not-spawn_rule
 returns-then-not-spawn_rule c = λ p g.
-    told_no ((c.spawn_rule.ensures p (next (goal.at.returns-then-not-spawn_rule c).After-wide16 p g)).broken (not_passed c.spawn_rule.result (ap not c.if-not-spawn_rule.true)))
+    told_no ((c.spawn_rule.ensures p (next (goal.at.returns-then-not-spawn_rule c).After-from p g)).broken (not_passed c.spawn_rule.result c.if-not-spawn_rule.true))
 
-pub overflow_add-m : goal.overflow_add-m
-overflow_add-m c = omega (arith, c.note_spawns-count.ensures.few)
-
-pub loop-m-smaller : goal.loop-m-smaller
-loop-m-smaller c = omega arith
-
-pub loop-m-preserved : goal.loop-m-preserved
-loop-m-preserved c = (
-  omega arith,
-  omega arith,
-  λ p g. rw (← upto_more _ _ _ c.wide16.ensures.0)
-      ((c.spawn_rule.ensures p (next (goal.at.loop-m-preserved c).After-wide16 p g)).kept (passed c.spawn_rule.result (ap not c.if-not-spawn_rule.false))),
-)
+pub loop-k-preserved : goal.loop-k-preserved
+loop-k-preserved c p g =
+    rw (← upto_more _ _ _ c.from.ensures)
+    ((c.spawn_rule.ensures p (next (goal.at.loop-k-preserved c).After-from p g)).kept (passed c.spawn_rule.result c.if-not-spawn_rule.false))
 
 pub returns : goal.returns
 returns c = λ p g.
-    let e : c.loop-m.m ≡ c.note_spawns-count.result = omega arith in
-    told_yes (spawns_all _ _ _ _ _ p g c.note_spawns-count.ensures _ (rw e at (c.loop-m.invariant.2 p g)))
+    let l = c.note_spawns-count in
+    let e : c.loop-k.k-index ≡ l.result = omega (arith, length-take l.result l.new.list, l.ensures.few, l.ensures.long, few (goal.at.returns c).Start) in
+    told_yes (spawns_all _ _ _ _ _ p g l.ensures _ (rw (e, upto_take l.new.list l.result l.result (omega arith)) at (c.loop-k.invariant p g)))

@@ -1,8 +1,0 @@
--- `fields::field::byte_or_0` meets its contract.
-use mathlib.Core.Path.{sym}
-use native.Mathlib.Omega.{arith}
-use lib.ListN.{get_or-eq_default}
-use Rattle.fields.proofs.field.byte_or_0.Goals as goal
-
-pub returns-else-i-s : goal.returns-else-i-s
-returns-else-i-s c = (sym (get_or-eq_default c.args.s.now 0 (omega arith)), omega arith)
