@@ -8,7 +8,7 @@ ghost use Rattle.plan_measure.specs.Measure.{measures_of, measures, told, Divide
 ghost use Rattle.plan_measure.specs.Measure.{work as work_of, longest as longest_of, heaviest as heaviest_of};
 ghost use Rattle.plan_measure.specs.Times.{at, PlanOf, ActionsOf, JobGiven, JobTimed, SendGiven, Sent, PassGiven, Passed};
 
-use plan::reader::{Found, read_into};
+use plan::reader::read_into;
 use plan::refusal::Refusal;
 use plan::sheet::{PLACES, Sheet, child_at, cost_at, first_of, frame_of, parent_of, target_at};
 
@@ -187,12 +187,6 @@ pub fn measure(bytes: &[u8]) -> Result<Measures, Refusal>
 {
     let mut plan = [0u16; PLACES];
     let mut entering = [0u8; 2048];
-    match read_into(bytes, &mut plan, &mut entering) {
-        Found::Refused(cause) => Err(cause),
-        Found::Plan {
-            form: _,
-            jobs,
-            actions,
-        } => Ok(measure_read(jobs, actions, &plan)),
-    }
+    let found = read_into(bytes, &mut plan, &mut entering)?;
+    Ok(measure_read(found.jobs, found.actions, &plan))
 }
