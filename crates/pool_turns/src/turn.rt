@@ -5,7 +5,6 @@ ghost use Rattle.plan.specs.Plan.{action};
 ghost use Rattle.pool_turns.specs.Moments.{Acting, Sent, Weighed, Ending, Buried, Settling, Acted, Turning, TurnTaken};
 ghost use Rattle.pool_turns.specs.Moments.{Having, Leaving, cost_of};
 
-use numbers::{byte, wide8};
 use plan::sheet::{Sheet, child_at, cost_at, first_of, frame_of, parent_of};
 use pool_set::{Pool, add, contains, gain_child, lose_child, remove};
 use runs::worker::Worker;
@@ -41,7 +40,7 @@ fn bury(j: usize, plan: &Sheet, pool: &mut Pool) -> Worker
         return Worker::Idle;
     }
     remove(pool, q);
-    Worker::Holding(byte(q))
+    Worker::Holding(q as u8)
 }
 
 // Where the action did not spawn: the job has ended, or goes on, or stalls.
@@ -58,16 +57,14 @@ fn settle(
         ⇒ Acted j result progress.now pool.new }
 {
     if k + 1 == first_of(plan, j + 1) {
-        let worker = bury(j, plan, pool);
-        let lighter = weight - frame_of(plan, j);
         return Turned {
-            worker,
-            weight: lighter,
+            worker: bury(j, plan, pool),
+            weight: weight - frame_of(plan, j),
         };
     }
     if missing_at(progress, k + 1) == 0 {
         return Turned {
-            worker: Worker::Holding(byte(j)),
+            worker: Worker::Holding(j as u8),
             weight,
         };
     }
@@ -98,11 +95,9 @@ fn act(
     // The spawner goes to the pool and its worker keeps the child.
     add(pool, j);
     gain_child(pool, j);
-    let worker = Worker::Holding(byte(child - 1));
-    let heavier = weight + frame_of(plan, child - 1);
     Turned {
-        worker,
-        weight: heavier,
+        worker: Worker::Holding((child - 1) as u8),
+        weight: weight + frame_of(plan, child - 1),
     }
 }
 
@@ -125,7 +120,7 @@ pub fn turn(
     let Worker::Holding(held) = worker else {
         return Turned { worker, weight };
     };
-    let j = wide8(held);
+    let j = usize::from(held);
     let k = first_of(plan, j) + done_of(progress, j);
     set_row(rows, k, round, w);
     act(k, j, weight, plan, progress, pool)
@@ -146,8 +141,7 @@ pub fn rounds_of(worker: Worker, plan: &Sheet, progress: &Progress) -> usize
     ensures { Leaving worker plan.now progress.now ⇒ (λ d. result ≡ cost_of d.plan d.next worker) }
 {
     match worker {
-        Worker::Holding(j) => next_cost(wide8(j), plan, progress),
-        Worker::Idle => 0,
-        Worker::Waiting { victim: _, laid: _ } => 0,
+        Worker::Holding(j) => next_cost(usize::from(j), plan, progress),
+        Worker::Idle | Worker::Waiting { .. } => 0,
     }
 }

@@ -1,6 +1,5 @@
 -- What a turn makes of the rows, and what is known of the arrays before it.
---   turning_tag, turning_small    == the worker's tag is that of one that holds a job; round and worker are small
---   turning_some                  == and so it holds some job
+--   turning_small                 == round and worker are small
 --   turning_room                  == that job's next action stands where the arrays say, within the rows
 --   turning_acting, turning_taken == the row is written and the action done
 --   having_small, having_place, having_cost == where the next action of a job stands, and its cost
@@ -8,8 +7,6 @@ use Prim.Native.Nat.{ℕ, ◌+◌, ◌<◌}
 use mathlib.Core.Path.{◌≡◌, refl, ap, sym, ◌∙◌}
 use mathlib.Core.List.{List}
 use native.Mathlib.Omega.{arith}
-use denote.Enum.Declared.{tag_of}
-use Rattle.runs.specs.contracts.worker.Worker.{the_type}
 use lib.ListN.{length, get_or}
 use Rattle.plan.specs.Plan.{Plan, action}
 use Rattle.plan.specs.Sheet.{first_of, cost_at}
@@ -28,18 +25,12 @@ use Rattle.turns.specs.declared.turn.Turned.{Turned}
 use Rattle.turns.specs.Finish.{Deed}
 use Rattle.turns.specs.Progress.{done_of}
 use Rattle.turns.specs.Rows.{with_row}
-use Rattle.turns.proofs.Laws.Rows.{held_tag, held_some, acts_rowed}
+use Rattle.turns.proofs.Laws.Rows.{acts_rowed}
 use Rattle.pool_turns.specs.Moments.{Moment, Held, Weighed, Acted, Turning, TurnTaken, Having}
 use Rattle.pool_turns.proofs.Laws.Running.{run_sized, run_manned, run_small, held_act}
 
 module _ {x : Worker} {r w weighs : ℕ} {plan progress pool rows : List ℕ} {m : Moment}
     (t : Turning x r w weighs plan progress pool rows m) where
-  pub turning_tag : tag_of the_type x ≡ 1
-  turning_tag = held_tag x t.holding
-
-  pub turning_some : ((j : ℕ) → x ≡ Holding j → ⊥) → ⊥
-  turning_some = held_some x t.holding
-
   pub turning_small : (r < 65536) × (w < 16)
   turning_small = let k = t.run.known in omega (arith, run_small t.run, t.now_in, t.whose, t.run.most)
 

@@ -1,12 +1,8 @@
 -- `turn::act` meets its contract.
-use mathlib.Core.Path.{refl, ap}
+use mathlib.Core.Path.{refl}
 use native.Mathlib.Omega.{arith}
-use Rattle.runs.specs.declared.worker.Worker.TheVariants.{Holding}
 use Rattle.pool_turns.proofs.Laws.Handing.{act_small, act_place, act_settles, act_child, act_heavier, act_room, act_spawns}
 use Rattle.pool_turns.proofs.turn.act.Goals as goal
-
-pub send-requires : goal.send-requires
-send-requires c = let (m, g) = c.requires in (m, g.acting)
 
 pub child_at-child-requires : goal.child_at-child-requires
 child_at-child-requires c = act_place c.requires.1
@@ -32,15 +28,18 @@ gain_child-requires c =
     let room = act_room g _ _ c.child_at-child.ensures.0 c.if-child-eq0.false refl (c.send.ensures m g.acting) c.add.ensures in
     (act_small g, room.0, room.1)
 
-pub byte-requires : goal.byte-requires
-byte-requires c =
-    (act_child c.requires.1 _ _ c.child_at-child.ensures.0 c.if-child-eq0.false refl).1
+pub overflow_cast-result : goal.overflow_cast-result
+overflow_cast-result c =
+    omega (arith, (act_child c.requires.1 _ _ c.child_at-child.ensures.0 c.if-child-eq0.false refl).1)
 
-pub overflow_add-heavier : goal.overflow_add-heavier
-overflow_add-heavier c =
+pub frame_of-requires : goal.frame_of-requires
+frame_of-requires c = (act_child c.requires.1 _ _ c.child_at-child.ensures.0 c.if-child-eq0.false refl).1
+
+pub overflow_add-result : goal.overflow_add-result
+overflow_add-result c =
     omega (arith, c.frame_of.ensures, act_heavier c.requires.1 _ _ c.child_at-child.ensures.0 c.if-child-eq0.false refl)
 
 pub returns : goal.returns
 returns c m g =
     act_spawns g _ _ c.child_at-child.ensures.0 c.if-child-eq0.false refl (c.send.ensures m g.acting) c.add.ensures
-    c.gain_child.ensures _ (ap Holding c.byte.ensures) (omega (arith, c.frame_of.ensures))
+    c.gain_child.ensures _ refl (omega (arith, c.frame_of.ensures))

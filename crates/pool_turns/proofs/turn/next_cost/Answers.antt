@@ -1,11 +1,11 @@
 -- `turn::next_cost` meets its contract.
 use mathlib.Core.Path.{◌∙◌}
 use Rattle.pool_turns.proofs.Laws.Turning.{having_small, having_place, having_cost}
-use borrow.Author.Rules.{rules}
+use native.Mathlib.Omega.{arith}
 use Rattle.pool_turns.proofs.turn.next_cost.Goals as goal
 
 pub first_of-requires : goal.first_of-requires
-first_of-requires c = let h = having_small c.requires.1 in search rules
+first_of-requires c = omega (arith, having_small c.requires.1)
 
 pub done_of-requires : goal.done_of-requires
 done_of-requires c = having_small c.requires.1

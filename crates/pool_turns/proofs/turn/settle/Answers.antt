@@ -1,7 +1,6 @@
 -- `turn::settle` meets its contract.
-use mathlib.Core.Path.{refl, ap, sym, ◌∙◌}
+use mathlib.Core.Path.{refl, sym, ◌∙◌}
 use native.Mathlib.Omega.{arith}
-use Rattle.runs.specs.declared.worker.Worker.TheVariants.{Holding}
 use Rattle.pool_turns.proofs.Laws.Handing.{settle_small, settle_ending, settle_lighter, settle_ends, settle_room, settle_goes, settle_stalls}
 use Rattle.pool_turns.proofs.turn.settle.Goals as goal
 
@@ -14,22 +13,22 @@ overflow_add-j c = omega (arith, settle_small c.requires.1)
 pub first_of-requires : goal.first_of-requires
 first_of-requires c = omega (arith, settle_small c.requires.1)
 
-pub bury-worker-requires : goal.bury-worker-requires
-bury-worker-requires c =
+pub bury-requires : goal.bury-requires
+bury-requires c =
     let (m, g) = c.requires in
     (m, settle_ending g (c.if-k-first_of.true ∙ c.first_of.ensures.0))
 
 pub frame_of-requires : goal.frame_of-requires
 frame_of-requires c = (settle_small c.requires.1).0
 
-pub overflow_sub-lighter : goal.overflow_sub-lighter
-overflow_sub-lighter c =
+pub overflow_sub-result : goal.overflow_sub-result
+overflow_sub-result c =
     omega (arith, c.frame_of.ensures, settle_lighter c.requires.1 (c.if-k-first_of.true ∙ c.first_of.ensures.0))
 
 pub returns-then-k-first_of : goal.returns-then-k-first_of
 returns-then-k-first_of c m g =
     let e = c.if-k-first_of.true ∙ c.first_of.ensures.0 in
-    settle_ends g e _ (omega (arith, c.frame_of.ensures)) (c.bury-worker.ensures m (settle_ending g e))
+    settle_ends g e _ (omega (arith, c.frame_of.ensures)) (c.bury.ensures m (settle_ending g e))
 
 pub overflow_add-k-2 : goal.overflow_add-k-2
 overflow_add-k-2 c = omega (arith, settle_small c.requires.1)
@@ -37,13 +36,12 @@ overflow_add-k-2 c = omega (arith, settle_small c.requires.1)
 pub missing_at-requires : goal.missing_at-requires
 missing_at-requires c = settle_room c.requires.1 (omega (arith, c.first_of.ensures))
 
-pub byte-requires : goal.byte-requires
-byte-requires c = (settle_small c.requires.1).0
+pub overflow_cast-result : goal.overflow_cast-result
+overflow_cast-result c = omega (arith, (settle_small c.requires.1).0)
 
 pub returns-then-missing_at-eq0 : goal.returns-then-missing_at-eq0
 returns-then-missing_at-eq0 c m g =
-    settle_goes g (omega (arith, c.first_of.ensures)) (sym c.missing_at.ensures.0 ∙ c.if-missing_at-eq0.true) _
-    (ap Holding c.byte.ensures) refl
+    settle_goes g (omega (arith, c.first_of.ensures)) (sym c.missing_at.ensures.0 ∙ c.if-missing_at-eq0.true) _ refl refl
 
 pub returns : goal.returns
 returns c m g =

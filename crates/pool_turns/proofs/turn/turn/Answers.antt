@@ -1,14 +1,7 @@
 -- `turn::turn` meets its contract: the row is the one of the action that the worker does, and `act` does the rest.
 use native.Mathlib.Omega.{arith}
-use Rattle.pool_turns.proofs.Laws.Turning.{turning_some, turning_small, turning_room, turning_acting, turning_taken}
+use Rattle.pool_turns.proofs.Laws.Turning.{turning_small, turning_room, turning_acting, turning_taken}
 use Rattle.pool_turns.proofs.turn.turn.Goals as goal
-
-pub returns-in_default : goal.returns-in_default
-returns-in_default c m t =
-    absurd (turning_some t c.in_default.not-Holding)
-
-pub first_of-requires : goal.first_of-requires
-first_of-requires c = omega (arith, c.wide8-j.ensures)
 
 pub set_row-requires : goal.set_row-requires
 set_row-requires c =
@@ -16,20 +9,20 @@ set_row-requires c =
     omega (
       arith,
       turning_small t,
-      turning_room t c.in-Holding.is c.wide8-j.ensures.0 c.first_of.ensures.0 c.done_of.ensures.0,
+      turning_room t c.in-Holding.is c.from-j.ensures c.first_of.ensures.0 c.done_of.ensures.0,
     )
 
 pub act-requires : goal.act-requires
 act-requires c = (
   _,
-  turning_acting c.requires.1 c.in-Holding.is c.wide8-j.ensures.0
+  turning_acting c.requires.1 c.in-Holding.is c.from-j.ensures
       c.first_of.ensures.0 c.done_of.ensures.0,
 )
 
 pub returns : goal.returns
 returns c m t =
     let is = c.in-Holding.is in
-    let job = c.wide8-j.ensures.0 in
+    let job = c.from-j.ensures in
     let at = c.first_of.ensures.0 in
     let so = c.done_of.ensures.0 in
     rw c.set_row.ensures (turning_taken t is job at so (c.act.ensures m (turning_acting t is job at so)))
