@@ -11,5 +11,6 @@ pub mod Times
 pub mod Sums
 pub mod Together
 pub mod Laying
+pub mod Aside
 pub mod Taking
 pub mod Answers

@@ -5,19 +5,20 @@
 --   ActionAt plan k d at owner == what laying one action is given: its place and its new one, its new job, and that its child's
 --                           new number is small
 --   LaysJob d from j plan p == the same as Lays, and the plan has a job j
---   FirstLaid frame sheet sheet' p == within the limits, the second array is the first with the new root and the plan p below it
---   SecondLaid frame d from sheet sheet' p == the same of the plan p alone, from job d and place `from` on
+--   LaidBelow frame d from sheet sheet' p == within the limits, the second array is the first with the plan p below the new root, from
+--                           job d and place `from` on
 --   Took s form jobs actions Left == the bytes s hold a plan of that form, so many jobs and actions, of which `Left` holds
 --   Taken s r Left       == the answer r is the refusal, or that this is so
-use Rattle.std.specs.Prelude.{ℕ, ◌+◌, ◌≤◌, ◌<◌, ◌≡◌, true, false, List, ◌∷◌, length, T, eqb}
+use Rattle.std.specs.Prelude.{ℕ, ◌+◌, ◌≤◌, ◌<◌, ◌≡◌, true, false, List, length, T, eqb, Result, Ok, Err}
 use Rattle.plan.specs.declared.reader.Found.{Found}
+use Rattle.plan.specs.declared.refusal.Refusal.{Refusal}
 use Rattle.plan.specs.Refusal.{refused, accepted, number_of}
 use Rattle.plan.specs.Plan.{Plan, total}
 use Rattle.plan.specs.Progress.{with_jobs}
 use Rattle.plan.specs.Rules.{Accepted}
 use Rattle.plan.specs.Reader.{read_plan}
 use Rattle.plan.specs.Sheet.{child_at, target_at, first_of, Laid}
-use Rattle.plan_pair.specs.Pair.{under, new_root, in_limits}
+use Rattle.plan_pair.specs.Pair.{under, in_limits}
 
 unfoldable pub target_under : List ℕ → ℕ → ℕ
 target_under plan k = elim (eqb (k + 1) (first_of plan 1)) [ true ↦ 5 | false ↦ target_at plan k ]
@@ -39,12 +40,8 @@ pub record LaysJob (d from j : ℕ) (plan : List ℕ) (p : Plan) : Type 0 where
   pub lays : Lays d from plan p
   pub known : j < length p
 
-abbrev pub FirstLaid : ℕ → (sheet sheet' : List ℕ) → Plan → Type 0
-FirstLaid frame sheet sheet' p =
-    T (in_limits frame (1 + length p) (5 + total p)) → sheet' ≡ with_jobs sheet 0 0 (new_root frame (length p) ∷ under 1 p)
-
-abbrev pub SecondLaid : (frame d from : ℕ) (sheet sheet' : List ℕ) → Plan → Type 0
-SecondLaid frame d from sheet sheet' p =
+abbrev pub LaidBelow : (frame d from : ℕ) (sheet sheet' : List ℕ) → Plan → Type 0
+LaidBelow frame d from sheet sheet' p =
     T (in_limits frame (d + length p) (from + total p)) → sheet' ≡ with_jobs sheet from d (under d p)
 
 pub record Took (s : List ℕ) (form jobs actions : ℕ) (Left : Plan → Type 0) : Type 0 where
@@ -54,6 +51,6 @@ pub record Took (s : List ℕ) (form jobs actions : ℕ) (Left : Plan → Type 0
   pub all : actions ≡ total is
   pub left : Left is
 
-abbrev pub Taken : List ℕ → Found → (Plan → Type 0) → Type 0
-Taken s (Found.Refused cause) Left = read_plan s ≡ refused (number_of cause)
-Taken s (Found.Plan form jobs actions) Left = Took s form jobs actions Left
+abbrev pub Taken : List ℕ → Result Found Refusal → (Plan → Type 0) → Type 0
+Taken s (Err cause) Left = read_plan s ≡ refused (number_of cause)
+Taken s (Ok found) Left = Took s found.form found.jobs found.actions Left

@@ -16,13 +16,13 @@
 --   Together frame p q r      == what is proved of the result r
 --   Result frame s t written  == the bytes `written` hold the result of the plans that s and t hold, of which that is so
 --   Paired frame s t r bytes  == so it is with the first of those bytes, as many as the answer r tells
-use Rattle.std.specs.Prelude.{ℕ, zero, suc, ◌+◌, max, ◌≡◌, Bool, true, false, List, [], ◌∷◌, ◌++◌, map, length, take, eqb, leb}
+use Rattle.std.specs.Prelude.{ℕ, zero, suc, ◌+◌, max, ◌≡◌, Bool, true, false, List, [], ◌∷◌, ◌++◌, map, length, take, eqb, leb, Ok}
+use Rattle.std.specs.Prelude.{Result as Answer}
 use Rattle.plan.specs.Test.{both}
 use Rattle.plan.specs.Refusal.{Outcome, refused, accepted}
 use Rattle.plan.specs.Plan.{Action, Job, Plan, total}
 use Rattle.plan.specs.Reader.{Read, read_plan}
-use Rattle.plan_writer.specs.declared.Answer.{Answer}
-use Rattle.plan_writer.specs.declared.Answer.TheVariants.{Count}
+use Rattle.plan.specs.declared.refusal.Refusal.{Refusal}
 use Rattle.plan_writer.specs.Written.{Written, encoded}
 use Rattle.plan_measure.specs.Measure.{work, longest, heaviest}
 
@@ -108,5 +108,5 @@ pub record Result (frame : ℕ) (s t written : List ℕ) : Type 0 where
       ≡ accepted (record { form = pair_form first.form second.form; plan = paired frame first.plan second.plan })
   pub together : Together frame first.plan second.plan (paired frame first.plan second.plan)
 
-abbrev pub Paired : ℕ → List ℕ → List ℕ → Answer → List ℕ → Type 0
-Paired frame s t r bytes = (n : ℕ) → r ≡ Count n → Result frame s t (take n bytes)
+abbrev pub Paired : ℕ → List ℕ → List ℕ → Answer ℕ Refusal → List ℕ → Type 0
+Paired frame s t r bytes = (n : ℕ) → r ≡ Ok n → Result frame s t (take n bytes)

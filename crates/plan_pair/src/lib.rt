@@ -1,5 +1,5 @@
-// Two plans under a new root, to be built together (document 02, L9). The result is laid out in one array: the new root and the first
-// plan as soon as that is read, then the second. That it keeps all rules is proved and not tested.
+// Two plans under a new root, to be built together (document 02, L9). The result is laid out in one array: the first plan as soon as
+// that is read, then the second, then the new root. That it keeps all rules is proved and not tested.
 #![tactic(auto)]
 
 ghost use Rattle.std.specs.Prelude.{◌≡◌, ◌+◌, ◌≤◌, ◌<◌, length, take};
@@ -9,7 +9,7 @@ ghost use Rattle.plan.specs.Progress.{with_job, with_jobs};
 ghost use Rattle.plan.specs.Sheet.{child_at, cost_at, with_action};
 ghost use Rattle.plan_writer.specs.Written.{answer_of};
 ghost use Rattle.plan_pair.specs.Pair.{raised_child, under, new_root, in_limits, pair_form, pair_into, Paired};
-ghost use Rattle.plan_pair.specs.Given.{target_under, Lays, ActionAt, LaysJob, FirstLaid, SecondLaid, Taken};
+ghost use Rattle.plan_pair.specs.Given.{target_under, Lays, ActionAt, LaysJob, LaidBelow, Taken};
 
 use plan::reader::{Found, read_into};
 use plan::refusal::Refusal;
@@ -17,7 +17,7 @@ use plan::sheet::{
     PLACES, Sheet, child_at, cost_at, first_of, frame_of, set_action, set_first, set_frame,
     target_at,
 };
-use plan_writer::{Answer, encode};
+use plan_writer::encode;
 
 // A child's number plus 1, or 0 for none, where numbers rise by d.
 fn raised_child(d: usize, child: usize) -> usize
@@ -57,11 +57,9 @@ fn lay_job(plan: &Sheet, j: usize, d: usize, from: usize, sheet: &mut Sheet)
         ⇒ (λ p. sheet.new ≡ with_job sheet.old (from + total (take j p)) (d + j) (job (under d p) j)) }
 {
     let end = first_of(plan, j + 1);
-    let mut k = first_of(plan, j);
     set_frame(sheet, d + j, frame_of(plan, j) as u16);
-    while k < end {
+    for k in first_of(plan, j)..end {
         lay_action(plan, k, d, from + k, d + j, sheet);
-        k += 1;
     }
     set_first(sheet, d + j + 1, from + end);
 }
@@ -71,10 +69,8 @@ fn lay_jobs(plan: &Sheet, jobs: usize, d: usize, from: usize, sheet: &mut Sheet)
     requires { Some (λ p. (jobs ≡ length p) × Lays d from plan.now p) }
     ensures { Lays d from plan.now ⇒ (λ p. jobs ≡ length p → sheet.new ≡ with_jobs sheet.old from d (under d p)) }
 {
-    let mut j = 0;
-    while j < jobs {
+    for j in 0..jobs {
         lay_job(plan, j, d, from, sheet);
-        j += 1;
     }
 }
 
@@ -93,113 +89,49 @@ fn lay_root(frame: u16, jobs: usize, sheet: &mut Sheet)
 }
 
 // A root's frame and the counts of a plan are within their limits.
+#[tactic(auto, unfolding(crate::specs::Pair::in_limits))]
 fn within(frame: u32, jobs: usize, actions: usize) -> bool
     ensures { result ≡ in_limits frame jobs actions }
 {
-    if frame == 0 {
-        return false;
-    }
-    if 65535 < frame {
-        return false;
-    }
-    if 256 < jobs {
-        return false;
-    }
-    actions <= 2048
+    1 <= frame && frame <= 65535 && jobs <= 256 && actions <= 2048
 }
 
-// Reads the first plan, and lays the new root and the plan below it, where that is within the limits.
-fn lay_first(s: &[u8], frame: u32, sheet: &mut Sheet) -> Found
-    ensures { Taken s.now result (FirstLaid frame sheet.old sheet.new) }
-{
-    let mut plan = [0u16; PLACES];
-    let mut entering = [0u8; 2048];
-    match read_into(s, &mut plan, &mut entering) {
-        Found::Refused(cause) => Found::Refused(cause),
-        Found::Plan {
-            form,
-            jobs,
-            actions,
-        } => {
-            if within(frame, 1 + jobs, 5 + actions) {
-                lay_root(frame as u16, jobs, sheet);
-                lay_jobs(&plan, jobs, 1, 5, sheet);
-            }
-            Found::Plan {
-                form,
-                jobs,
-                actions,
-            }
-        }
-    }
-}
-
-// Reads the second plan, and lays it from job d and place `from` on, where that is within the limits.
-fn lay_second(s: &[u8], frame: u32, d: usize, from: usize, sheet: &mut Sheet) -> Found
+// Reads a plan, and lays it from job d and place `from` on, where that is within the limits.
+fn lay(s: &[u8], frame: u32, d: usize, from: usize, sheet: &mut Sheet) -> Result<Found, Refusal>
     requires { (d ≤ 257) × (from ≤ 2053) }
-    ensures { Taken s.now result (SecondLaid frame d from sheet.old sheet.new) }
+    ensures { Taken s.now result (LaidBelow frame d from sheet.old sheet.new) }
 {
     let mut plan = [0u16; PLACES];
     let mut entering = [0u8; 2048];
-    match read_into(s, &mut plan, &mut entering) {
-        Found::Refused(cause) => Found::Refused(cause),
-        Found::Plan {
-            form,
-            jobs,
-            actions,
-        } => {
-            if within(frame, d + jobs, from + actions) {
-                lay_jobs(&plan, jobs, d, from, sheet);
-            }
-            Found::Plan {
-                form,
-                jobs,
-                actions,
-            }
-        }
+    let found = read_into(s, &mut plan, &mut entering)?;
+    if within(frame, d + found.jobs, from + found.actions) {
+        lay_jobs(&plan, found.jobs, d, from, sheet);
     }
+    Ok(found)
 }
 
 // The form of the result of two plans of these forms.
+#[tactic(auto, unfolding(crate::specs::Pair::pair_form))]
 fn form_of(first: u32, second: u32) -> u32
     ensures { (result ≡ pair_form first second) × (result < 256) }
 {
-    if first != 1 {
-        return 2;
-    }
-    if second != 1 {
-        return 2;
-    }
-    1
+    if first == 1 && second == 1 { 1 } else { 2 }
 }
 
 // Writes the plan of a new root with that frame, below which stand the plans that both bytes hold, and tells the number of bytes.
-pub fn pair(first: &[u8], second: &[u8], frame: u32, bytes: &mut [u8]) -> Answer
+pub fn pair(first: &[u8], second: &[u8], frame: u32, bytes: &mut [u8]) -> Result<usize, Refusal>
     ensures bytes_after { record { answer = answer_of result; buffer = bytes.new }
         ≡ pair_into frame first.now second.now bytes.old }
     ensures paired { Paired frame first.now second.now result bytes.new }
 {
     let mut sheet = [0u16; PLACES];
-    match lay_first(first, frame, &mut sheet) {
-        Found::Refused(cause) => Answer::Refused(cause),
-        Found::Plan {
-            form,
-            jobs,
-            actions,
-        } => match lay_second(second, frame, 1 + jobs, 5 + actions, &mut sheet) {
-            Found::Refused(cause) => Answer::Refused(cause),
-            Found::Plan {
-                form: other,
-                jobs: more,
-                actions: further,
-            } => {
-                let all = 1 + jobs + more;
-                let total = 5 + actions + further;
-                if !within(frame, all, total) {
-                    return Answer::Refused(Refusal::Pair);
-                }
-                encode(form_of(form, other), all, total, &sheet, bytes)
-            }
-        },
+    let one = lay(first, frame, 1, 5, &mut sheet)?;
+    let two = lay(second, frame, 1 + one.jobs, 5 + one.actions, &mut sheet)?;
+    let jobs = 1 + one.jobs + two.jobs;
+    let actions = 5 + one.actions + two.actions;
+    if !within(frame, jobs, actions) {
+        return Err(Refusal::Pair);
     }
+    lay_root(frame as u16, one.jobs, &mut sheet);
+    encode(form_of(one.form, two.form), jobs, actions, &sheet, bytes)
 }

@@ -17,7 +17,8 @@ use Rattle.plan.specs.Refusal.{Outcome, refused, accepted}
 use Rattle.plan.specs.Plan.{Plan, size, action, placed, no_placed}
 use Rattle.plan.specs.Reader.{Read, is_form, read_plan}
 use Rattle.plan.specs.Rules.{in_range, costs_fit, Accepted}
-use Rattle.plan_writer.specs.declared.Answer.{Answer}
+use Rattle.std.specs.Prelude.{Result}
+use Rattle.plan.specs.declared.refusal.Refusal.{Refusal}
 use Rattle.plan_writer.specs.Written.{encoded, answer_of}
 use Rattle.plan.proofs.Laws.Accepted.{accepted_kept}
 use Rattle.plan.proofs.Laws.Costs.{accepted_costs}
@@ -31,15 +32,15 @@ use Rattle.plan_pair.proofs.Laws.Pairing.{part_size, part_cost, Whose, top, mine
 use Rattle.plan_pair.proofs.Laws.Accepting.{fits_told, pair_accepted}
 use Rattle.plan_pair.proofs.Laws.Together.{together}
 
-pub form_first : (a b : ℕ) → (a ≡ 1 → ⊥) → 2 ≡ pair_form a b
+form_first : (a b : ℕ) → (a ≡ 1 → ⊥) → 2 ≡ pair_form a b
 unfolding pair_form
 form_first a b f = rw (pair_form, ne_eqb a 1 f)
 
-pub form_second : (a b : ℕ) → a ≡ 1 → (b ≡ 1 → ⊥) → 2 ≡ pair_form a b
+form_second : (a b : ℕ) → a ≡ 1 → (b ≡ 1 → ⊥) → 2 ≡ pair_form a b
 unfolding pair_form
 form_second a b e f = rw (e, pair_form, ne_eqb b 1 f)
 
-pub form_one : (a b : ℕ) → a ≡ 1 → b ≡ 1 → 1 ≡ pair_form a b
+form_one : (a b : ℕ) → a ≡ 1 → b ≡ 1 → 1 ≡ pair_form a b
 unfolding pair_form
 form_one a b e f = rw (e, f)
 
@@ -107,7 +108,7 @@ module _ (frame : ℕ) (s t buffer : List ℕ) where
       kept : T (pair_fits frame result) → Accepted result
       kept x = pair_accepted frame a.plan b.plan (accepted_kept s a e) (accepted_kept t b f) (fits_told frame result x)
 
-      pub pair_result : T (pair_fits frame result) → (r : Answer) (bytes : List ℕ)
+      pub pair_result : T (pair_fits frame result) → (r : Result ℕ Refusal) (bytes : List ℕ)
           → record { answer = answer_of r; buffer = bytes } ≡ encoded (pair_form a.form b.form) (accepted result) buffer
           → Paired frame s t r bytes
       pair_result x r bytes w n g =

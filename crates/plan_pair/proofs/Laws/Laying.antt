@@ -1,10 +1,8 @@
 -- A plan laid out in another array, by what stands in its own.
---   raised_some            == the number of a child that there is
 --   target_last, target_other == where an action then sends its join
 --   job_place, job_room, action_given == where a job stands, that there is room for it, and for an action of it
 --   first_rows, first_jobs == the array with the first so many actions of a job, or jobs of a plan; rows_none, jobs_none == with none
 --   action_more, job_whole == one action more of a job, and a job once all its actions are laid
---   root_whole             == the new root
 --   job_more, jobs_whole   == one job more of a plan, and all of them
 use Prim.Native.Nat.{ℕ, zero, suc, ◌+◌, ◌≤◌, ◌<◌}
 use mathlib.Core.Path.{◌≡◌, refl, ap, sym, ◌∙◌}
@@ -21,13 +19,9 @@ use Rattle.plan.proofs.Laws.Laid.{laid_end, laid_child, laid_target, laid_cost}
 use Rattle.plan.proofs.Laws.Placed.{start, start_suc, start_rises, start_below}
 use Rattle.plan.proofs.Laws.Sheets.{actions_one_more, jobs_one_more}
 use Rattle.plan.proofs.Laws.Valid.{jobs_range, small_numbers}
-use Rattle.plan_pair.specs.Pair.{raised_child, under, new_root}
+use Rattle.plan_pair.specs.Pair.{raised_child, under}
 use Rattle.plan_pair.specs.Given.{target_under, ActionAt, LaysJob}
 use Rattle.plan_pair.proofs.Laws.Under.{under_length, under_size, under_frame, under_cost, under_spawn, under_join, under_other, under_last, under_start}
-
-pub raised_some : (d c : ℕ) → (c ≡ 0 → ⊥) → c + d ≡ raised_child d c
-raised_some d zero f = absurd (f refl)
-raised_some d (suc c) f = omega arith
 
 module _ (plan : List ℕ) (k : ℕ) where
   pub target_last : k + 1 ≡ first_of plan 1 → 5 ≡ target_under plan k
@@ -131,15 +125,6 @@ module _ {d from j : ℕ} {plan : List ℕ} {p : Plan} (g : LaysJob d from j pla
       let f : weight ≡ (job (under d p) j).frame = w ∙ g.lays.laid.frames j g.known ∙ sym (under_frame d p j) in
       let a : from + end ≡ from + start p j + length row = omega (arith, job_place, row_long) in
       last ∙ rw (rest, front, f, a, take_all n row (omega (arith, row_long)))
-
--- the new root, store by store
-pub root_whole : (sheet : List ℕ) (frame m child : ℕ) {framed one two three four five sheet' : List ℕ} → child ≡ m + 2
-    → framed ≡ with_frame sheet 0 frame → one ≡ with_action framed 0 0 2 0 1 → two ≡ with_action one 1 0 0 0 1
-    → three ≡ with_action two 2 0 child 0 1 → four ≡ with_action three 3 0 0 0 1 → five ≡ with_action four 4 0 0 0 1
-    → sheet' ≡ with_first five 1 5 → sheet' ≡ with_job sheet 0 0 (new_root frame m)
-root_whole sheet frame m child e a b c d f g h =
-    let n : child ≡ suc (1 + m) = omega arith in
-    h ∙ rw (g, f, d, c, b, a, n)
 
 -- all jobs of a plan
 module _ (d from : ℕ) (p : Plan) (sheet : List ℕ) where

@@ -9,42 +9,16 @@ use Rattle.plan_pair.proofs.Laws.Laying.{job_place, job_room, action_given, firs
 use Rattle.plan_pair.proofs.lay_job.Goals as goal
 use Rattle.plan_pair.proofs.lay_job.Goals.{In-loop-k}
 
-pub overflow_add-j : goal.overflow_add-j
-overflow_add-j c = omega (arith, job_room c.requires.1)
-
-pub first_of-end-requires : goal.first_of-end-requires
-first_of-end-requires c = omega (arith, job_room c.requires.1)
-
-pub first_of-k-requires : goal.first_of-k-requires
-first_of-k-requires c = omega (arith, job_room c.requires.1)
-
-pub overflow_add-d : goal.overflow_add-d
-overflow_add-d c = omega (arith, job_room c.requires.1)
-
-pub frame_of-requires : goal.frame_of-requires
-frame_of-requires c = omega (arith, job_room c.requires.1)
-
-pub set_frame-requires : goal.set_frame-requires
-set_frame-requires c = omega (arith, job_room c.requires.1)
-
 pub loop-k-init : goal.loop-k-init
 loop-k-init c =
-    let e = c.first_of-end.ensures.0 in
-    let f = c.first_of-k.ensures.0 in
-    (omega (arith, job_room c.requires.1), λ p g. (0, omega (arith, job_place g), sym (rows_none g _)))
-
-pub overflow_add-from : goal.overflow_add-from
-overflow_add-from c = omega (arith, job_room c.requires.1, c.first_of-end.ensures.0)
-
-pub overflow_add-d-in-loop-k : goal.overflow_add-d-in-loop-k
-overflow_add-d-in-loop-k c = omega (arith, job_room c.requires.1)
+    λ p g. (0, omega (arith, c.first_of-k.ensures.0, job_place g), sym (rows_none g _))
 
 -- the action at hand
 here : (c : In-loop-k) → (p : Plan) (g : LaysJob c.args.d c.args.from c.args.j c.args.plan.now p)
     → (n : ℕ) × (c.loop-k.k ≡ start p c.args.j + n) × (n < size p c.args.j)
     × (c.loop-k.sheet ≡ first_rows g c.set_frame.new.plan n)
 here c p g =
-    let (n, e, is) = c.loop-k.invariant.1 p g in
+    let (n, e, is) = c.loop-k.invariant p g in
     (n, e, omega (arith, c.loop-k-test.true, c.first_of-end.ensures.0, job_place g), is)
 
 pub lay_action-requires : goal.lay_action-requires
@@ -53,36 +27,17 @@ lay_action-requires c =
     let (n, e, b, is) = here (goal.at.lay_action-requires c).In-loop-k p g in
     action_given g _ n e b
 
-pub overflow_add-k : goal.overflow_add-k
-overflow_add-k c =
-    omega (arith, job_room c.requires.1, c.first_of-end.ensures.0)
-
-pub loop-k-smaller : goal.loop-k-smaller
-loop-k-smaller c = omega arith
-
 pub loop-k-preserved : goal.loop-k-preserved
-loop-k-preserved c = (
-  omega (arith, c.loop-k-test.true),
-  λ p g.
-      let (n, e, b, is) = here (goal.at.loop-k-preserved c).In-loop-k p g in
-      (suc n, omega arith, action_more g _ _ n e b is c.lay_action.ensures),
-)
-
-pub overflow_add-d-2 : goal.overflow_add-d-2
-overflow_add-d-2 c = omega (arith, job_room c.requires.1)
-
-pub overflow_add-d-3 : goal.overflow_add-d-3
-overflow_add-d-3 c = omega (arith, job_room c.requires.1)
-
-pub overflow_add-from-2 : goal.overflow_add-from-2
-overflow_add-from-2 c = omega (arith, job_room c.requires.1, c.first_of-end.ensures.0)
+loop-k-preserved c p g =
+    let (n, e, b, is) = here (goal.at.loop-k-preserved c).In-loop-k p g in
+    (suc n, omega arith, action_more g _ _ n e b is c.lay_action.ensures)
 
 pub set_first-requires : goal.set_first-requires
 set_first-requires c = omega (arith, job_room c.requires.1, c.first_of-end.ensures.0)
 
 pub returns : goal.returns
 returns c p g =
-    let (n, e, is) = c.loop-k.invariant.1 p g in
+    let (n, e, is) = c.loop-k.invariant p g in
     let a = c.args in
-    let whole : n ≡ size p a.j = omega (arith, c.loop-k-test.false, c.loop-k.invariant.0, c.first_of-end.ensures.0, job_place g) in
+    let whole : n ≡ size p a.j = omega (arith, c.loop-k-test.false, job_room g, c.first_of-k.ensures.0, c.first_of-end.ensures.0, job_place g) in
     job_whole g a.sheet.now n _ _ whole c.first_of-end.ensures.0 c.frame_of.ensures.0 c.set_frame.ensures is c.set_first.ensures

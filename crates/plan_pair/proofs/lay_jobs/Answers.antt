@@ -8,27 +8,18 @@ use Rattle.plan_pair.proofs.Laws.Laying.{jobs_none, job_more, jobs_whole}
 use Rattle.plan_pair.proofs.lay_jobs.Goals as goal
 
 pub loop-j-init : goal.loop-j-init
-loop-j-init c = (omega arith, λ p g e. sym (jobs_none _ _ p _))
+loop-j-init c = λ p g e. sym (jobs_none _ _ p _)
 
 pub lay_job-requires : goal.lay_job-requires
 lay_job-requires c =
     let (p, (e, g)) = c.requires in
     (p, record { lays = g; known = omega (arith, c.loop-j-test.true) })
 
-pub overflow_add-j : goal.overflow_add-j
-overflow_add-j c = omega arith
-
-pub loop-j-smaller : goal.loop-j-smaller
-loop-j-smaller c = omega arith
-
 pub loop-j-preserved : goal.loop-j-preserved
-loop-j-preserved c = (
-  omega arith,
-  λ p g e.
-      let known : c.loop-j.j < length p = omega (arith, c.loop-j-test.true) in
-      rw add-one (job_more _ _ p _ _ known (c.loop-j.invariant.1 p g e) (c.lay_job.ensures p (record { lays = g; known = known }))),
-)
+loop-j-preserved c p g e =
+    let known : c.loop-j.j < length p = omega (arith, c.loop-j-test.true) in
+    rw add-one (job_more _ _ p _ _ known (c.loop-j.invariant p g e) (c.lay_job.ensures p (record { lays = g; known = known })))
 
 pub returns : goal.returns
 returns c p g e =
-    c.loop-j.invariant.1 p g e ∙ jobs_whole _ _ p _ _ (omega (arith, c.loop-j-test.false, c.loop-j.invariant.0))
+    c.loop-j.invariant p g e ∙ jobs_whole _ _ p _ _ (omega (arith, c.loop-j-test.false))

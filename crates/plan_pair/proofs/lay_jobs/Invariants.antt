@@ -1,5 +1,4 @@
 -- `plan_pair::lay_jobs` meets its contract. The loop's invariant: the jobs before job j are laid.
-use Prim.Native.Nat.{◌-◌, ◌≤◌}
 use mathlib.Core.Path.{◌≡◌}
 use lib.ListN.{length}
 use Rattle.plan.specs.Plan.{Plan}
@@ -9,7 +8,4 @@ use Rattle.plan_pair.proofs.lay_jobs.Given as goal
 
 abbrev pub invariant-loop-j : goal.invariant-loop-j
 invariant-loop-j l =
-    (l.j ≤ l.jobs) × ((p : Plan) → Lays l.d l.from l.plan p → l.jobs ≡ length p → l.sheet ≡ first_jobs l.d l.from p l.initial.sheet l.j)
-
-abbrev pub decreases-loop-j : goal.decreases-loop-j
-decreases-loop-j l = l.jobs - l.j
+    (p : Plan) → Lays l.d l.from l.plan p → l.jobs ≡ length p → l.sheet ≡ first_jobs l.d l.from p l.initial.sheet l.j
