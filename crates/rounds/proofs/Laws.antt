@@ -1,6 +1,4 @@
 -- How the objects of a run stand for its states from loop to loop, in named modules.
-pub mod Accounts
-pub mod Places
 pub mod Standing
 pub mod Halves
 pub mod Queues

@@ -6,12 +6,10 @@
 --   Layable, LayNoted   == the same of a request of worker w at victim v
 --   Servable, ServiceNoted == the same of a service of victim v, which gave worker w what was taken and has so many requests left
 --   Serving a v lines q == .. of the oldest request of the line q at victim v
---   is_job x, bare_of x   == a job was taken; 1 where the miss was bare, or 0
-use Rattle.std.specs.Prelude.{ℕ, ◌-◌, ◌^◌, ◌≤◌, ◌<◌, ◌≡◌, Bool, true, false, List, ltb, get_or}
+use Rattle.std.specs.Prelude.{ℕ, ◌-◌, ◌^◌, ◌≤◌, ◌<◌, ◌≡◌, Result, Bool, true, false, List, ltb, get_or}
 use Rattle.crew.specs.Crew.{member, Marked}
 use Rattle.crew.specs.Line.{Leaving}
-use Rattle.runs.specs.declared.taken.Taken.{Taken}
-use Rattle.runs.specs.declared.taken.Taken.TheVariants.{Job, Bare, IdleVictim}
+use Rattle.runs.specs.declared.miss.Miss.{Miss}
 use Rattle.runs.specs.declared.worker.Worker.{Worker}
 use Rattle.runs.specs.declared.worker.Worker.TheVariants.{Idle, Holding, Waiting}
 use Rattle.runs.specs.State.{holds}
@@ -76,17 +74,7 @@ pub record Serving (a : Account) (v : ℕ) (lines q : List ℕ) : Type 0 where
   pub leaving : Leaving v 0 lines q
   pub servable : Servable a v (get_or q 0 0)
 
-abbrev pub is_job : Taken → Bool
-is_job (Job j) = true
-is_job Bare = false
-is_job IdleVictim = false
-
-abbrev pub bare_of : Taken → ℕ
-bare_of (Job j) = 0
-bare_of Bare = 1
-bare_of IdleVictim = 0
-
-pub record ServiceNoted (a : Account) (v left w : ℕ) (x : Taken) (a' : Account) : Type 0 where
+pub record ServiceNoted (a : Account) (v left w : ℕ) (x : Result ℕ Miss) (a' : Account) : Type 0 where
   pub weighed : a'.weight ≡ a.weight
   pub counts : a'.tally ≡ with_service a.tally x
   pub holders : Marked w (holds (thief x)) a.holders a'.holders

@@ -3,12 +3,11 @@
 ghost use Rattle.std.specs.Prelude.{◌≡◌, true, ◌≤◌, ◌<◌, ltb};
 ghost use Rattle.crew.specs.Crew.{member, Marked};
 ghost use Rattle.turns.specs.Count.{Restable};
-ghost use Rattle.rounds.specs.Account.{opened as opened_of, rested as rested_of, is_job, bare_of};
+ghost use Rattle.rounds.specs.Account.{opened as opened_of, rested as rested_of};
 ghost use Rattle.rounds.specs.Account.{Turnable, TurnNoted, Layable, LayNoted, Servable, ServiceNoted};
 
 use crew::set::{others, with, without};
-use numbers::units;
-use runs::taken::Taken;
+use runs::miss::Miss;
 use runs::tally::Tally;
 use runs::worker::Worker;
 use turns::count::{acted, idled, no_counts, with_miss, with_request, with_steal};
@@ -16,9 +15,9 @@ use turns::count::{acted, idled, no_counts, with_miss, with_request, with_steal}
 #[derive(Clone, Copy)]
 pub struct Account {
     pub weight: u32,
-    pub holders: u32,
-    pub idlers: u32,
-    pub victims: u32,
+    pub holders: u64,
+    pub idlers: u64,
+    pub victims: u64,
     pub tally: Tally,
 }
 
@@ -49,28 +48,25 @@ pub fn turned(
     requires { Turnable account round w gap }
     ensures { TurnNoted account round w gap worker weight result }
 {
-    let tally = idled(acted(account.tally, round, weight), round, units(gap));
+    let tally = idled(acted(account.tally, round, weight), round, gap as u32);
     match worker {
         Worker::Holding(_) => Account {
             weight,
-            holders: account.holders,
-            idlers: account.idlers,
-            victims: account.victims,
             tally,
+            ..account
         },
         Worker::Idle => Account {
             weight,
             holders: without(account.holders, w),
             idlers: with(account.idlers, w),
-            victims: account.victims,
             tally,
+            ..account
         },
-        Worker::Waiting { victim: _, laid: _ } => Account {
+        Worker::Waiting { .. } => Account {
             weight,
             holders: without(account.holders, w),
-            idlers: account.idlers,
-            victims: account.victims,
             tally,
+            ..account
         },
     }
 }
@@ -81,11 +77,8 @@ pub fn rested(account: Account, round: usize, turns: usize) -> Account
     ensures { result ≡ rested_of account round turns }
 {
     Account {
-        weight: account.weight,
-        holders: account.holders,
-        idlers: account.idlers,
-        victims: account.victims,
-        tally: idled(account.tally, round, units(turns)),
+        tally: idled(account.tally, round, turns as u32),
+        ..account
     }
 }
 
@@ -95,67 +88,43 @@ pub fn laid(account: Account, w: usize, v: usize) -> Account
     ensures { LayNoted account w v result }
 {
     Account {
-        weight: account.weight,
-        holders: account.holders,
         idlers: without(account.idlers, w),
         victims: with(account.victims, v),
         tally: with_request(account.tally),
+        ..account
     }
 }
 
 // The victims that have requests, where so many are left at victim v.
-fn still_asked(victims: u32, v: usize, left: u64) -> u32
+fn still_asked(victims: u64, v: usize, left: u64) -> u64
     requires { (v < 16) × (member victims v ≡ true) }
     ensures { Marked v (ltb 0 left) victims result }
 {
     if left == 0 {
-        return without(victims, v);
-    }
-    victims
-}
-
-// Whether a job was taken.
-fn is_job(taken: Taken) -> bool
-    ensures { result ≡ is_job taken }
-{
-    match taken {
-        Taken::Job(_) => true,
-        Taken::Bare => false,
-        Taken::IdleVictim => false,
-    }
-}
-
-// 1 where the miss was bare, or 0.
-fn bare_of(taken: Taken) -> u32
-    ensures { (result ≡ bare_of taken) × (result ≤ 1) }
-{
-    match taken {
-        Taken::Job(_) => 0,
-        Taken::Bare => 1,
-        Taken::IdleVictim => 0,
+        without(victims, v)
+    } else {
+        victims
     }
 }
 
 // After victim v served worker w with what was taken from its deque; so many requests are left there.
-pub fn served(account: Account, v: usize, left: u64, w: usize, taken: Taken) -> Account
+pub fn served(account: Account, v: usize, left: u64, w: usize, taken: Result<u8, Miss>) -> Account
     requires { Servable account v w }
     ensures { ServiceNoted account v left w taken result }
 {
     let victims = still_asked(account.victims, v, left);
-    if is_job(taken) {
-        return Account {
-            weight: account.weight,
+    match taken {
+        Ok(_) => Account {
             holders: with(account.holders, w),
-            idlers: account.idlers,
             victims,
             tally: with_steal(account.tally),
-        };
-    }
-    Account {
-        weight: account.weight,
-        holders: account.holders,
-        idlers: with(account.idlers, w),
-        victims,
-        tally: with_miss(account.tally, bare_of(taken)),
+            ..account
+        },
+        Err(miss) => Account {
+            idlers: with(account.idlers, w),
+            victims,
+            tally: with_miss(account.tally, miss),
+            ..account
+        },
     }
 }

@@ -5,9 +5,8 @@ ghost use Rattle.rounds.specs.Rounds.{RunGiven, RunLeft};
 
 use crate::account::{opened, rested, turned};
 use crate::start::start_progress;
-use crate::steal::{lay, serve, thief};
+use crate::steal::{Served, lay, serve, thief};
 use crew::set::{lowest, rest};
-use numbers::wide8;
 use plan::sheet::{Sheet, first_of, frame_of};
 use runs::tally::Tally;
 use runs::worker::Worker;
@@ -20,10 +19,7 @@ fn onward(at: usize, count: usize) -> usize
     requires { (at < count) × (count ≤ 4096) }
     ensures { (k : ℕ) → at ≡ k % count → result ≡ suc k % count }
 {
-    if at + 1 == count {
-        return 0;
-    }
-    at + 1
+    if at + 1 == count { 0 } else { at + 1 }
 }
 
 // Runs the plan by n workers: the counts. The rows of its schedule are then in `rows`; `entering` has how many joins enter each of
@@ -46,22 +42,21 @@ pub fn run_rounds(
     start_progress(actions, entering, &mut progress);
     let mut deques = [0u8; 4128];
     let mut lines = [0u64; 32];
-    let mut cursor = 0usize;
-    let mut r = 0usize;
+    let mut cursor = 0;
+    let mut r = 0;
     let mut a = opened(n, frame_of(plan, 0));
     loop {
         r += 1;
         let were_idle = a.idlers;
         // First half: those who hold a job take their turns; `past` is the first worker whose turn has not come.
         let mut left = a.holders;
-        let mut past = 0usize;
+        let mut past = 0;
         while left != 0 {
             let w = lowest(left);
             let held = workers[w];
             let after = turn(held, r, w, a.weight, plan, &mut progress, &mut deques, rows);
-            let worker = after.worker;
-            workers[w] = worker;
-            a = turned(a, r, w, w - past, worker, after.weight);
+            workers[w] = after.worker;
+            a = turned(a, r, w, w - past, after.worker, after.weight);
             past = w + 1;
             left = rest(left);
         }
@@ -75,12 +70,11 @@ pub fn run_rounds(
         while left != 0 {
             let w = lowest(left);
             let victim = choices[cursor];
-            let round = r as u16;
             workers[w] = Worker::Waiting {
                 victim,
-                laid: round,
+                laid: r as u16,
             };
-            a = lay(a, w, wide8(victim), &mut lines);
+            a = lay(a, w, usize::from(victim), &mut lines);
             cursor = onward(cursor, choices.len());
             left = rest(left);
         }
@@ -88,11 +82,13 @@ pub fn run_rounds(
         left = a.victims;
         while left != 0 {
             let v = lowest(left);
-            let after = serve(a, v, &mut lines, &mut deques);
-            let who = after.who;
-            let taken = after.taken;
+            let Served {
+                who,
+                taken,
+                account,
+            } = serve(a, v, &mut lines, &mut deques);
             workers[who] = thief(taken);
-            a = after.account;
+            a = account;
             left = rest(left);
         }
     }

@@ -12,7 +12,7 @@ use crate::account::{Account, laid, served};
 use crew::line::{Lines, leave_line, line_up, waiting_at};
 use crew::set::has;
 use deques::{Deques, take_top};
-use runs::taken::Taken;
+use runs::miss::Miss;
 use runs::worker::Worker;
 
 // Worker w lays a request at victim v.
@@ -29,7 +29,7 @@ pub fn lay(account: Account, w: usize, v: usize, lines: &mut Lines) -> Account
 #[derive(Clone, Copy)]
 pub struct Served {
     pub who: usize,
-    pub taken: Taken,
+    pub taken: Result<u8, Miss>,
     pub account: Account,
 }
 
@@ -51,12 +51,11 @@ pub fn serve(account: Account, v: usize, lines: &mut Lines, deques: &mut Deques)
 }
 
 // The worker that was served: it holds the job that was taken, or is idle.
-pub fn thief(taken: Taken) -> Worker
+pub fn thief(taken: Result<u8, Miss>) -> Worker
     ensures { result ≡ thief_of taken }
 {
     match taken {
-        Taken::Job(j) => Worker::Holding(j),
-        Taken::Bare => Worker::Idle,
-        Taken::IdleVictim => Worker::Idle,
+        Ok(j) => Worker::Holding(j),
+        Err(_) => Worker::Idle,
     }
 }

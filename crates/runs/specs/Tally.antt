@@ -1,6 +1,6 @@
 -- What each event makes of the counts (document 01, "Worker and round"; document 02, L2). A count stands in the record `Tally` of src/, in
--- `no_counts` and in the updates below; beside them a tally is written out in `recounted` and `with_miss` (`turns` S/Count) alone, for
--- several idle turns at once and for a miss of either kind.
+-- `no_counts` and in the updates below; beside them a tally is written out in `recounted` (`turns` S/Count) alone, for several idle turns
+-- at once.
 --   no_counts frame        == the counts as a run begins, where job 0 has that frame
 --   with_action t r weight == after a turn of round r in which an action was worked on, after which the living frames weigh `weight`
 --   with_idle t r          == after a turn of round r of a worker that held nothing when the round began

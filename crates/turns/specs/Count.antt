@@ -3,8 +3,7 @@
 --   Restable t turns    == so many idle turns more can be counted in 32 bits
 --   recounted t r idle  == the tally t with other counts of rounds and idle turns
 --   with_idles t r turns == the tally t after so many idle turns of round r, one of whose turns has been taken
---   with_miss t bare     == the tally t after a miss, which is bare where `bare` is 1 and of an idle victim where it is 0
-use Rattle.std.specs.Prelude.{ℕ, ◌+◌, ◌-◌, ◌<◌}
+use Rattle.std.specs.Prelude.{ℕ, ◌+◌, ◌<◌}
 use Rattle.runs.specs.declared.tally.Tally.{Tally}
 
 pub record Countable (t : Tally) : Type 0 where
@@ -31,15 +30,3 @@ recounted t r idle = record {
 
 abbrev pub with_idles : Tally → ℕ → ℕ → Tally
 with_idles t r turns = recounted t r (t.idle + turns)
-
-abbrev pub with_miss : Tally → ℕ → Tally
-with_miss t bare = record {
-  rounds = t.rounds;
-  actions = t.actions;
-  idle = t.idle;
-  requests = t.requests;
-  steals = t.steals;
-  bare = t.bare + bare;
-  idle_victim = t.idle_victim + (1 - bare);
-  peak = t.peak;
-}

@@ -2,10 +2,11 @@
 // and the misses of both kinds one together; no other function names a count that it moves.
 // Every turn moves its counts where the tally stands, lent by `&mut` to one of two functions: document 01's named form. Whoever calls
 // `acted` or `idled` passes a tally by value.
-ghost use Rattle.std.specs.Prelude.{◌≡◌, ◌≤◌, ◌<◌};
-ghost use Rattle.turns.specs.Count.{Countable, Restable, with_idles, with_miss};
-ghost use Rattle.runs.specs.Tally.{no_counts, with_action, with_request, with_steal};
+ghost use Rattle.std.specs.Prelude.{◌≡◌, ◌<◌, Err};
+ghost use Rattle.turns.specs.Count.{Countable, Restable, with_idles};
+ghost use Rattle.runs.specs.Tally.{no_counts, with_action, with_request, with_steal, with_service};
 
+use runs::miss::Miss;
 use runs::tally::Tally;
 
 // As a run begins; `frame` is job 0's.
@@ -59,15 +60,14 @@ pub fn with_steal(t: Tally) -> Tally
     }
 }
 
-// A service that gave none. `bare` is 1 where the victim holds a job, and 0 where it holds none. The kind of a miss is hard to foresee, so
-// that it is added and not branched on.
-pub fn with_miss(t: Tally, bare: u32) -> Tally
-    requires { Countable t × (bare ≤ 1) }
-    ensures { result ≡ with_miss t bare }
+// A service that gave none. The kind of a miss is hard to foresee, so that it is added and not branched on.
+pub fn with_miss(t: Tally, miss: Miss) -> Tally
+    requires { Countable t }
+    ensures { result ≡ with_service t (Err miss) }
 {
     Tally {
-        bare: t.bare + bare,
-        idle_victim: t.idle_victim + (1 - bare),
+        bare: t.bare + u32::from(miss == Miss::Bare),
+        idle_victim: t.idle_victim + u32::from(miss == Miss::IdleVictim),
         ..t
     }
 }

@@ -1,18 +1,15 @@
 -- A run begins: the progress as it is made, action by action, and all objects as they are made, which stand for the run's start.
---   started_none, started_next == the progress before the first action, where every place is 0, and with one action more
+--   started_none  == the progress before the first action, where every place is 0
 --   first_progressed == so is the progress of a run that begins
 --   in_few        == an accepted plan has at most 2,048 actions
 --   first_between == the objects as they are made: no round is done
-use Prim.Native.Nat.{ℕ, suc, ◌+◌, ◌≤◌, ◌<◌}
+use Prim.Native.Nat.{ℕ, suc, ◌+◌, ◌≤◌}
 use mathlib.Core.Path.{◌≡◌, refl, sym, ap, ◌∙◌}
-use mathlib.Core.Logic.{by_cases}
 use mathlib.Core.List.{List, []}
 use native.Mathlib.Nat.{zero-mod}
 use native.Mathlib.Omega.{arith}
-use native.Mathlib.Decide.{ℕ_discrete}
 use lib.Dec.{ltb}
-use lib.ListN.{length, get_or, set, replicate, length-replicate, get_or-replicate, length-set}
-use lib.Seq.{get_or-set_same, get_or-set_other}
+use lib.ListN.{length, get_or, set, replicate, length-replicate, get_or-replicate}
 use Rattle.plan.specs.Plan.{Plan, total, placed, no_placed, entering as entering_of}
 use Rattle.plan.specs.Sheet.{frame_of}
 use Rattle.plan.proofs.Laws.Lists.{array_at, zeros_at}
@@ -33,7 +30,7 @@ use Rattle.runs.proofs.Laws.Coursed.{start_weight}
 use Rattle.crew.proofs.Laws.Crews.{crewed_none, crewed_first, crewed_others}
 use Rattle.crew.proofs.Laws.Lines.{line_first_zero}
 use Rattle.deques.specs.Dequed.{len_at, deque_at, Dequed}
-use Rattle.turns.specs.Progress.{with_missing, Progressed}
+use Rattle.turns.specs.Progress.{Progressed}
 use Rattle.turns.proofs.Laws.Missing.{missing_start}
 use Rattle.rounds.specs.Account.{is_idle, opened}
 use Rattle.rounds.specs.Rounds.{Started, RunIn, RunGiven}
@@ -47,20 +44,6 @@ module _ {entering progress : List ℕ} where
     spends = λ j h. ap (λ (l : List ℕ). get_or l (256 + j) 0) e ∙ get_or-replicate 2560 (256 + j) 0 0 (omega arith);
     misses = λ k h. absurd (omega arith);
   }
-
-  pub started_next : {k : ℕ} → Started k entering progress → k < 2048
-      → Started (k + 1) entering (with_missing progress k (get_or entering k 0))
-  started_next {k} s b = record {
-    long = length-set progress (512 + k) joins ∙ s.long;
-    counts = λ j h. get_or-set_other progress (512 + k) j joins 0 (omega arith) ∙ s.counts j h;
-    spends = λ j h. get_or-set_other progress (512 + k) (256 + j) joins 0 (omega arith) ∙ s.spends j h;
-    misses = λ i h. by_cases (ℕ_discrete i k)
-        (λ e. rw e (get_or-set_same progress (512 + k) joins 0 (omega (arith, s.long))))
-        (λ f. get_or-set_other progress (512 + k) (512 + i) joins 0 (omega (arith, f)) ∙ s.misses i (omega (arith, f)));
-  }
-    where
-      joins : ℕ
-      joins = get_or entering k 0
 
 -- of any kind of run
 pub first_progressed : {actions : ℕ} {plan entering progress : List ℕ} {p : Plan} → RunIn actions plan entering p

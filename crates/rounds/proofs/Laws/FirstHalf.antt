@@ -2,7 +2,7 @@
 --   begun_run     == the run as a round begins
 --   turns_begin   == .. and the objects
 --   between_early, turns_early == a round is one of at most 30,720
---   turns_known   == the lowest worker that is left is one of those that have not had their turns
+--   turns_known, turns_worker == the lowest worker that is left is one of those that have not had their turns; it is one of the sixteen
 --   turns_moment, turns_turning, turns_notable == the moment of its turn, what the turn is given, and what noting it is given
 --   turns_next    == its turn leaves the objects so
 --   turns_restable == nobody is left: the idle turns behind the last one can be counted
@@ -46,7 +46,7 @@ use Rattle.turns.proofs.Laws.Running.{run_fit, run_sound, run_counts, run_counta
 use Rattle.rounds.specs.declared.account.Account.{Account}
 use Rattle.rounds.specs.Account.{is_idle, rested, Turnable, TurnNoted}
 use Rattle.rounds.specs.Rounds.{RunLeft}
-use Rattle.rounds.proofs.Laws.Standing.{Fitted, Manned, Done, Begun, Between, InTurns, InLays, after_turns}
+use Rattle.rounds.proofs.Laws.Standing.{Fitted, Manned, Done, Begun, Between, InTurns, InLays, Throughout, after_turns, one_of}
 use Rattle.rounds.proofs.Laws.Halves.{turns_requests, done_kept}
 use Rattle.rounds.proofs.Laws.Idling.{Idled, turns_gap, turns_rest}
 use Rattle.rounds.proofs.Laws.Queues.{turns_queued}
@@ -119,7 +119,7 @@ module _ {S : Setting} {plan : List ℕ} (g : Fitted S plan) where
 
     -- at the lowest worker that is left
     module _ {w : ℕ} (low : Lowest left w) where
-      pub turns_known : (past ≤ w) × (w < n) × (w < 16)
+      turns_known : (past ≤ w) × (w < n) × (w < 16)
       turns_known = let h = left_known z.walk low in (left_ahead z.walk low, h, omega (arith, g.most))
 
       gap : Idled (w - past) (at past) (at w)
@@ -252,3 +252,9 @@ module _ {S : Setting} {plan : List ℕ} (g : Fitted S plan) where
             done = all_done;
             dequed = rw rest.deques z.dequed;
           }
+
+pub turns_worker : {m actions r idle left past cursor w : ℕ} {choices plan entering lines progress deques rows : List ℕ} {a : Account}
+    {workers : List Worker}
+    → Throughout m actions choices plan entering (λ S. InTurns S r idle left past a workers cursor lines progress deques rows)
+    → Lowest left w → w < 16
+turns_worker t low = let (p, f, z) = one_of t in (turns_known f z low).2

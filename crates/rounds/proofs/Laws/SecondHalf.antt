@@ -17,7 +17,8 @@ use native.Mathlib.Omega.{arith}
 use borrow.Author.Tests.{ltb-true, ltb-false, lt-ltb}
 use lib.Dec.{ltb}
 use lib.ListN.{length, get_or, set, length-append}
-use Rattle.runs.specs.declared.taken.Taken.{Taken}
+use Rattle.std.specs.Prelude.{Result}
+use Rattle.runs.specs.declared.miss.Miss.{Miss}
 use Rattle.runs.specs.declared.worker.Worker.{Worker}
 use Rattle.runs.specs.declared.worker.Worker.TheVariants.{Idle, Waiting}
 use Rattle.runs.specs.Setting.{Setting, count_in}
@@ -308,14 +309,14 @@ module _ {S : Setting} {plan : List ℕ} (g : Fitted S plan) where
         waits_on = oldest_waits v S.workers now_served.workers g.most picked
 
         -- what is taken for it
-        abbrev top : Taken
+        abbrev top : Result ℕ Miss
         top = taken_from now_served v
 
         served : after_serves S r (suc v) z.state ≡ given v w top now_served
         unfolding serve
         served = serves_more v ∙ ap (serves_step v) serves_reached ∙ ap (λ x. serve v x now_served) picked
 
-        served_asking : {more : ℕ} → more ≡ waiting_at lines' v → {x : Taken} {a' : Account} → ServiceNoted a v more w x a'
+        served_asking : {more : ℕ} → more ≡ waiting_at lines' v → {x : Result ℕ Miss} {a' : Account} → ServiceNoted a v more w x a'
             → Asking S.workers (suc r * 16) a'.victims S.choices cursor lines' (given v w top now_served)
         unfolding serves_line serve given
         served_asking m e = record {
@@ -326,7 +327,7 @@ module _ {S : Setting} {plan : List ℕ} (g : Fitted S plan) where
               e.victims (ap (ltb 0) (sym m));
         }
 
-        pub serves_next : {x : Taken} {deques' : List ℕ}
+        pub serves_next : {x : Result ℕ Miss} {deques' : List ℕ}
             → TookTop v (member a.holders v) x deques' (after_serves S r v z.state).deques
             → {more : ℕ} → more ≡ waiting_at lines' v → {a' : Account} → ServiceNoted a v more w x a' → {left' : ℕ} → Rest left left'
             → InServes S r left' a' (set workers w (thief x)) cursor lines' progress deques' rows

@@ -13,7 +13,8 @@ use native.Mathlib.Decide.{dec_lt}
 use lib.Dec.{ltb}
 use lib.ListN.{length, set, get_or-eq_default}
 use Rattle.plan.specs.Plan.{Plan}
-use Rattle.runs.specs.declared.taken.Taken.{Taken}
+use Rattle.std.specs.Prelude.{Result}
+use Rattle.runs.specs.declared.miss.Miss.{Miss}
 use Rattle.runs.specs.declared.tally.Tally.{Tally}
 use Rattle.runs.specs.declared.worker.Worker.{Worker}
 use Rattle.runs.specs.declared.worker.Worker.TheVariants.{Idle, Holding, Waiting}
@@ -51,7 +52,7 @@ module _ {n : ℕ} {p : Plan} {s : State} {a : Account} {workers : List Worker} 
     idlers = crewed_mark is_idle s.workers Idle (Waiting v r) m.idlers inside q.idlers known;
   })
 
-  pub given_manned : (v more : ℕ) (x : Taken) {a' : Account} → ServiceNoted a v more w x a'
+  pub given_manned : (v more : ℕ) (x : Result ℕ Miss) {a' : Account} → ServiceNoted a v more w x a'
       → Manned n a' (set workers w (thief x)) p (given v w x s)
   unfolding given
   given_manned v more x q = record {
