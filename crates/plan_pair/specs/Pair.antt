@@ -17,7 +17,7 @@
 --   Result frame s t written  == the bytes `written` hold the result of the plans that s and t hold, of which that is so
 --   Paired frame s t r bytes  == so it is with the first of those bytes, as many as the answer r tells
 use Rattle.std.specs.Prelude.{ℕ, zero, suc, ◌+◌, max, ◌≡◌, Bool, true, false, List, [], ◌∷◌, ◌++◌, map, length, take, eqb, leb, Ok}
-use Rattle.std.specs.Prelude.{Result as Answer}
+use Rattle.std.specs.Prelude.{Result as Returned}
 use Rattle.plan.specs.Test.{both}
 use Rattle.plan.specs.Refusal.{Outcome, refused, accepted}
 use Rattle.plan.specs.Plan.{Action, Job, Plan, total}
@@ -108,5 +108,5 @@ pub record Result (frame : ℕ) (s t written : List ℕ) : Type 0 where
       ≡ accepted (record { form = pair_form first.form second.form; plan = paired frame first.plan second.plan })
   pub together : Together frame first.plan second.plan (paired frame first.plan second.plan)
 
-abbrev pub Paired : ℕ → List ℕ → List ℕ → Answer ℕ Refusal → List ℕ → Type 0
+abbrev pub Paired : ℕ → List ℕ → List ℕ → Returned ℕ Refusal → List ℕ → Type 0
 Paired frame s t r bytes = (n : ℕ) → r ≡ Ok n → Result frame s t (take n bytes)
