@@ -10,7 +10,7 @@ ghost use Rattle.plan_table.specs.GivenRows.{LaidAs};
 mod rows;
 
 use crate::rows::{table_rules, take_rows, write_rows};
-use plan::reader::{Found, is_form, read_into};
+use plan::reader::{is_form, read_into};
 use plan::refusal::Refusal;
 use plan::rules::{join_rules, spawn_rules};
 use plan::sheet::{PLACES, Sheet};
@@ -22,16 +22,12 @@ pub fn plan_to_table(bytes: &[u8], rows: &mut [u16]) -> Result<usize, Refusal>
 {
     let mut plan = [0u16; PLACES];
     let mut entering = [0u8; 2048];
-    match read_into(bytes, &mut plan, &mut entering) {
-        Found::Refused(cause) => Err(cause),
-        Found::Plan { actions, .. } => {
-            if rows.len() < 5 * actions {
-                return Err(Refusal::Short);
-            }
-            write_rows(actions, &plan, rows);
-            Ok(actions)
-        }
+    let actions = read_into(bytes, &mut plan, &mut entering)?.actions;
+    if rows.len() < 5 * actions {
+        return Err(Refusal::Short);
     }
+    write_rows(actions, &plan, rows);
+    Ok(actions)
 }
 
 // Writes the bytes, in a form, of the plan whose jobs and actions the array has, where it keeps its rules and there is room, and
