@@ -16,15 +16,15 @@ use plan::sheet::{PLACES, Sheet, cost_at};
 use plan_writer::encode;
 
 // Reads the plan that the bytes hold into its array, where they are of the form that is expected.
-fn read_as(form: u32, s: &[u8], plan: &mut Sheet) -> Found
+fn read_as(form: u32, s: &[u8], plan: &mut Sheet) -> Result<Found, Refusal>
     requires { Blank plan.old }
     ensures { ReadAs form s.now result plan.new }
 {
-    let Field::Cut { value, .. } = cut(s, 0, 8) else {
-        return Found::Refused(Refusal::RanOut);
+    let Some(Field { value, .. }) = cut(s, 0, 8) else {
+        return Err(Refusal::RanOut);
     };
     if value != form {
-        return Found::Refused(Refusal::Form);
+        return Err(Refusal::Form);
     }
     let mut entering = [0u8; 2048];
     read_into(s, plan, &mut entering)
@@ -49,10 +49,8 @@ pub fn to_form_2(plan: &[u8], bytes: &mut [u8]) -> Result<usize, Refusal>
     ensures converted { Converted 1 2 plan.now result bytes.new }
 {
     let mut sheet = [0u16; PLACES];
-    match read_as(1, plan, &mut sheet) {
-        Found::Refused(cause) => Err(cause),
-        Found::Plan { jobs, actions, .. } => encode(2, jobs, actions, &sheet, bytes),
-    }
+    let found = read_as(1, plan, &mut sheet)?;
+    encode(2, found.jobs, found.actions, &sheet, bytes)
 }
 
 // Writes, in form 1, the plan that bytes of form 2 hold, where all its costs are 1, and tells the number of bytes.
@@ -61,13 +59,9 @@ pub fn to_form_1(plan: &[u8], bytes: &mut [u8]) -> Result<usize, Refusal>
     ensures converted { Converted 2 1 plan.now result bytes.new }
 {
     let mut sheet = [0u16; PLACES];
-    match read_as(2, plan, &mut sheet) {
-        Found::Refused(cause) => Err(cause),
-        Found::Plan { jobs, actions, .. } => {
-            if !costs_one(jobs, actions, &sheet) {
-                return Err(Refusal::Cost);
-            }
-            encode(1, jobs, actions, &sheet, bytes)
-        }
+    let found = read_as(2, plan, &mut sheet)?;
+    if !costs_one(found.jobs, found.actions, &sheet) {
+        return Err(Refusal::Cost);
     }
+    encode(1, found.jobs, found.actions, &sheet, bytes)
 }
