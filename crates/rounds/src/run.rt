@@ -45,6 +45,8 @@ pub fn run_rounds(
     let mut cursor = 0;
     let mut r = 0;
     let mut a = opened(n, frame_of(plan, 0));
+    // `r` counts the rounds to no end that is known beforehand, so that no `for` is plainer; the walks below go over a set's bits and
+    // count no index.
     loop {
         r += 1;
         let were_idle = a.idlers;

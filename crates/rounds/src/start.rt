@@ -9,7 +9,7 @@ pub fn start_progress(actions: usize, entering: &[u8; 2048], progress: &mut Prog
     requires { (actions ≤ 2048) × (length entering.now ≡ 2048) × (progress.old ≡ replicate 2560 0) }
     ensures { Started actions entering.now progress.new }
 {
-    for k in 0..actions {
-        set_missing(progress, k, entering[k]);
+    for (k, &joins) in entering[..actions].iter().enumerate() {
+        set_missing(progress, k, joins);
     }
 }

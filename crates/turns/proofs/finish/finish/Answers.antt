@@ -1,15 +1,8 @@
 -- `finish::finish` meets its contract.
-use Prim.Native.Nat.{◌<◌}
 use mathlib.Core.Path.{sym, ◌∙◌}
 use native.Mathlib.Omega.{arith}
 use Rattle.turns.proofs.Laws.Joins.{finish_room, finish_counts, finish_skips, finish_parent, finish_place, finish_stalls, finish_told}
 use Rattle.turns.proofs.finish.finish.Goals as goal
-use Rattle.turns.proofs.finish.finish.Goals.{After-parent_of-q}
-
-parent_small : (c : After-parent_of-q) → c.parent_of-q.result < 255
-parent_small c =
-    finish_parent c.requires.1 c.count_done.ensures c.target_at-sent.ensures.0 c.if-sent-eq0.false
-    c.parent_of-q.ensures.0
 
 pub count_done-requires : goal.count_done-requires
 count_done-requires c = finish_counts c.requires.1
@@ -24,7 +17,9 @@ pub parent_of-q-requires : goal.parent_of-q-requires
 parent_of-q-requires c = (finish_room c.requires.1).0
 
 pub first_of-requires : goal.first_of-requires
-first_of-requires c = omega (arith, parent_small (goal.at.first_of-requires c).After-parent_of-q)
+first_of-requires c =
+    let small = finish_parent c.requires.1 c.count_done.ensures c.target_at-sent.ensures.0 c.if-sent-eq0.false c.parent_of-q.ensures.0 in
+    omega arith
 
 pub take_join-requires : goal.take_join-requires
 take_join-requires c =
@@ -37,7 +32,9 @@ returns-then-take_join-ne0 c d g =
     c.first_of.ensures.0 c.take_join.ensures (omega (arith, c.if-take_join-ne0.true))
 
 pub done_of-requires : goal.done_of-requires
-done_of-requires c = omega (arith, parent_small (goal.at.done_of-requires c).After-parent_of-q)
+done_of-requires c =
+    let small = finish_parent c.requires.1 c.count_done.ensures c.target_at-sent.ensures.0 c.if-sent-eq0.false c.parent_of-q.ensures.0 in
+    omega arith
 
 pub returns : goal.returns
 returns c d g =
