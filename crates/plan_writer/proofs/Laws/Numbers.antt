@@ -1,6 +1,5 @@
 -- The bits of a number plus 1 and of a cost, an action's fields in one, and all of a plan's bits where the field writer wrote them.
---   number_value  == the number that the bits stand for, where the number plus 1 is not 0
---   number_length, number_few == how many they are
+--   number_few == how many bits a number plus 1 takes at most; number_binary == each is 0 or 1
 --   cost_none, cost_some, cost_few == the bits of a cost by the form, and how many they are
 --   numbers_value, numbers_fit == two numbers plus 1 in one field
 --   fields_plain, fields_cost  == these and no cost, or a cost, in one field
@@ -8,7 +7,7 @@
 --   header_field  == a frame and a size in one field
 --   plan_written  == where all of a plan's bits are written and the last byte is filled, the buffer holds the plan's bytes
 use Prim.Native.Nat.{ℕ, zero, suc, ◌+◌, ◌*◌, ◌/◌, ◌^◌, ◌≤◌, ◌<◌}
-use mathlib.Core.Path.{◌≡◌, refl, sym, ap, ap₂, ◌∙◌}
+use mathlib.Core.Path.{◌≡◌, sym, ap, ap₂, ◌∙◌}
 use mathlib.Core.Bool.{Bool, true, false}
 use mathlib.Core.List.{List, [], ◌++◌, append-nil}
 use native.Mathlib.Omega.{arith}
@@ -25,14 +24,6 @@ use Rattle.plan_writer.specs.Writer.{number_bits, cost_bits, plan_bits, plan_byt
 use Rattle.plan_writer.specs.ActionBits.{fields_of}
 use Rattle.fields.proofs.Laws.Bits.{Binary, append_binary, bits_of_binary, bits_of_number, number_append, number_below, number_bits_of, pack_length}
 use Rattle.fields.proofs.Laws.Puts.{empty, sink_length, drop_later}
-
-pub number_value : (x : ℕ) → (x ≡ 0 → ⊥) → x ≤ 256 → x + 255 ≡ number (number_bits x)
-number_value zero f h = absurd (f refl)
-number_value (suc v) f h = omega (arith, number_bits_of 8 v h)
-
-pub number_length : (x : ℕ) → (x ≡ 0 → ⊥) → length (number_bits x) ≡ 9
-number_length zero f = absurd (f refl)
-number_length (suc v) f = refl
 
 pub number_few : (x : ℕ) → length (number_bits x) ≤ 9
 number_few zero = omega arith

@@ -1,10 +1,8 @@
 -- What was written is read again.
---   no_count   == a refusal tells of nothing that was written
 --   again      == the bytes of an accepted plan, in a form that its costs fit, hold that plan
 --   read_back  == and so do the first bytes of a buffer that it was written into
 use Prim.Native.Nat.{ℕ}
-use Rattle.std.specs.Prelude.{Result, Ok, Err}
-use native.Mathlib.Omega.{arith}
+use Rattle.std.specs.Prelude.{Result, Ok}
 use mathlib.Core.Path.{◌≡◌, sym, ap, ◌∙◌}
 use mathlib.Core.List.{List}
 use lib.Dec.{T}
@@ -19,9 +17,6 @@ use Rattle.plan_writer.specs.Writer.{plan_bytes}
 use Rattle.plan_writer.specs.Written.{Written, encoded, answer_of}
 use Rattle.plan_writer.proofs.Laws.Answers.{encoded_front}
 use Rattle.plan_writer.proofs.Laws.PlanBytes.{write_read}
-
-pub no_count : (P : ℕ → Type 0) (cause : Refusal) (n : ℕ) → Err cause ≡ Ok n → P n
-no_count P cause n e = absurd (let z : ◌≡◌ {A = ℕ} 0 1 = cc in omega arith)
 
 module _ (form : ℕ) (p : Plan) (known : T (is_form form)) (costs : T (costs_fit form p)) (ok : Accepted p) where
   pub again : read_plan (plan_bytes form p) ≡ accepted (record { form = form; plan = p })

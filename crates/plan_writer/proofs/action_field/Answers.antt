@@ -24,15 +24,6 @@ numbers c =
     let s = c.number_scale.ensures in
     (numbers_value a.child a.target _ _ _ v s c.number_field-2.ensures, numbers_fit a.child a.target _ _ _ v s c.number_field-2.ensures)
 
-pub overflow_add-numbers : goal.overflow_add-numbers
-overflow_add-numbers c = omega (arith, (numbers c).1)
-
-pub overflow_mul-result : goal.overflow_mul-result
-overflow_mul-result c = omega (arith, (numbers (goal.at.overflow_mul-result c).After-number_field-2).1)
-
-pub overflow_add-result : goal.overflow_add-result
-overflow_add-result c = omega (arith, (numbers (goal.at.overflow_add-result c).After-number_field-2).1)
-
 pub returns-then-form-eq1 : goal.returns-then-form-eq1
 returns-then-form-eq1 c =
     let a = c.args in

@@ -11,9 +11,6 @@ use Rattle.plan_writer.proofs.Laws.Answers.{encoded_short, encoded_whole}
 use Rattle.plan_writer.proofs.encode.Goals as goal
 use Rattle.plan_writer.proofs.encode.Goals.{After-plan_bits}
 
-pub plan_bits-requires : goal.plan_bits-requires
-plan_bits-requires c = c.requires.0
-
 -- what the bytes take
 bits : (c : After-plan_bits) (p : Plan) → let a = c.args in
     RuledIn a.jobs a.actions a.plan.now p → (c.plan_bits.result + 7) / 8 ≡ length (plan_bytes a.form p)

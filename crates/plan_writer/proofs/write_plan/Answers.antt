@@ -8,7 +8,7 @@ use lib.ListN.{length, length-append}
 use Rattle.fields.specs.Field.{bits_of}
 use Rattle.fields.specs.Sink.{Put}
 use Rattle.plan_writer.specs.ActionBits.{action_bits}
-use Rattle.fields.proofs.Laws.Puts.{empty, empty_sound, put_none, put_length, put_both}
+use Rattle.fields.proofs.Laws.Puts.{empty, empty_sound, put_length, put_both}
 use Rattle.plan.proofs.Laws.Found.{ruled_few}
 use Rattle.plan_writer.proofs.Laws.Numbers.{plan_written}
 use Rattle.plan_writer.proofs.Laws.PlanBits.{up_to, up_to_rises, plan_up_to, plan_room, place_writable}
@@ -44,9 +44,6 @@ put-sink-requires-2 c =
       width_bound = (omega arith, omega (arith, ruled_few _ _ _ _ c.requires.1.given), omega (arith, room (goal.at.put-sink-requires-2 c).Start, put_length (empty_sound _) w, w.same));
     }
 
-pub loop-k-init : goal.loop-k-init
-loop-k-init c = put_none _ _ c.put-sink-2.ensures.sound
-
 pub put_action-sink-requires : goal.put_action-sink-requires
 put_action-sink-requires c =
     let f = action_bits c.args.form c.args.plan.now in (
@@ -65,9 +62,6 @@ finish-requires c =
       sound = c.loop-k.invariant.sound;
       bits_bound = omega (arith, room (goal.at.finish-requires c).Start, rw e at (reach (goal.at.finish-requires c).At-loop-k));
     }
-
-pub shape_of-out : goal.shape_of-out
-shape_of-out c = omega (arith, reach (goal.at.shape_of-out c).At-loop-k, c.finish.ensures.same)
 
 pub returns : goal.returns
 returns c p g =
