@@ -1,5 +1,5 @@
 -- What the test of a schedule's rules keeps from row to row. Private functions alone cite it.
---   FirstTold a m r       == the answer r is the first round of a span that begins in round 1 or later and is of a worker below m, or 0
+--   FirstTold a m r       == the answer r is the first round of a span that begins in round 1 or later and is of a worker below m, or none
 --   Later span x k        == the span of row k begins after row x
 --   InOrder p span k      == it begins after each action that the one at place k must follow
 --   Joined p span k       == after each that sends it a join
@@ -9,16 +9,16 @@
 --   Stood p span k s      == the walk over the actions stands at place k as s says: in that job, whose actions end there, or at their
 --                            end; where k is a place of the job, the round in s tells
 --   Seen p m n span       == the first n spans begin in round 1 or later, are of workers below m and in order, and no two meet
-use Rattle.std.specs.Prelude.{ℕ, ◌+◌, ◌≤◌, ◌<◌, ◌≡◌, T, length, get_or, take}
+use Rattle.std.specs.Prelude.{ℕ, ◌+◌, ◌≤◌, ◌<◌, ◌≡◌, T, length, get_or, take, Option, Some, None}
 use Rattle.plan.specs.Plan.{Plan, size, total, placed, no_placed, parent, spawn_at, enters}
 use Rattle.plan_measure.specs.Measure.{must_follow}
 use Rattle.courses.specs.Schedule.{Span}
 use Rattle.checker.specs.declared.rules.Standing.{Standing}
 use Rattle.checker.specs.Buckets.{Meet}
 
-pub record FirstTold (a : Span) (m r : ℕ) : Type 0 where
-  pub broken : r ≡ 0 → a.worker < m → 1 ≤ a.first → ⊥
-  pub kept : 1 ≤ r → (a.worker < m) × (r ≡ a.first)
+abbrev pub FirstTold : Span → ℕ → Option ℕ → Type 0
+FirstTold a m None = a.worker < m → 1 ≤ a.first → ⊥
+FirstTold a m (Some r) = (a.worker < m) × (1 ≤ a.first) × (r ≡ a.first)
 
 abbrev pub Later : (ℕ → Span) → ℕ → ℕ → Type 0
 Later span x k = (span x).last < (span k).first

@@ -4,8 +4,8 @@
 --   line_of plan k       == that of the action at place k. What stands as job 0's parent may be any number of 16 bits: the remainder
 --                          keeps it an index, and what is looked up there is not used, since job 0 sends no join
 --   Sending k plan p    == the array holds the plan p, of which k is a place
---   Unlined ..          == the array holds a plan p of so many actions, and no sender is lined up
-use Rattle.std.specs.Prelude.{ℕ, zero, suc, ◌+◌, ◌%◌, ◌<◌, ◌≡◌, List, replicate}
+--   Senders actions plan p == the array holds a plan p of so many actions
+use Rattle.std.specs.Prelude.{ℕ, zero, suc, ◌+◌, ◌%◌, ◌<◌, ◌≡◌, List}
 use Rattle.plan.specs.Plan.{Plan, total}
 use Rattle.plan.specs.Sheet.{first_of, parent_of, job_at, target_at, Planned}
 
@@ -20,8 +20,6 @@ pub record Sending (k : ℕ) (plan : List ℕ) (p : Plan) : Type 0 where
   pub within : k < total p
   pub planned : Planned plan p
 
-pub record Unlined (actions : ℕ) (plan latest prior : List ℕ) (p : Plan) : Type 0 where
+pub record Senders (actions : ℕ) (plan : List ℕ) (p : Plan) : Type 0 where
   pub all : actions ≡ total p
   pub planned : Planned plan p
-  pub lines : latest ≡ replicate 2049 0
-  pub senders : prior ≡ replicate 2048 0

@@ -4,14 +4,13 @@ ghost use Rattle.checker.specs.Rows.{span_from};
 ghost use Rattle.checker.specs.Busy.{Put, Taken};
 
 use crate::buckets::bucket_of;
-use numbers::units16;
 
 // Puts rounds of a block into the set of a bucket: whether none of them was there.
 fn put(busy: &mut [u16; 4096], bucket: usize, rounds: u32) -> bool
     requires { (bucket < 4096) × (rounds < 65536) × (length busy.old ≡ 4096) }
     ensures { Put bucket rounds busy.old busy.new result }
 {
-    let there = units16(busy[bucket]);
+    let there = u32::from(busy[bucket]);
     busy[bucket] = (there | rounds) as u16;
     there & rounds == 0
 }

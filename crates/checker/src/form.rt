@@ -6,53 +6,43 @@ ghost use Rattle.checker.specs.Rows.{pair, word};
 ghost use Rattle.checker.specs.Formed.{Formed, Headed, WordsTold};
 
 use crate::rows::Rows;
-use fields::field::{Field, cut};
-use numbers::units8;
+use fields::field::cut;
 use plan::reader::filled;
 
-// The worker count of a header of a form for so many actions, or 0 where the header is not well formed: a worker count of 0 is
-// not.
-fn header(form: u32, schedule: &[u8], actions: usize) -> usize
+// The worker count of a header of a form for so many actions, where the header is well formed: a worker count of 0 is not. Each field
+// is opened by `let .. else`, the form that document 01 names.
+fn header(form: u32, schedule: &[u8], actions: usize) -> Option<usize>
     ensures { Headed form schedule.now actions result }
 {
-    let Field::Cut {
-        value: written,
-        next: after_form,
-    } = cut(schedule, 0, 8)
-    else {
-        return 0;
+    let Some(written) = cut(schedule, 0, 8) else {
+        return None;
     };
-    let Field::Cut {
-        value: workers,
-        next: after_workers,
-    } = cut(schedule, after_form, 5)
-    else {
-        return 0;
+    let Some(workers) = cut(schedule, written.next, 5) else {
+        return None;
     };
-    let Field::Cut {
-        value: number,
-        next: after_count,
-    } = cut(schedule, after_workers, 12)
-    else {
-        return 0;
+    let Some(number) = cut(schedule, workers.next, 12) else {
+        return None;
     };
-    let Field::Cut { value: zeros, .. } = cut(schedule, after_count, 7) else {
-        return 0;
+    let Some(zeros) = cut(schedule, number.next, 7) else {
+        return None;
     };
-    let count = number as usize;
-    if written != form {
-        return 0;
+    let count = number.value as usize;
+    if written.value != form {
+        return None;
     }
-    if 16 < workers {
-        return 0;
+    if workers.value == 0 {
+        return None;
+    }
+    if 16 < workers.value {
+        return None;
     }
     if count != actions {
-        return 0;
+        return None;
     }
-    if zeros != 0 {
-        return 0;
+    if zeros.value != 0 {
+        return None;
     }
-    workers as usize
+    Some(workers.value as usize)
 }
 
 // How many bits a row has: its round and, in the last four, its worker.
@@ -67,7 +57,7 @@ fn bytes_at(schedule: &[u8], k: usize) -> u32
     requires { 5 + 2 * k < length schedule.now }
     ensures { (result ≡ pair schedule.now k) × (result < 65536) }
 {
-    units8(schedule[4 + 2 * k]) * 256 + units8(schedule[5 + 2 * k])
+    u32::from(schedule[4 + 2 * k]) * 256 + u32::from(schedule[5 + 2 * k])
 }
 
 // The bits of row k, which are there, as one number.
@@ -78,10 +68,10 @@ fn row_at(width: usize, schedule: &[u8], k: usize) -> u32
     if width == 16 {
         return bytes_at(schedule, k);
     }
-    let Field::Cut { value, .. } = cut(schedule, 32 + width * k, width) else {
-        return 0;
+    let Some(field) = cut(schedule, 32 + width * k, width) else {
+        unreachable!();
     };
-    value
+    field.value
 }
 
 // Reads the rows, unless one has a round of 0.
@@ -89,36 +79,31 @@ fn read_rows(width: usize, schedule: &[u8], actions: usize, rows: &mut Rows) -> 
     requires { (width ≤ 20) × (actions ≤ 2048) × (32 + width * actions ≤ 8 * length schedule.now) × (length rows.old ≡ 2048) }
     ensures { WordsTold width schedule.now actions rows.new result }
 {
-    let mut k = 0;
-    while k < actions {
+    for k in 0..actions {
         let row = row_at(width, schedule, k);
         if row < 16 {
             return false;
         }
         rows[k] = row;
-        k += 1;
     }
     true
 }
 
-// Reads the schedule's rows and tells its worker count where it is well formed for a plan of that form with so many actions, or 0.
-pub fn read_schedule(form: u32, schedule: &[u8], actions: usize, rows: &mut Rows) -> usize
+// Reads the schedule's rows and tells its worker count, where it is well formed for a plan of that form with so many actions.
+pub fn read_schedule(form: u32, schedule: &[u8], actions: usize, rows: &mut Rows) -> Option<usize>
     requires { (actions ≤ 2048) × (length rows.old ≡ 2048) }
     ensures { Formed form schedule.now actions result rows.new }
 {
     let width = row_width(form);
     if schedule.len() != 4 + (width * actions + 7) / 8 {
-        return 0;
+        return None;
     }
-    let workers = header(form, schedule, actions);
-    if workers == 0 {
-        return 0;
-    }
+    let workers = header(form, schedule, actions)?;
     if !read_rows(width, schedule, actions, rows) {
-        return 0;
+        return None;
     }
     if !filled(schedule, 32 + width * actions) {
-        return 0;
+        return None;
     }
-    workers
+    Some(workers)
 }

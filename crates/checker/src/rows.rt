@@ -2,8 +2,6 @@
 ghost use Rattle.std.specs.Prelude.{◌<◌, ◌≡◌};
 ghost use Rattle.checker.specs.Chains.{entry};
 
-use numbers::wide32;
-
 pub type Rows = [u32; 2048];
 
 // Row k.
@@ -11,5 +9,5 @@ pub fn row_of(rows: &Rows, k: usize) -> usize
     requires { k < 2048 }
     ensures { (result ≡ entry rows.now k) × (result < 4294967296) }
 {
-    wide32(rows[k])
+    rows[k] as usize
 }

@@ -6,11 +6,11 @@ ghost use Rattle.checker.specs.Given.{SpawnGiven, StandGiven, RulesGiven};
 ghost use Rattle.checker.specs.Rows.{span_at};
 ghost use Rattle.checker.specs.Judging.{FirstTold, spawn_round, Stood};
 
-use crate::buckets::{back_from, bucket_of, enter, latest_in, meets, more_of};
+use crate::buckets::{bucket_of, meets, more_of};
 use crate::busy::take;
+use crate::chains::Lines;
 use crate::rows::{Rows, row_of};
 use crate::senders::line_up;
-use numbers::wide16;
 use plan::sheet::{Sheet, cost_at, first_of, parent_of, spawn_of};
 
 // Where the walk over the actions stands: the job, the place where its actions end, and the round that the span of the action at
@@ -47,27 +47,26 @@ fn stand(rows: &Rows, k: usize, s: Standing, plan: &Sheet) -> Standing
     Standing { job, end, round }
 }
 
-// The first round of the span of row k, or 0 where that would begin before round 1 or the worker is not below the worker count.
-fn first_round(rows: &Rows, k: usize, workers: usize, plan: &Sheet) -> usize
+// The first round of the span of row k, unless that would begin before round 1 or the worker is not below the worker count.
+fn first_round(rows: &Rows, k: usize, workers: usize, plan: &Sheet) -> Option<usize>
     requires { k < 2048 }
     ensures { FirstTold (span_at rows.now plan.now k) workers result }
 {
     let row = row_of(rows, k);
     let cost = cost_at(plan, k);
     if workers <= row % 16 {
-        return 0;
+        return None;
     }
     if row / 16 < cost {
-        return 0;
+        return None;
     }
-    row / 16 + 1 - cost
+    Some(row / 16 + 1 - cost)
 }
 
 // Whether the rows keep the rules of a schedule: labelled loops over actions, joins and worker-round clashes, left from the
 // innermost on the first breach. What an action must follow in its job is carried along (`Standing`), so that the plan is
 // looked up once for each job. The rows seen so far lie in buckets, by the worker and by the block of rounds that the last round
-// is of, each in a chain from the latest back: `last` has of each bucket its latest row, and `earlier` of each row the one before
-// it in its bucket, each as its place plus 1 or 0. A block is 16 rounds and no action takes more, so a row that clashes with
+// is of, each in a chain from the latest back. A block is 16 rounds and no action takes more, so a row that clashes with
 // the one at hand ends in a block from that of its first round to the one behind that of its last: these are at most three, looked
 // in from the last down. In form 1 an action takes one round, a block is one round, and it is one block. Of each worker a bucket
 // takes rows of one block, no two with the same last round: at most 16, and in form 1 one, so that no row is compared with more
@@ -77,11 +76,8 @@ pub fn rules_kept(form: u32, workers: usize, actions: usize, rows: &Rows, plan: 
     requires { Some (RulesGiven form workers actions rows.now plan.now) }
     ensures { RulesGiven form workers actions rows.now plan.now ⇒ (λ t. result ≡ keeps t.plan workers t.rows) }
 {
-    let mut latest = [0u16; 2049];
-    let mut prior = [0u16; 2048];
-    line_up(actions, plan, &mut latest, &mut prior);
-    let mut last = [0u16; 4096];
-    let mut earlier = [0u16; 2048];
+    let senders = line_up(actions, plan);
+    let mut buckets: Lines<4096> = Lines::new();
     let mut busy = [0u16; 4096];
     let stride = 4096 / workers;
     let more = more_of(form);
@@ -92,52 +88,50 @@ pub fn rules_kept(form: u32, workers: usize, actions: usize, rows: &Rows, plan: 
         round: 0,
     };
     let mut kept = true;
-    let mut k = 0;
-    'actions: while k < actions {
+    'actions: for k in 0..actions {
         let row = row_of(rows, k);
-        let first = first_round(rows, k, workers, plan);
+        let Some(first) = first_round(rows, k, workers, plan) else {
+            kept = false;
+            break 'actions;
+        };
         let here = stand(rows, k, standing, plan);
         if first <= here.round {
             kept = false;
             break 'actions;
         }
-        let mut sender = wide16(latest[k]);
-        'joins: while sender != 0 {
-            if first <= row_of(rows, sender - 1) / 16 {
+        let mut sender = senders.latest_in(k);
+        'joins: while let Some(x) = sender {
+            if first <= row_of(rows, x) / 16 {
                 kept = false;
                 break 'actions;
             }
-            sender = back_from(&prior, sender);
+            sender = senders.back_from(x);
         }
         let home = row / 16 >> shift;
         let low = first >> shift;
         let mut block = home + more;
-        let mut at = latest_in(&last, block, row % 16, stride);
+        let mut other = buckets.latest_in(bucket_of(block, row % 16, stride));
         let free = take(more, first, row, stride, &mut busy);
-        'clashes: while !free && (at != 0 || low < block) {
-            if at == 0 {
+        'clashes: while !free {
+            let Some(i) = other else {
+                if block <= low {
+                    break 'clashes;
+                }
                 block -= 1;
-                at = latest_in(&last, block, row % 16, stride);
+                other = buckets.latest_in(bucket_of(block, row % 16, stride));
                 continue 'clashes;
-            }
-            if meets(rows, at - 1, first, row, plan) {
+            };
+            if meets(rows, i, first, row, plan) {
                 kept = false;
                 break 'actions;
             }
-            at = back_from(&earlier, at);
+            other = buckets.back_from(i);
         }
-        enter(
-            k,
-            bucket_of(home, row % 16, stride),
-            &mut last,
-            &mut earlier,
-        );
+        buckets.enter(k, bucket_of(home, row % 16, stride));
         standing = Standing {
-            job: here.job,
-            end: here.end,
             round: row / 16,
+            ..here
         };
-        k += 1;
     }
     kept
 }

@@ -2,8 +2,9 @@
 ghost use Rattle.std.specs.Prelude.{◌≤◌, ◌≡◌};
 ghost use Rattle.plan.specs.Contract.{Some};
 ghost use Rattle.checker.specs.Chains.{entry, Chains};
-ghost use Rattle.checker.specs.Senders.{line_of, Sending, Unlined};
+ghost use Rattle.checker.specs.Senders.{line_of, Sending, Senders};
 
+use crate::chains::Lines;
 use plan::sheet::{Sheet, first_of, job_at, parent_of, target_at};
 
 // The line that action k stands in: that of the action that its join enters, or one behind all those where it sends none.
@@ -18,17 +19,14 @@ fn line_of(k: usize, plan: &Sheet) -> usize
     if sent == 0 { 2048 } else { first + (sent - 1) }
 }
 
-// Lines up the senders of joins: `latest` has of each action the last that sends it a join, and `prior` of each sender the one
-// before it, each as its place plus 1 or 0.
-pub fn line_up(actions: usize, plan: &Sheet, latest: &mut [u16; 2049], prior: &mut [u16; 2048])
-    requires { Some (Unlined actions plan.now latest.old prior.old) }
-    ensures { Chains actions (line_of plan.now) (entry latest.new) (entry prior.new) }
+// Lines up the senders of joins, each in the line of the action that it sends its join to.
+pub fn line_up(actions: usize, plan: &Sheet) -> Lines<2049>
+    requires { Some (Senders actions plan.now) }
+    ensures { Chains actions (line_of plan.now) (entry result.latest) (entry result.prior) }
 {
-    let mut k = 0;
-    while k < actions {
-        let line = line_of(k, plan);
-        prior[k] = latest[line];
-        latest[line] = (k + 1) as u16;
-        k += 1;
+    let mut senders = Lines::new();
+    for k in 0..actions {
+        senders.enter(k, line_of(k, plan));
     }
+    senders
 }

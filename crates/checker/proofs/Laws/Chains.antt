@@ -1,28 +1,18 @@
 -- Chains of places by their keys: a place that is entered stands first in the chain of its key, and on the way back along a chain each place
 -- of its key is met.
---   chains_none == before any place is entered
 --   head_below  == the latest place of a key is one of those that were entered
 --   enter       == a place is entered, in the arrays that hold the chains
 --   walk_first, walk_falls, walk_next == the way back starts at the latest place, goes on to an earlier one, and each is passed
-use Prim.Native.Nat.{ℕ, zero, suc, ◌+◌, ◌-◌, ◌≤◌, ◌<◌}
+use Prim.Native.Nat.{ℕ, zero, suc, ◌+◌, ◌≤◌, ◌<◌}
 use mathlib.Core.Path.{◌≡◌, refl, ap, sym, ◌∙◌}
 use mathlib.Core.Logic.{◌≢◌, by_cases}
 use mathlib.Core.List.{List}
 use native.Mathlib.Numerals.{add-one}
 use native.Mathlib.Omega.{arith}
 use native.Mathlib.Decide.{ℕ_discrete, dec_lt}
-use lib.ListN.{length, set, replicate}
+use lib.ListN.{length, set}
 use lib.Seq.{get_or-set_same, get_or-set_other}
-use Rattle.plan.proofs.Laws.Lists.{zeros_at}
 use Rattle.checker.specs.Chains.{entry, Chains, Walk}
-
-pub chains_none : (n : ℕ) (key earlier : ℕ → ℕ) → Chains 0 key (entry (replicate n 0)) earlier
-chains_none n key earlier = record {
-  head = λ b i e. let z : ⊥ = omega (arith, zeros_at n b) in absurd z;
-  all = λ i h. omega arith;
-  link = λ k i h. omega arith;
-  chain = λ i k h l. omega arith;
-}
 
 pub head_below : {n : ℕ} {key last earlier : ℕ → ℕ} → Chains n key last earlier → (b at : ℕ) → at ≡ last b → at ≤ n
 head_below c b zero e = omega arith
@@ -76,25 +66,25 @@ module _ (n : ℕ) (key : ℕ → ℕ) (b : ℕ) (Ok : ℕ → Type 0) where
     stands = λ i q. c.head b i (sym e ∙ q);
   }
 
-  module _ (m : ℕ) (last earlier : ℕ → ℕ) (at : ℕ) (c : Chains m key last earlier) (w : Walk n key b Ok at) (few : n ≤ m) (some : at ≢ 0) where
-    here : (at - 1 < n) × (key (at - 1) ≡ b)
-    here = w.stands (at - 1) (omega arith)
+  module _ (m : ℕ) (last earlier : ℕ → ℕ) (x : ℕ) (c : Chains m key last earlier) (w : Walk n key b Ok (suc x)) (few : n ≤ m) where
+    here : (x < n) × (key x ≡ b)
+    here = w.stands x refl
 
-    pub walk_falls : earlier (at - 1) < at
-    walk_falls = go (earlier (at - 1)) refl
+    pub walk_falls : earlier x ≤ x
+    walk_falls = go (earlier x) refl
       where
-        go : (x : ℕ) → earlier (at - 1) ≡ x → earlier (at - 1) < at
+        go : (y : ℕ) → earlier x ≡ y → earlier x ≤ x
         go zero e = omega arith
-        go (suc i) e = omega (arith, c.link (at - 1) i (omega (arith, here.0)) e)
+        go (suc i) e = omega (arith, c.link x i (omega (arith, here.0)) e)
 
-    pub walk_next : Ok (at - 1) → Walk n key b Ok (earlier (at - 1))
+    pub walk_next : Ok x → Walk n key b Ok (earlier x)
     walk_next ok = record {
       passed = past;
-      stands = λ i e. let o = c.link (at - 1) i (omega (arith, here.0)) e in (omega (arith, o.0, here.0), o.1 ∙ here.1);
+      stands = λ i e. let o = c.link x i (omega (arith, here.0)) e in (omega (arith, o.0, here.0), o.1 ∙ here.1);
     }
       where
-        past : (i : ℕ) → earlier (at - 1) ≤ i → i < n → key i ≡ b → Ok i
+        past : (i : ℕ) → earlier x ≤ i → i < n → key i ≡ b → Ok i
         past i h l e =
-            by_cases (dec_lt i (at - 1))
-            (λ q. let z : ⊥ = omega (arith, c.chain i (at - 1) q (omega (arith, here.0)) (e ∙ sym here.1)) in absurd z)
-            (λ q. by_cases (ℕ_discrete i (at - 1)) (λ s. rw s ok) (λ s. w.passed i (omega arith) l e))
+            by_cases (dec_lt i x)
+            (λ q. let z : ⊥ = omega (arith, c.chain i x q (omega (arith, here.0)) (e ∙ sym here.1)) in absurd z)
+            (λ q. by_cases (ℕ_discrete i x) (λ s. rw s ok) (λ s. w.passed i (omega arith) l e))

@@ -1,5 +1,5 @@
 -- What the checker answers, by what was read of the plan and of the schedule.
-use Prim.Native.Nat.{ℕ, ◌≤◌}
+use Prim.Native.Nat.{ℕ}
 use mathlib.Core.Path.{◌≡◌, sym, ap, ◌∙◌}
 use mathlib.Core.Bool.{Bool, true, false}
 use mathlib.Core.List.{List}
@@ -30,9 +30,9 @@ module _ (bytes s : List ℕ) where
 
     -- the schedule that was read
     module _ {workers : ℕ} {words : List ℕ} (w : WellFormed form s actions workers words) where
-      pub rules_given : 1 ≤ workers → RulesGiven form workers actions words plan (record { plan = p; rows = w.rows })
-      rules_given some = record {
-        some = some;
+      pub rules_given : RulesGiven form workers actions words plan (record { plan = p; rows = w.rows })
+      rules_given = record {
+        some = w.some;
         count = held.all;
         fits = accepted_costs bytes (record { form = form; plan = p }) read;
         tasked = record { planned = held.planned; held = w.held; all = w.all ∙ held.all };

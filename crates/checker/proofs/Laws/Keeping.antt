@@ -21,7 +21,7 @@ use Rattle.plan.proofs.Laws.Placed.{placed_of, placed_length}
 use Rattle.courses.proofs.Laws.Order.{alone_by, unless}
 use Rattle.checker.specs.Rows.{RowsIn, span_at}
 use Rattle.checker.specs.Buckets.{Meet}
-use Rattle.checker.specs.Judging.{FirstTold, InOrder, Seen}
+use Rattle.checker.specs.Judging.{InOrder, Seen}
 use Rattle.checker.specs.Given.{Task, Tasked}
 
 not_both : (a : Bool) → T (not a) → T a → ⊥
@@ -202,13 +202,6 @@ module _ (m : ℕ) (words plan : List ℕ) (t : Task) (g : Tasked words plan t) 
 
     pub not_apart : (i : ℕ) → i < k → Meet (span_at words plan i) (span_at words plan k) → false ≡ keeps t.plan m t.rows
     not_apart i l e = refuted (λ x. keeps_apart t.plan m t.rows words plan g.all g.held g.planned x i k l h e)
-
--- the answers of the test of a span alone
-pub first_none : (a : Span) (m : ℕ) → (a.worker < m → 1 ≤ a.first → ⊥) → FirstTold a m 0
-first_none a m f = record { broken = λ _. f; kept = λ h. absurd (omega arith) }
-
-pub first_some : (a : Span) (m r : ℕ) → 1 ≤ r → a.worker < m → r ≡ a.first → FirstTold a m r
-first_some a m r some manned e = record { broken = λ z. absurd (omega arith); kept = λ _. (manned, e) }
 
 -- one more row
 pub seen_none : (p : Plan) (m : ℕ) (span : ℕ → Span) → Seen p m 0 span

@@ -4,23 +4,21 @@
 --   rows_read == where no round is 0, the rows are read
 --   rows_stop == where one is, reading stops
 --   rows_held == an array that has those numbers holds the rows
---   words_none, words_more == the array before any row is read, and with one more
 use Prim.Native.Nat.{ℕ, zero, suc, ◌+◌, ◌*◌, ◌/◌, ◌%◌, ◌≤◌, ◌<◌}
 use mathlib.Core.Path.{◌≡◌, refl, sym, ap, ◌∙◌}
-use mathlib.Core.Logic.{◌≢◌, by_cases}
+use mathlib.Core.Logic.{by_cases}
 use mathlib.Core.Bool.{true, false}
 use mathlib.Core.List.{List, [], ◌∷◌, ◌++◌}
 use native.Mathlib.Omega.{arith}
 use native.Mathlib.Nat.{mul-zero, mul-suc, mul-le-mul}
 use native.Mathlib.Decide.{ℕ_discrete}
-use lib.ListN.{length, get_or, take, drop, set, length-drop, length-set}
-use lib.Seq.{drop-cons, take-add, drop-drop, length-take-le, get_or-set_same, get_or-set_other}
+use lib.ListN.{length, get_or, take, drop, length-drop}
+use lib.Seq.{drop-cons, take-add, drop-drop, length-take-le}
 use lib.Dec.{eqb}
 use borrow.Author.Tests.{eq-eqb, ne_eqb}
 use Rattle.fields.specs.Field.{Bytes, bits_of, bits, number, stop, step, then, field_at}
 use Rattle.courses.specs.Row.{Row, no_row}
 use Rattle.courses.specs.Schedule.{rows_at}
-use Rattle.checker.specs.Chains.{entry}
 use Rattle.checker.specs.Rows.{pair, word, Words, RowsIn}
 use Rattle.plan.proofs.Laws.Steps.{bool_cases}
 use Rattle.fields.proofs.Laws.Bits.{bits_binary, bits_length, bits_drop, take_binary, drop_binary, number_append, number_below, number_bits_of, field_within}
@@ -161,23 +159,3 @@ module _ (b : ℕ) (s : List ℕ) where
 -- the rows' bits are few
 pub places_few : (width n : ℕ) → width ≤ 20 → n ≤ 2048 → width * n ≤ 40960
 places_few width n h l = mul-le-mul {n₁ = width} {m₁ = n} {n₂ = 20} {m₂ = 2048} h l
-
--- row k of the first n is there
-pub row_there : (width n k : ℕ) {room : ℕ} → 32 + width * n ≤ room → k < n → 32 + width * k + width ≤ room
-row_there width n k h l = omega (arith, mul-suc width k, mul-le-mul {n₁ = width} {m₁ = suc k} {n₂ = width} {m₂ = n} (omega arith) l)
-
--- the array before any row, and with one more
-pub words_none : (width : ℕ) (s words : List ℕ) → length words ≡ 2048 → Words width s 0 words
-words_none width s words h = record { long = h; are = λ k l. absurd (omega arith); some = λ k l. omega arith }
-
-pub words_more : (width : ℕ) (s words : List ℕ) (k v : ℕ) → k < 2048 → v ≡ word width s k → 16 ≤ v → Words width s k words
-    → Words width s (k + 1) (set words k v)
-words_more width s words k v h e some w =
-    let same : entry (set words k v) k ≡ v = get_or-set_same words k v 0 (omega (arith, w.long)) in
-    let other : (i : ℕ) → i ≢ k → entry (set words k v) i ≡ entry words i = λ i d. get_or-set_other words k i v 0 d in
-    record {
-      long = simp length-set w.long;
-      are = λ i l.
-          by_cases (ℕ_discrete i k) (λ q. rw q (same ∙ e)) (λ q. other i q ∙ w.are i (omega arith));
-      some = λ i l. by_cases (ℕ_discrete i k) (λ q. rw q (omega (arith, same))) (λ q. omega (arith, other i q, w.some i (omega arith)));
-    }

@@ -1,11 +1,8 @@
 -- `busy::take` meets its contract: the rounds are digits, and those of each of the two blocks come into its bucket's set (`Laws.Busy`).
 use Prim.Native.Nat.{◌+◌, ◌-◌, ◌*◌, ◌/◌, ◌%◌, ◌^◌}
 use native.Mathlib.Omega.{arith}
-use Rattle.checker.proofs.Laws.Busy.{span_digits, taken_none, taken}
+use Rattle.checker.proofs.Laws.Busy.{span_digits, taken}
 use Rattle.checker.proofs.busy.take.Goals as goal
-
-pub returns-then-more-eq0 : goal.returns-then-more-eq0
-returns-then-more-eq0 c = taken_none _ _ _ _ c.if-more-eq0.true c.requires.4
 
 pub returns : goal.returns
 returns c =

@@ -1,5 +1,5 @@
 -- `checker::rules::spawn_round` meets its contract: what is read leads to the place of the job's spawn (`Laws.Standing`).
-use Rattle.checker.proofs.Laws.Standing.{row_within, job_small, parent_small, spawn_some, spawn_within, spawn_round_is}
+use Rattle.checker.proofs.Laws.Standing.{row_within, job_small, parent_small, spawn_within, spawn_round_is}
 use Rattle.checker.proofs.rules.spawn_round.Goals as goal
 
 pub parent_of-requires : goal.parent_of-requires
@@ -16,11 +16,6 @@ pub spawn_of-requires : goal.spawn_of-requires
 spawn_of-requires c =
     let (t, g) = c.requires in
     job_small _ _ t _ g
-
-pub overflow_sub-spawn : goal.overflow_sub-spawn
-overflow_sub-spawn c =
-    let (t, g) = c.requires in
-    spawn_some _ _ t _ g _ c.parent_of.ensures.0 _ c.first_of.ensures.0 _ c.spawn_of.ensures.0
 
 pub row_of-requires : goal.row_of-requires
 row_of-requires c =

@@ -6,9 +6,6 @@ use Rattle.plan.proofs.Laws.Valid.{jobs_range}
 use Rattle.checker.proofs.Laws.Standing.{next_known, stood_born}
 use Rattle.checker.proofs.rules.stand.Goals as goal
 
-pub returns-then-k-s : goal.returns-then-k-s
-returns-then-k-s c = λ t g. (c.if-k-s.true, g.stood)
-
 pub overflow_add-job : goal.overflow_add-job
 overflow_add-job c =
     let (t, g) = c.requires in

@@ -1,7 +1,7 @@
 -- `checker::senders::line_of` meets its contract, by what the array tells of an action (`Laws.Senders`).
 use mathlib.Core.Path.{◌∙◌}
 use native.Mathlib.Omega.{arith}
-use Rattle.checker.proofs.Laws.Senders.{line_none, line_some, action_room, line_small}
+use Rattle.checker.proofs.Laws.Senders.{line_some, action_room, line_small}
 use Rattle.checker.proofs.senders.line_of.Goals as goal
 
 pub job_at-requires : goal.job_at-requires
@@ -18,11 +18,6 @@ pub target_at-sent-requires : goal.target_at-sent-requires
 target_at-sent-requires c =
     let (p, g) = c.requires in
     (action_room _ p g.planned _ g.within).0
-
-pub returns-then-sent-eq0 : goal.returns-then-sent-eq0
-returns-then-sent-eq0 c =
-    let a = c.args in
-    (line_none a.plan.now a.k _ c.target_at-sent.ensures.0 c.if-sent-eq0.true, omega arith)
 
 pub returns-else-sent-eq0 : goal.returns-else-sent-eq0
 returns-else-sent-eq0 c =
