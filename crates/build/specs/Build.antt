@@ -7,14 +7,13 @@
 --   plan_in, choices_in input == the plan and the choices of an input
 --   CountBounds S c         == demand 3's claim, as far as counts can tell, and the sums, of the run of S; and T1 divided by T∞
 --   Claimed input r         == so it is of the counts that were answered
-use Rattle.std.specs.Prelude.{ℕ, ◌+◌, ◌-◌, ◌*◌, ◌≤◌, ◌≡◌, true, false, List, length, get_or, take, drop, ltb}
+use Rattle.std.specs.Prelude.{ℕ, ◌+◌, ◌-◌, ◌*◌, ◌≤◌, ◌≡◌, true, false, List, length, get_or, take, drop, ltb, Result, Ok, Err}
+use Rattle.plan.specs.declared.refusal.Refusal.{Refusal}
 use Rattle.plan.specs.Refusal.{Outcome, refused, accepted, number_of}
 use Rattle.plan.specs.Plan.{size}
 use Rattle.plan.specs.Reader.{Read, read_plan}
 use Rattle.plan_measure.specs.Measure.{work, longest, heaviest, parallel, rest, Quotient}
 use Rattle.build.specs.declared.Counts.{Counts}
-use Rattle.build.specs.declared.Built.{Built}
-use Rattle.build.specs.declared.Built.TheVariants.{Refused, Counted}
 use Rattle.runs.specs.State.{State, next_of}
 use Rattle.runs.specs.Setting.{Setting, setting}
 use Rattle.runs.specs.Steal.{waiting}
@@ -71,9 +70,9 @@ build_of input =
       ]
     ]
 
-abbrev pub built_of : Built → Outcome Counts
-built_of (Refused cause) = refused (number_of cause)
-built_of (Counted c) = accepted c
+abbrev pub built_of : Result Counts Refusal → Outcome Counts
+built_of (Err cause) = refused (number_of cause)
+built_of (Ok c) = accepted c
 
 module _ (S : Setting) where
   open S use {plan, workers}
@@ -102,7 +101,7 @@ module _ (S : Setting) where
     pub spare : (workers - c.parallel) * c.longest ≤ c.idle + c.rest
 
 -- where counts are answered, the plan was accepted, and the claim holds of them
-abbrev pub Claimed : List ℕ → Built → Type 0
+abbrev pub Claimed : List ℕ → Result Counts Refusal → Type 0
 Claimed input r =
-    (c : Counts) → r ≡ Counted c
+    (c : Counts) → r ≡ Ok c
     → (x : Read) × (read_plan (plan_in input) ≡ accepted x) × CountBounds (setting x.plan (get_or input 0 0) (choices_in input)) c

@@ -3,21 +3,22 @@
 --   BuildIn form jobs actions plan entering p == the plan p that the array holds, of so many jobs and actions, can be measured and run, and
 --                                           have that form
 --   BuiltFrom form n choices r p         == the answer r has the counts of a run of p, or is the refusal
-use Rattle.std.specs.Prelude.{ℕ, ◌≡◌, List}
+use Rattle.std.specs.Prelude.{ℕ, ◌≡◌, List, Result}
+use Rattle.plan.specs.declared.refusal.Refusal.{Refusal}
 use Rattle.plan.specs.Refusal.{accepted}
 use Rattle.plan.specs.Plan.{Plan}
 use Rattle.plan.specs.Reader.{Read}
 use Rattle.plan.specs.Sheet.{PlanIn}
 use Rattle.runs.specs.Run.{admitted}
 use Rattle.scheduler.specs.RunRead.{RunsIn}
-use Rattle.build.specs.declared.Built.{Built}
+use Rattle.build.specs.declared.Counts.{Counts}
 use Rattle.build.specs.Build.{counts_of, built_of}
 
 pub record BuildIn (form jobs actions : ℕ) (plan entering : List ℕ) (p : Plan) : Type 0 where
   pub held : PlanIn jobs actions plan p
   pub runs : RunsIn form actions plan entering p
 
-abbrev pub BuiltFrom : ℕ → ℕ → List ℕ → Built → Plan → Type 0
+abbrev pub BuiltFrom : ℕ → ℕ → List ℕ → Result Counts Refusal → Plan → Type 0
 BuiltFrom form n choices r p =
     let x : Read = record { form = form; plan = p } in
     built_of r ≡ counts_of (accepted x) (admitted (accepted x) n choices)

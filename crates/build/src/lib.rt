@@ -6,12 +6,11 @@ ghost use Rattle.plan.specs.Contract.{Some, ◌⇒◌};
 ghost use Rattle.build.specs.Build.{ran_with, build_of, built_of, Claimed};
 ghost use Rattle.build.specs.Parts.{BuildIn, BuiltFrom};
 
-use numbers::{units8, wide8};
-use plan::reader::{Found, read_into};
+use plan::reader::read_into;
 use plan::refusal::Refusal;
 use plan::sheet::{PLACES, Sheet};
 use plan_measure::measure_read;
-use scheduler::run::{Ran, run_read};
+use scheduler::run::run_read;
 
 // The twelve counts that are printed.
 #[derive(Clone, Copy)]
@@ -30,12 +29,6 @@ pub struct Counts {
     pub idle_victim: u32,
 }
 
-#[derive(Clone, Copy)]
-pub enum Built {
-    Refused(Refusal),
-    Counted(Counts),
-}
-
 // Runs the plan that the array holds and measures it. `entering` has how many joins enter each action.
 fn build_read(
     form: u32,
@@ -45,12 +38,12 @@ fn build_read(
     choices: &[u8],
     plan: &Sheet,
     entering: &[u8; 2048],
-) -> Built
+) -> Result<Counts, Refusal>
     requires { Some (BuildIn form jobs actions plan.now entering.now) }
     ensures { BuildIn form jobs actions plan.now entering.now ⇒ BuiltFrom form workers choices.now result }
 {
     let mut schedule = [0u8; 5124];
-    match run_read(
+    let t = run_read(
         form,
         actions,
         workers,
@@ -58,59 +51,57 @@ fn build_read(
         plan,
         entering,
         &mut schedule,
-    ) {
-        Ran::Refused(cause) => Built::Refused(cause),
-        Ran::Done(t) => {
-            let m = measure_read(jobs, actions, plan);
-            Built::Counted(Counts {
-                rounds: t.rounds,
-                actions: t.actions,
-                longest: m.longest,
-                path: m.path,
-                parallel: m.parallel,
-                rest: m.rest,
-                peak: t.peak,
-                idle: t.idle,
-                requests: t.requests,
-                steals: t.steals,
-                bare: t.bare,
-                idle_victim: t.idle_victim,
-            })
-        }
-    }
+    )?;
+    let m = measure_read(jobs, actions, plan);
+    Ok(Counts {
+        rounds: t.rounds,
+        actions: t.actions,
+        longest: m.longest,
+        path: m.path,
+        parallel: m.parallel,
+        rest: m.rest,
+        peak: t.peak,
+        idle: t.idle,
+        requests: t.requests,
+        steals: t.steals,
+        bare: t.bare,
+        idle_victim: t.idle_victim,
+    })
 }
 
 // Reads the plan, runs it and measures it.
-fn build_plan(workers: u32, choices: &[u8], plan: &[u8]) -> Built
+fn build_plan(workers: u32, choices: &[u8], plan: &[u8]) -> Result<Counts, Refusal>
     ensures { built_of result ≡ ran_with plan.now workers choices.now }
 {
     let mut sheet = [0u16; PLACES];
     let mut entering = [0u8; 2048];
-    match read_into(plan, &mut sheet, &mut entering) {
-        Found::Refused(cause) => Built::Refused(cause),
-        Found::Plan {
-            form,
-            jobs,
-            actions,
-        } => build_read(form, jobs, actions, workers, choices, &sheet, &entering),
-    }
+    let found = read_into(plan, &mut sheet, &mut entering)?;
+    build_read(
+        found.form,
+        found.jobs,
+        found.actions,
+        workers,
+        choices,
+        &sheet,
+        &entering,
+    )
 }
 
 // The counts of the build that the input asks for, or why it is turned down.
-pub fn build(input: &[u8]) -> Built
+pub fn build(input: &[u8]) -> Result<Counts, Refusal>
     ensures result_value { built_of result ≡ build_of input.now }
     ensures claimed { Claimed input.now result }
 {
     if input.len() < 3 {
-        return Built::Refused(Refusal::RanOut);
+        return Err(Refusal::RanOut);
     }
-    let count = wide8(input[1]) * 256 + wide8(input[2]);
+    let count = usize::from(input[1]) * 256 + usize::from(input[2]);
     if 4096 < count {
-        return Built::Refused(Refusal::Choices);
+        return Err(Refusal::Choices);
     }
     let start = 3 + count;
     if input.len() < start {
-        return Built::Refused(Refusal::RanOut);
+        return Err(Refusal::RanOut);
     }
-    build_plan(units8(input[0]), &input[3..start], &input[start..])
+    build_plan(u32::from(input[0]), &input[3..start], &input[start..])
 }

@@ -8,7 +8,7 @@ ghost use Rattle.scheduler.specs.Choices.{largest_of};
 
 use crate::length::schedule_length;
 use crate::write::write_schedule;
-use plan::reader::{Found, read_into};
+use plan::reader::read_into;
 use plan::refusal::Refusal;
 use plan::sheet::{PLACES, Sheet};
 use rounds::run::run_rounds;
@@ -80,12 +80,14 @@ pub fn run(plan: &[u8], workers: u32, choices: &[u8], schedule: &mut [u8]) -> Re
 {
     let mut sheet = [0u16; PLACES];
     let mut entering = [0u8; 2048];
-    match read_into(plan, &mut sheet, &mut entering) {
-        Found::Refused(cause) => Err(cause),
-        Found::Plan {
-            form,
-            jobs: _,
-            actions,
-        } => run_read(form, actions, workers, choices, &sheet, &entering, schedule),
-    }
+    let found = read_into(plan, &mut sheet, &mut entering)?;
+    run_read(
+        found.form,
+        found.actions,
+        workers,
+        choices,
+        &sheet,
+        &entering,
+        schedule,
+    )
 }

@@ -9,6 +9,8 @@ use mathlib.Core.List.{List}
 use native.Mathlib.Omega.{arith}
 use lib.ListN.{length, get_or}
 use lib.Dec.{ltb}
+use Rattle.std.specs.Prelude.{Result}
+use Rattle.plan.specs.declared.refusal.Refusal.{Refusal}
 use Rattle.plan.specs.Refusal.{Outcome, refused, accepted}
 use Rattle.plan.specs.Reader.{read_plan, Read}
 use Rattle.plan.proofs.Laws.Accepted.{accepted_kept}
@@ -23,7 +25,6 @@ use Rattle.runs.proofs.Laws.Whole.{run_trace}
 use Rattle.runs.proofs.Laws.Coursed.{most_peak}
 use Rattle.runs.proofs.Laws.Demand3.{run_bounds}
 use Rattle.build.specs.declared.Counts.{Counts}
-use Rattle.build.specs.declared.Built.{Built}
 use Rattle.build.specs.Build.{counts_of, ran_with, choice_count, plan_in, choices_in, build_of, built_of, CountBounds, Claimed}
 use Rattle.build.proofs.Laws.Builds.{counted}
 
@@ -82,7 +83,7 @@ tested false true c o e = refused_accepted e
 tested false false true o e = refused_accepted e
 tested false false false o e = e
 
-pub build_claimed : (input : List ℕ) (r : Built) → built_of r ≡ build_of input → Claimed input r
+pub build_claimed : (input : List ℕ) (r : Result Counts Refusal) → built_of r ≡ build_of input → Claimed input r
 unfolding build_of
 build_claimed input r e c f =
     ran_claimed (plan_in input) (get_or input 0 0) (choices_in input) c

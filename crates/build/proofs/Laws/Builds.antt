@@ -95,7 +95,7 @@ module _ (form : ℕ) (p : Plan) (ok : Accepted p) (byte : form < 256) (costs : 
           ap (λ m. refused m) i ∙ sym (ap (counts_of (accepted x)) s.not_run)
       go (inr w) =
           let y : ◌≡◌ {A = Outcome Tally} (refused k) (accepted (run (setting p n choices)).tally) = e ∙ went_answer w in
-          absurd (let z : ◌≡◌ {A = ℕ} 0 1 = cc in omega arith)
+          cc
 
   pub build_counted : (t : Tally) (m : Measures) → ◌≡◌ {A = Outcome Tally} (accepted t) answer
       → m ≡ measures_of p → accepted (counted t m) ≡ built
@@ -105,7 +105,7 @@ module _ (form : ℕ) (p : Plan) (ok : Accepted p) (byte : form < 256) (costs : 
       go : Stopped x n choices ⊎ Went x n choices → accepted (counted t m) ≡ built
       go (inl s) =
           let y : ◌≡◌ {A = Outcome Tally} (accepted t) (refused s.cause) = e ∙ stopped_answer s in
-          absurd (let z : ◌≡◌ {A = ℕ} 0 1 = cc in omega arith)
+          cc
       go (inr w) =
           let y : ◌≡◌ {A = Outcome Tally} (accepted t) (accepted (run (setting p n choices)).tally) = e ∙ went_answer w in
           let i : t ≡ (run (setting p n choices)).tally = cc in
