@@ -9,7 +9,8 @@
 --   tally_of n rounds worked peak == the counts of so many rounds of n workers, in so many turns of which an action was worked on
 --   Answered form n before r after p == the answer r and the schedule `after` are those of a run of p, and all that is owed of it holds; the
 --                       checker accepts the schedule, whatever bytes hold p in that form
-use Rattle.std.specs.Prelude.{ℕ, ◌+◌, ◌-◌, ◌*◌, ◌%◌, ◌^◌, ◌≤◌, ◌<◌, ◌≡◌, ◌≢◌, false, not, List, eqb, length, get_or, take}
+use Rattle.std.specs.Prelude.{ℕ, ◌+◌, ◌-◌, ◌*◌, ◌%◌, ◌^◌, ◌≤◌, ◌<◌, ◌≡◌, ◌≢◌, false, not, List, eqb, length, get_or, take, Result as Returned, Ok}
+use Rattle.plan.specs.declared.refusal.Refusal.{Refusal}
 use Rattle.plan.specs.Refusal.{accepted}
 use Rattle.plan.specs.Plan.{Plan, total}
 use Rattle.plan.specs.Reader.{read_plan}
@@ -18,8 +19,6 @@ use Rattle.crew.specs.Crew.{member}
 use Rattle.plan.specs.Test.{either}
 use Rattle.runs.specs.declared.tally.Tally.{Tally}
 use Rattle.rounds.specs.Rounds.{RunIn}
-use Rattle.scheduler.specs.declared.run.Ran.{Ran}
-use Rattle.scheduler.specs.declared.run.Ran.TheVariants.{Done}
 use Rattle.scheduler.specs.Entry.{Result, resulted, ran_of}
 use Rattle.turns.specs.Rows.{Rowed}
 use Rattle.pools.specs.Run.{pool, admitted}
@@ -59,10 +58,10 @@ tally_of n rounds worked peak = record {
   peak = peak;
 }
 
-abbrev pub Answered : ℕ → ℕ → List ℕ → Ran → List ℕ → Plan → Type 0
+abbrev pub Answered : ℕ → ℕ → List ℕ → Returned Tally Refusal → List ℕ → Plan → Type 0
 Answered form n before r after p =
     (◌≡◌ {A = Result} (record { answer = ran_of r; schedule = after })
     (resulted form (made_of (admitted (accepted (record { form = form; plan = p })) n)) n before))
-    × ((t : Tally) → r ≡ Done t → Bounded p n form after t
+    × ((t : Tally) → r ≡ Ok t → Bounded p n form after t
     × ((bytes : List ℕ) → read_plan bytes ≡ accepted (record { form = form; plan = p })
     → checked bytes (take (schedule_length form (total p)) after) ≡ accepted 0))

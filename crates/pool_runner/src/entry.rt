@@ -7,14 +7,15 @@ ghost use Rattle.pool_runner.specs.Entry.{pool_into, Claimed};
 ghost use Rattle.pool_runner.specs.Rounds.{Answered};
 
 use crate::run::run_pool;
-use plan::reader::{Found, read_into};
+use plan::reader::read_into;
 use plan::refusal::Refusal;
 use plan::sheet::{PLACES, Sheet};
+use runs::tally::Tally;
 use scheduler::length::schedule_length;
-use scheduler::run::Ran;
 use scheduler::write::write_schedule;
 
-// Runs the plan that the array holds from a pool and writes its schedule in that form. `entering` has how many joins enter each action.
+// Runs the plan that the array holds from a pool and writes its schedule in that form: the counts of the run, or why there was none.
+// `entering` has how many joins enter each action.
 fn pool_read(
     form: u32,
     actions: usize,
@@ -22,41 +23,42 @@ fn pool_read(
     plan: &Sheet,
     entering: &[u8; 2048],
     schedule: &mut [u8],
-) -> Ran
+) -> Result<Tally, Refusal>
     requires { Some (RunsIn form actions plan.now entering.now) }
     ensures { RunsIn form actions plan.now entering.now
         ⇒ Answered form workers schedule.old result schedule.new }
 {
     if workers == 0 {
-        return Ran::Refused(Refusal::Workers);
+        return Err(Refusal::Workers);
     }
     if 16 < workers {
-        return Ran::Refused(Refusal::Workers);
+        return Err(Refusal::Workers);
     }
     let n = workers as usize;
     if schedule.len() < schedule_length(form, actions) {
-        return Ran::Refused(Refusal::Short);
+        return Err(Refusal::Short);
     }
     let mut rows = [0u32; 2048];
     let t = run_pool(n, actions, plan, entering, &mut rows);
     write_schedule(schedule, form, n, actions, &rows);
-    Ran::Done(t)
+    Ok(t)
 }
 
-// Runs the plan that the bytes hold from a central pool and writes its schedule.
-pub fn pool(plan: &[u8], workers: u32, schedule: &mut [u8]) -> Ran
+// Runs the plan that the bytes hold from a central pool and writes its schedule: the counts of the run, or why there was none.
+pub fn pool(plan: &[u8], workers: u32, schedule: &mut [u8]) -> Result<Tally, Refusal>
     ensures schedule_after { record { answer = ran_of result; schedule = schedule.new }
         ≡ pool_into plan.now workers schedule.old }
     ensures claimed { Claimed plan.now workers result schedule.new }
 {
     let mut sheet = [0u16; PLACES];
     let mut entering = [0u8; 2048];
-    match read_into(plan, &mut sheet, &mut entering) {
-        Found::Refused(cause) => Ran::Refused(cause),
-        Found::Plan {
-            form,
-            jobs: _,
-            actions,
-        } => pool_read(form, actions, workers, &sheet, &entering, schedule),
-    }
+    let found = read_into(plan, &mut sheet, &mut entering)?;
+    pool_read(
+        found.form,
+        found.actions,
+        workers,
+        &sheet,
+        &entering,
+        schedule,
+    )
 }

@@ -6,7 +6,6 @@ ghost use Rattle.rounds.specs.Account.{is_idle};
 ghost use Rattle.pool_runner.specs.Rounds.{PoolGiven, PoolLeft, Noted, Marks, tally_of};
 
 use crew::set::{lowest, others, rest, with, without};
-use numbers::{byte, larger, units};
 use plan::sheet::{Sheet, cost_at, first_of, frame_of};
 use plan_measure::work;
 use pool_set::{first, remove};
@@ -18,11 +17,11 @@ use turns::progress::done_of;
 use turns::rows::Rows;
 
 // Whose actions end in which round: the set of those of round r stands at r % 16, for no action takes more than 15.
-type Calendar = [u32; 16];
+type Calendar = [u64; 16];
 
 // Worker w works on an action of that cost from the round after `round` on, or on none where the cost is 0. Of the set of marks, d is a
 // member where actions end d rounds after that one.
-fn note(marks: u32, ends: &mut Calendar, round: usize, cost: usize, w: usize) -> u32
+fn note(marks: u64, ends: &mut Calendar, round: usize, cost: usize, w: usize) -> u64
     requires { (round < 65536) × (cost ≤ 15) × (w < 16) × (length ends.old ≡ 16) }
     ensures { Noted round cost w ends.old ends.new × (Marks round marks ends.old → Marks round result ends.new) }
 {
@@ -35,14 +34,13 @@ fn note(marks: u32, ends: &mut Calendar, round: usize, cost: usize, w: usize) ->
 }
 
 // The set of the idle workers after the turn of worker w, which held a job.
-fn idle_after(idlers: u32, w: usize, worker: Worker) -> u32
+fn idle_after(idlers: u64, w: usize, worker: Worker) -> u64
     requires { (w < 16) × (member idlers w ≡ false) }
     ensures { Marked w (is_idle worker) idlers result }
 {
     match worker {
         Worker::Idle => with(idlers, w),
-        Worker::Holding(_) => idlers,
-        Worker::Waiting { victim: _, laid: _ } => idlers,
+        Worker::Holding(_) | Worker::Waiting { .. } => idlers,
     }
 }
 
@@ -52,14 +50,11 @@ fn counted(n: usize, rounds: usize, worked: u32, peak: u32) -> Tally
     ensures { result ≡ tally_of n rounds worked peak }
 {
     Tally {
-        rounds: units(rounds),
+        rounds: rounds as u32,
         actions: worked,
-        idle: units(n * rounds) - worked,
-        requests: 0,
-        steals: 0,
-        bare: 0,
-        idle_victim: 0,
+        idle: (n * rounds) as u32 - worked,
         peak,
+        ..Tally::default()
     }
 }
 
@@ -81,17 +76,17 @@ pub fn run_pool(
     let mut progress = [0u8; 2560];
     start_progress(actions, entering, &mut progress);
     let mut pool = [0u64; 260];
-    let mut ends = [0u32; 16];
+    let mut ends = [0u64; 16];
     let mut marks = note(0, &mut ends, 0, cost_at(plan, 0), 0);
     let mut weight = frame_of(plan, 0);
     let mut peak = weight;
     let mut idlers = others(n);
-    let mut r = 0usize;
+    let mut r = 0;
     loop {
         // The next round in which actions end, and those whose actions they are take their turns.
         let by = lowest(marks);
         r += by;
-        marks = rest(marks) >> (by as u32);
+        marks = rest(marks) >> by;
         let mut left = ends[r % 16];
         ends[r % 16] = 0;
         while left != 0 {
@@ -101,7 +96,7 @@ pub fn run_pool(
             let worker = after.worker;
             workers[w] = worker;
             weight = after.weight;
-            peak = larger(peak, weight);
+            peak = peak.max(weight);
             idlers = idle_after(idlers, w, worker);
             marks = note(marks, &mut ends, r, rounds_of(worker, plan, &progress), w);
             left = rest(left);
@@ -113,17 +108,15 @@ pub fn run_pool(
         // Before the next round those who are idle take ready jobs, as long as there are any.
         left = idlers;
         while left != 0 {
-            let j = first(&pool);
-            if j == 256 {
-                left = 0;
-            } else {
-                let w = lowest(left);
-                remove(&mut pool, j);
-                workers[w] = Worker::Holding(byte(j));
-                idlers = without(idlers, w);
-                marks = note(marks, &mut ends, r, next_cost(j, plan, &progress), w);
-                left = rest(left);
-            }
+            let Some(j) = first(&pool) else {
+                break;
+            };
+            let w = lowest(left);
+            remove(&mut pool, j);
+            workers[w] = Worker::Holding(j as u8);
+            idlers = without(idlers, w);
+            marks = note(marks, &mut ends, r, next_cost(j, plan, &progress), w);
+            left = rest(left);
         }
     }
 }

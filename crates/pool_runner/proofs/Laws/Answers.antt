@@ -21,8 +21,7 @@ use Rattle.courses.specs.Schedule.{round_bits, schedule_length, schedule_bytes, 
 use Rattle.courses.proofs.Laws.Price.{work_fits}
 use Rattle.runs.specs.declared.tally.Tally.{Tally}
 use Rattle.runs.specs.Run.{workers_fit}
-use Rattle.scheduler.specs.declared.run.Ran.{Ran}
-use Rattle.scheduler.specs.declared.run.Ran.TheVariants.{Refused as RefusedRun, Done}
+use Rattle.std.specs.Prelude.{Result as Returned, Ok, Err}
 use Rattle.scheduler.specs.Entry.{Result, resulted, ran_of}
 use Rattle.scheduler.specs.RunRead.{RunsIn}
 use Rattle.scheduler.specs.Written.{Words, ScheduleWritten}
@@ -36,16 +35,16 @@ use Rattle.pool_runner.specs.Entry.{read_into, pool_into, Claimed}
 use Rattle.pool_runner.specs.Rounds.{PoolGiven, PoolLeft, Answered}
 
 -- what is answered to the bytes; where there was no run the claim says nothing
-abbrev Answers : List ℕ → ℕ → List ℕ → Ran → List ℕ → Type 0
+abbrev Answers : List ℕ → ℕ → List ℕ → Returned Tally Refusal → List ℕ → Type 0
 Answers bytes n before r after =
     (◌≡◌ {A = Result} (record { answer = ran_of r; schedule = after }) (pool_into bytes n before)) × Claimed bytes n r after
 
 module _ (bytes : List ℕ) (n : ℕ) (schedule : List ℕ) where
-  pub refuses_plan : (cause : Refusal) → read_plan bytes ≡ refused (number_of cause) → Answers bytes n schedule (RefusedRun cause) schedule
+  pub refuses_plan : (cause : Refusal) → read_plan bytes ≡ refused (number_of cause) → Answers bytes n schedule (Err cause) schedule
   unfolding pool_into read_into
-  refuses_plan cause e = (rw e, λ t q. absurd (let z : ◌≡◌ {A = ℕ} 0 1 = cc in omega arith))
+  refuses_plan cause e = (rw e, λ t q. cc)
 
-  pub answers_read : (form : ℕ) (p : Plan) (r : Ran) (after : List ℕ) → read_plan bytes ≡ accepted (record { form = form; plan = p })
+  pub answers_read : (form : ℕ) (p : Plan) (r : Returned Tally Refusal) (after : List ℕ) → read_plan bytes ≡ accepted (record { form = form; plan = p })
       → Answered form n schedule r after p → Answers bytes n schedule r after
   unfolding pool_into read_into
   answers_read form p r after e (a, claimed) = (
@@ -61,13 +60,13 @@ module _ {form actions : ℕ} {plan entering : List ℕ} {p : Plan} (given : Run
   x = record { form = form; plan = p }
 
   module _ (n : ℕ) (schedule : List ℕ) where
-    pub refuses_workers : (1 ≤ n → n ≤ 16 → ⊥) → Answered form n schedule (RefusedRun Refusal.Workers) schedule p
+    pub refuses_workers : (1 ≤ n → n ≤ 16 → ⊥) → Answered form n schedule (Err Refusal.Workers) schedule p
     unfolding admitted workers_fit resulted
     refuses_workers never =
         let e : workers_fit n ≡ false = false_of (workers_fit n) (λ t.
         never (leb→le 1 n (both_left (leb 1 n) (leb n 16) t)) (leb→le n 16 (both_right (leb 1 n) (leb n 16) t))) in
         let no : admitted (accepted x) n ≡ refused 7 = rw (admitted, e) in
-        (rw no, λ t q. absurd (let z : ◌≡◌ {A = ℕ} 0 1 = cc in omega arith))
+        (rw no, λ t q. cc)
 
     module _ (some : 1 ≤ n) (most : n ≤ 16) where
       fit : Fit p n
@@ -94,11 +93,11 @@ module _ {form actions : ℕ} {plan entering : List ℕ} {p : Plan} (given : Run
       whole : length (schedule_bytes form n (pool_of p n).rows) ≡ schedule_length form actions
       whole = made_fits fitting ∙ ap (schedule_length form) (sym g.all)
 
-      pub refuses_short : length schedule < schedule_length form actions → Answered form n schedule (RefusedRun Refusal.Short) schedule p
+      pub refuses_short : length schedule < schedule_length form actions → Answered form n schedule (Err Refusal.Short) schedule p
       unfolding resulted
       refuses_short h =
           let l : length schedule < length (schedule_bytes form n (pool_of p n).rows) = omega (arith, whole) in
-          (rw (ran, resulted, lt-leb _ _ l), λ t q. absurd (let z : ◌≡◌ {A = ℕ} 0 1 = cc in omega arith))
+          (rw (ran, resulted, lt-leb _ _ l), λ t q. cc)
 
       -- what all rounds are given
       pub pool_asked : PoolGiven n actions plan entering p
@@ -118,7 +117,7 @@ module _ {form actions : ℕ} {plan entering : List ℕ} {p : Plan} (given : Run
             × Words (round_bits form + 4) actions words
         rows_asked = (given.byte, most, in_few g, long, rw g.all (made_words fitting words words_are))
 
-        pub pool_answers : (out : List ℕ) → ScheduleWritten form n actions words schedule out → Answered form n schedule (Done t) out p
+        pub pool_answers : (out : List ℕ) → ScheduleWritten form n actions words schedule out → Answered form n schedule (Ok t) out p
         unfolding resulted
         pool_answers out w =
             let bytes = schedule_bytes form n (pool_of p n).rows in

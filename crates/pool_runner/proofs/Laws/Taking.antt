@@ -41,6 +41,7 @@ use Rattle.crew.proofs.Laws.Crews.{crewed_mark}
 use Rattle.crew.proofs.Laws.Folds.{fold_skip_next, fold_skip_end}
 use Rattle.crew.proofs.Laws.Members.{member_none}
 use Rattle.crew.proofs.Laws.Walks.{left_known, left_ahead, left_test, left_next}
+use Rattle.std.specs.Prelude.{Some, None}
 use Rattle.pool_set.specs.Pool.{First, Put}
 use Rattle.rounds.specs.Account.{is_idle}
 use Rattle.rounds.proofs.Laws.Standing.{idle_in}
@@ -88,25 +89,24 @@ module _ {p : Plan} {n : ℕ} {plan : List ℕ} (g : Fitted p n plan) where
     rests : (k : ℕ) → z.past ≤ k → k < n → idle_in ended_in.workers k ≡ false → at k ≡ now → take p k (at k) ≡ at k
     rests k l h t e = take_holds p k (at k) (holds_on k k (omega arith) t)
 
-    small : {j : ℕ} → First pool j → (j ≡ 256 → ⊥) → j < length p
-    small {j} f ne = by_cases (dec_lt j (length p)) (λ l. l) (λ l.
-        let b : j < 256 = omega (arith, f.most, ne) in
-        absurd (true≢false (sym (f.there b) ∙ z.done.pooled.past j (omega arith) b)))
+    small : {j : ℕ} → First pool (Some j) → j < length p
+    small {j} f = by_cases (dec_lt j (length p)) (λ l. l)
+        (λ l. absurd (true≢false (sym f.1 ∙ z.done.pooled.past j (omega arith) f.0)))
 
     -- the lowest job of the set
-    module _ {j : ℕ} (f : First pool j) (ne : j ≢ 256) where
+    module _ {j : ℕ} (f : First pool (Some j)) where
       pub takes_found : (j < length p) × (j < 256)
-      takes_found = (small f ne, omega (arith, f.most, ne))
+      takes_found = (small f, f.0)
 
       found : Finds (waits p now.next now.workers) (length p) (suc j)
       found = record {
         none = λ e. absurd (omega arith);
         some = λ i e. let q : i ≡ j = omega arith in rw q (
           takes_found.0,
-          of_true _ (sym (z.done.pooled.waiting j takes_found.0) ∙ f.there takes_found.1),
+          of_true _ (sym (z.done.pooled.waiting j takes_found.0) ∙ f.1),
           λ u l t.
               let b : u < length p = omega (arith, takes_found.0) in
-              true≢false (sym (true_of _ t) ∙ sym (z.done.pooled.waiting u b) ∙ f.none u (omega (arith, takes_found.1)) l),
+              true≢false (sym (true_of _ t) ∙ sym (z.done.pooled.waiting u b) ∙ f.2 u l),
         );
       }
 
@@ -171,7 +171,7 @@ module _ {p : Plan} {n : ℕ} {plan : List ℕ} (g : Fitted p n plan) where
 
         free : Free p now.next now.workers j
         free = waits_is p ok now.next now.workers j takes_found.0
-            (of_true _ (sym (z.done.pooled.waiting j takes_found.0) ∙ f.there takes_found.1))
+            (of_true _ (sym (z.done.pooled.waiting j takes_found.0) ∙ f.1))
 
         pub takes_having : Having j plan progress deed
         takes_having = record { planned = g.planned; known = takes_found.0; left = free.living.left; progressed = z.done.progressed }
@@ -245,7 +245,7 @@ module _ {p : Plan} {n : ℕ} {plan : List ℕ} (g : Fitted p n plan) where
                   ∙ ap (λ m. slot r m c) rest_is ∙ ap (λ y. slot r (rest_in p now.next now.spent y) c) (sym hand)
 
     -- the set is empty
-    pub takes_none : First pool 256 → InTakes p n r 0 weighs peak idlers workers ends progress pool rows
+    pub takes_none : First pool None → InTakes p n r 0 weighs peak idlers workers ends progress pool rows
     takes_none f = record {
       state = z.state;
       begun = z.begun;
@@ -263,7 +263,7 @@ module _ {p : Plan} {n : ℕ} {plan : List ℕ} (g : Fitted p n plan) where
             let l = free.living.below in
             let few = jobs_range p ok in
             true≢false (sym (true_of _ (waits_by p ok now.next now.workers j free)) ∙ sym (z.done.pooled.waiting j l)
-            ∙ f.none j (omega arith) (omega arith))
+            ∙ f j (omega arith))
 
         takes_nothing : (k : ℕ) → take p k now ≡ now
         takes_nothing k = go (holds (worker_of now k)) refl

@@ -1,10 +1,7 @@
 -- `run::note` meets its contract.
 use mathlib.Core.Path.{refl}
-use Rattle.pool_runner.proofs.Laws.Noting.{noted_none, noted_here, marks_here}
+use Rattle.pool_runner.proofs.Laws.Noting.{noted_here, marks_here}
 use Rattle.pool_runner.proofs.run.note.Goals as goal
-
-pub returns-then-cost-eq0 : goal.returns-then-cost-eq0
-returns-then-cost-eq0 c = (noted_none c.requires.3 c.if-cost-eq0.true, λ s. s)
 
 pub returns : goal.returns
 returns c =

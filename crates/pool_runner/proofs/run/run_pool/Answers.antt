@@ -1,7 +1,6 @@
 -- `run_pool` meets its contract. Each loop's invariant says, of every plan that the run may have been given, how the objects stand for a
 -- state of its run (L/Standing), and what the marks tell of the calendar; the laws of L/Marks, L/Rounds and L/Taking lead from one to the
 -- next. The measure of the rounds is what is left of 30,720, that of the other loops the set that is left.
-use Prim.Native.Nat.{◌≤◌, ◌<◌}
 use mathlib.Core.Path.{refl, sym, ◌∙◌}
 use native.Mathlib.Omega.{arith}
 use Rattle.rounds.proofs.Laws.Beginning.{in_few}
@@ -11,27 +10,17 @@ use Rattle.pool_runner.proofs.Laws.Noting.{marks_none}
 use Rattle.pool_runner.proofs.Laws.Marks.{marks_some, marks_range, marks_on, marks_waits}
 use Rattle.pool_runner.proofs.Laws.Rounds.{begun_early, turns_begin, turns_early, turns_known, turns_turning, turns_idle, turns_left}
 use Rattle.pool_runner.proofs.Laws.Rounds.{turns_note, turns_next, turns_work, turns_over, turns_takes}
-use Rattle.pool_runner.proofs.Laws.Taking.{takes_found, takes_known, takes_having, takes_note, takes_next, takes_none, takes_round}
+use Rattle.pool_runner.proofs.Laws.Taking.{takes_known, takes_having, takes_note, takes_next, takes_none, takes_round}
 use Rattle.pool_runner.proofs.run.run_pool.Goals as goal
-use Rattle.pool_runner.proofs.run.run_pool.Goals.{After-lowest-by, After-lowest-w, After-lowest-w-else-j-eq256}
 
 pub start_progress-requires : goal.start_progress-requires
 start_progress-requires c = let (p, g) = c.requires.0 in (in_few g.given, g.given.whole, refl)
-
-pub cost_at-requires : goal.cost_at-requires
-cost_at-requires c = omega arith
 
 pub note-marks-requires : goal.note-marks-requires
 note-marks-requires c =
     let (p, g) = c.requires.0 in
     let (is, some, few) = first_note g c.cost_at.ensures.0 in
     (omega arith, few, omega arith, refl)
-
-pub frame_of-weight-requires : goal.frame_of-weight-requires
-frame_of-weight-requires c = omega arith
-
-pub others-idlers-requires : goal.others-idlers-requires
-others-idlers-requires c = let (p, g) = c.requires.0 in (g.some, g.most)
 
 pub loop-w-init : goal.loop-w-init
 loop-w-init c =
@@ -47,33 +36,14 @@ loop-w-init c =
 pub lowest-by-requires : goal.lowest-by-requires
 lowest-by-requires c = let (p, f, z) = one_of c.loop-w.invariant.0 in marks_some f z c.loop-w.invariant.1
 
--- how many rounds are passed over
-passed : (c : After-lowest-by) → (1 ≤ c.lowest-by.result) × (c.lowest-by.result < 16)
-passed c = marks_range _ _ c.loop-w.invariant.1 c.lowest-by.ensures
-
 pub overflow_add-r : goal.overflow_add-r
-overflow_add-r c = let (p, f, z) = one_of c.loop-w.invariant.0 in omega (arith, begun_early f z.begun, passed c)
+overflow_add-r c = let (p, f, z) = one_of c.loop-w.invariant.0 in omega (arith, begun_early f z.begun, marks_range _ _ c.loop-w.invariant.1 c.lowest-by.ensures)
 
 pub rest-requires : goal.rest-requires
 rest-requires c = let (p, f, z) = one_of c.loop-w.invariant.0 in marks_some f z c.loop-w.invariant.1
 
-pub overflow_cast-marks : goal.overflow_cast-marks
-overflow_cast-marks c = omega (arith, passed (goal.at.overflow_cast-marks c).After-lowest-by)
-
 pub overflow_shr-marks : goal.overflow_shr-marks
-overflow_shr-marks c = omega (arith, passed (goal.at.overflow_shr-marks c).After-lowest-by)
-
-pub offset_bounds-ends-r : goal.offset_bounds-ends-r
-offset_bounds-ends-r c = omega arith
-
-pub bounds-ends-r : goal.bounds-ends-r
-bounds-ends-r c = omega arith
-
-pub offset_bounds-ends-r-in-loop-w : goal.offset_bounds-ends-r-in-loop-w
-offset_bounds-ends-r-in-loop-w c = omega arith
-
-pub bounds-ends-r-in-loop-w : goal.bounds-ends-r-in-loop-w
-bounds-ends-r-in-loop-w c = omega arith
+overflow_shr-marks c = omega (arith, marks_range _ _ c.loop-w.invariant.1 c.lowest-by.ensures)
 
 pub loop-left-init : goal.loop-left-init
 loop-left-init c =
@@ -84,18 +54,13 @@ loop-left-init c =
       marks_on _ _ marked low z.timed.long c.rest.ensures,
     )
 
-pub lowest-w-requires : goal.lowest-w-requires
-lowest-w-requires c = omega arith
-
--- the lowest worker that is left
-holder : (c : After-lowest-w) → c.lowest-w.result < 16
-holder c = let (p, f, z) = one_of c.loop-left.invariant.0 in (turns_known f z c.lowest-w.ensures).1
-
 pub offset_bounds-workers-w : goal.offset_bounds-workers-w
-offset_bounds-workers-w c = omega (arith, holder c)
+offset_bounds-workers-w c =
+    let (p, f, z) = one_of c.loop-left.invariant.0 in omega (arith, turns_known f z c.lowest-w.ensures)
 
 pub bounds-workers-w : goal.bounds-workers-w
-bounds-workers-w c = holder c
+bounds-workers-w c =
+    let (p, f, z) = one_of c.loop-left.invariant.0 in omega (arith, turns_known f z c.lowest-w.ensures)
 
 pub turn-after-requires : goal.turn-after-requires
 turn-after-requires c =
@@ -103,13 +68,12 @@ turn-after-requires c =
     (_, turns_turning f z c.lowest-w.ensures)
 
 pub offset_bounds-workers-w-in-loop-left : goal.offset_bounds-workers-w-in-loop-left
-offset_bounds-workers-w-in-loop-left c = omega (arith, holder (goal.at.offset_bounds-workers-w-in-loop-left c).After-lowest-w)
+offset_bounds-workers-w-in-loop-left c =
+    let (p, f, z) = one_of c.loop-left.invariant.0 in omega (arith, turns_known f z c.lowest-w.ensures)
 
 pub bounds-workers-w-in-loop-left : goal.bounds-workers-w-in-loop-left
-bounds-workers-w-in-loop-left c = holder (goal.at.bounds-workers-w-in-loop-left c).After-lowest-w
-
-pub larger-peak-requires : goal.larger-peak-requires
-larger-peak-requires c = tt
+bounds-workers-w-in-loop-left c =
+    let (p, f, z) = one_of c.loop-left.invariant.0 in omega (arith, turns_known f z c.lowest-w.ensures)
 
 pub idle_after-idlers-requires : goal.idle_after-idlers-requires
 idle_after-idlers-requires c =
@@ -129,12 +93,6 @@ note-marks-requires-in-loop-left c =
     let taken = c.turn-after.ensures _ (turns_turning f z low) in
     turns_note f z low taken (c.rounds_of.ensures _ (turns_left f z low taken))
 
-pub rest-left-requires : goal.rest-left-requires
-rest-left-requires c = omega arith
-
-pub loop-left-smaller : goal.loop-left-smaller
-loop-left-smaller c = c.rest-left.ensures.less
-
 pub loop-left-preserved : goal.loop-left-preserved
 loop-left-preserved c =
     let low = c.lowest-w.ensures in
@@ -142,20 +100,9 @@ loop-left-preserved c =
       go_on all (λ p f z.
           let taken = c.turn-after.ensures _ (turns_turning f z low) in
           turns_next f z low taken (c.rounds_of.ensures _ (turns_left f z low taken)) c.note-marks-in-loop-left.ensures.0 c.idle_after-idlers.ensures
-          c.larger-peak.ensures c.rest-left.ensures),
+          c.max-peak.ensures c.rest-left.ensures),
       c.note-marks-in-loop-left.ensures.1 marked,
     )
-
-pub done_of-requires : goal.done_of-requires
-done_of-requires c = omega arith
-
-pub first_of-requires : goal.first_of-requires
-first_of-requires c = omega arith
-
-pub work-requires : goal.work-requires
-work-requires c =
-    let (p, g) = c.loop-left.invariant.0.given in
-    (p, record { all = g.given.all; planned = g.given.planned })
 
 pub counted-requires : goal.counted-requires
 counted-requires c =
@@ -183,77 +130,55 @@ loop-left-2-init c =
 pub loop-w-smaller : goal.loop-w-smaller
 loop-w-smaller c =
     let (p, f, z) = one_of c.loop-w.invariant.0 in
-    omega (arith, begun_early f z.begun, passed (goal.at.loop-w-smaller c).After-lowest-by)
+    omega (arith, begun_early f z.begun, marks_range _ _ c.loop-w.invariant.1 c.lowest-by.ensures)
 
+pub loop-w-smaller-in-loop-left-2 : goal.loop-w-smaller-in-loop-left-2
+loop-w-smaller-in-loop-left-2 c =
+    let (p, f, z) = one_of c.loop-w.invariant.0 in
+    omega (arith, begun_early f z.begun, marks_range _ _ c.loop-w.invariant.1 c.lowest-by.ensures)
+
+-- the set is empty
 pub loop-w-preserved : goal.loop-w-preserved
-loop-w-preserved c = let (all, marked) = c.loop-left-2.invariant in (go_on all (λ p f z. takes_round f z (omega arith)), marked)
-
-pub first-j-requires : goal.first-j-requires
-first-j-requires c = tt
-
-pub loop-left-2-smaller-then-j-eq256 : goal.loop-left-2-smaller-then-j-eq256
-loop-left-2-smaller-then-j-eq256 c = omega arith
-
-pub loop-left-2-preserved-then-j-eq256 : goal.loop-left-2-preserved-then-j-eq256
-loop-left-2-preserved-then-j-eq256 c =
+loop-w-preserved c =
     let (all, marked) = c.loop-left-2.invariant in
-    (go_on all (λ p f z. takes_none f z (rw c.if-j-eq256.true at c.first-j.ensures)), marked)
+    (go_on all (λ p f z. takes_round f (takes_none f z c.in_default.ensures) refl), marked)
 
-pub lowest-w-requires-else-j-eq256 : goal.lowest-w-requires-else-j-eq256
-lowest-w-requires-else-j-eq256 c = omega arith
+-- nobody is left
+pub loop-w-preserved-in-loop-left-2 : goal.loop-w-preserved-in-loop-left-2
+loop-w-preserved-in-loop-left-2 c =
+    let (all, marked) = c.loop-left-2.invariant in (go_on all (λ p f z. takes_round f z (omega arith)), marked)
 
-pub remove-requires : goal.remove-requires
-remove-requires c =
-    let (p, f, z) = one_of c.loop-left-2.invariant.0 in
-    ((takes_found f z c.first-j.ensures c.if-j-eq256.false).1, z.done.pooled.long)
+pub offset_bounds-workers-w-in-loop-left-2 : goal.offset_bounds-workers-w-in-loop-left-2
+offset_bounds-workers-w-in-loop-left-2 c =
+    let (p, f, z) = one_of c.loop-left-2.invariant.0 in omega (arith, takes_known f z c.in-Some.ensures c.lowest-w-in-loop-left-2.ensures)
 
-pub byte-requires : goal.byte-requires
-byte-requires c =
-    let (p, f, z) = one_of c.loop-left-2.invariant.0 in
-    (takes_found f z c.first-j.ensures c.if-j-eq256.false).1
-
--- the lowest worker that is left
-taker : (c : After-lowest-w-else-j-eq256) → c.lowest-w-else-j-eq256.result < 16
-taker c =
-    let (p, f, z) = one_of c.loop-left-2.invariant.0 in
-    (takes_known f z c.first-j.ensures c.if-j-eq256.false c.lowest-w-else-j-eq256.ensures).1
-
-pub offset_bounds-workers-w-else-j-eq256 : goal.offset_bounds-workers-w-else-j-eq256
-offset_bounds-workers-w-else-j-eq256 c = omega (arith, taker (goal.at.offset_bounds-workers-w-else-j-eq256 c).After-lowest-w-else-j-eq256)
-
-pub bounds-workers-w-else-j-eq256 : goal.bounds-workers-w-else-j-eq256
-bounds-workers-w-else-j-eq256 c = taker (goal.at.bounds-workers-w-else-j-eq256 c).After-lowest-w-else-j-eq256
+pub bounds-workers-w-in-loop-left-2 : goal.bounds-workers-w-in-loop-left-2
+bounds-workers-w-in-loop-left-2 c =
+    let (p, f, z) = one_of c.loop-left-2.invariant.0 in omega (arith, takes_known f z c.in-Some.ensures c.lowest-w-in-loop-left-2.ensures)
 
 pub without-idlers-requires : goal.without-idlers-requires
-without-idlers-requires c = taker (goal.at.without-idlers-requires c).After-lowest-w-else-j-eq256
+without-idlers-requires c =
+    let (p, f, z) = one_of c.loop-left-2.invariant.0 in omega (arith, takes_known f z c.in-Some.ensures c.lowest-w-in-loop-left-2.ensures)
 
 pub next_cost-requires : goal.next_cost-requires
 next_cost-requires c =
     let (p, f, z) = one_of c.loop-left-2.invariant.0 in
-    (_, takes_having f z c.first-j.ensures c.if-j-eq256.false c.lowest-w-else-j-eq256.ensures)
+    (_, takes_having f z c.in-Some.ensures c.lowest-w-in-loop-left-2.ensures)
 
-pub note-marks-requires-else-j-eq256 : goal.note-marks-requires-else-j-eq256
-note-marks-requires-else-j-eq256 c =
-    let low = c.lowest-w-else-j-eq256.ensures in
-    let ne = c.if-j-eq256.false in
-    let found = c.first-j.ensures in
+pub note-marks-requires-in-loop-left-2 : goal.note-marks-requires-in-loop-left-2
+note-marks-requires-in-loop-left-2 c =
+    let low = c.lowest-w-in-loop-left-2.ensures in
+    let found = c.in-Some.ensures in
     let (p, f, z) = one_of c.loop-left-2.invariant.0 in
-    takes_note f z found ne low (c.next_cost.ensures _ (takes_having f z found ne low))
-
-pub rest-left-requires-else-j-eq256 : goal.rest-left-requires-else-j-eq256
-rest-left-requires-else-j-eq256 c = omega arith
-
-pub loop-left-2-smaller : goal.loop-left-2-smaller
-loop-left-2-smaller c = c.rest-left-else-j-eq256.ensures.less
+    takes_note f z found low (c.next_cost.ensures _ (takes_having f z found low))
 
 pub loop-left-2-preserved : goal.loop-left-2-preserved
 loop-left-2-preserved c =
-    let low = c.lowest-w-else-j-eq256.ensures in
-    let ne = c.if-j-eq256.false in
-    let found = c.first-j.ensures in
+    let low = c.lowest-w-in-loop-left-2.ensures in
+    let found = c.in-Some.ensures in
     let (all, marked) = c.loop-left-2.invariant in (
       go_on all (λ p f z.
-          takes_next f z found ne low (c.next_cost.ensures _ (takes_having f z found ne low)) c.remove.ensures c.without-idlers.ensures
-          c.note-marks-else-j-eq256.ensures.0 c.rest-left-else-j-eq256.ensures c.byte.ensures),
-      c.note-marks-else-j-eq256.ensures.1 marked,
+          takes_next f z found low (c.next_cost.ensures _ (takes_having f z found low)) c.remove.ensures c.without-idlers.ensures
+          c.note-marks-in-loop-left-2.ensures.0 c.rest-left-in-loop-left-2.ensures refl),
+      c.note-marks-in-loop-left-2.ensures.1 marked,
     )
