@@ -13,7 +13,7 @@ use plan_measure::measure_read;
 use scheduler::run::run_read;
 
 // The twelve counts that are printed.
-#[derive(Clone, Copy)]
+#[derive(Clone, Copy, PartialEq, Eq)]
 pub struct Counts {
     pub rounds: u32,
     pub actions: u32,
