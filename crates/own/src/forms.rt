@@ -4,29 +4,25 @@ ghost use Rattle.plan_writer.specs.Written.{answer_of};
 ghost use Rattle.plan_forms.specs.Forms.{to_form2, to_form1};
 ghost use Rattle.own.specs.Forms.{old_back, new_back};
 
+use plan::refusal::Refusal;
 use plan_forms::{to_form_1, to_form_2};
-use plan_writer::Answer;
 
 // Turns a plan of form 1 into form 2 and back: what comes back is the plan's bytes.
-pub fn old_back(plan: &[u8], bytes: &mut [u8], out: &mut [u8]) -> Answer
+pub fn old_back(plan: &[u8], bytes: &mut [u8], out: &mut [u8]) -> Result<usize, Refusal>
     ensures out_after { record { answer = answer_of result; buffer = out.new }
         ≡ old_back plan.now bytes.old out.old }
     ensures bytes_after { bytes.new ≡ (to_form2 plan.now bytes.old).buffer }
 {
-    match to_form_2(plan, bytes) {
-        Answer::Refused(cause) => Answer::Refused(cause),
-        Answer::Count(n) => to_form_1(&bytes[0..n], out),
-    }
+    let n = to_form_2(plan, bytes)?;
+    to_form_1(&bytes[0..n], out)
 }
 
 // Turns a plan of form 2 into form 1 and back: what comes back is the plan's bytes.
-pub fn new_back(plan: &[u8], bytes: &mut [u8], out: &mut [u8]) -> Answer
+pub fn new_back(plan: &[u8], bytes: &mut [u8], out: &mut [u8]) -> Result<usize, Refusal>
     ensures out_after { record { answer = answer_of result; buffer = out.new }
         ≡ new_back plan.now bytes.old out.old }
     ensures bytes_after { bytes.new ≡ (to_form1 plan.now bytes.old).buffer }
 {
-    match to_form_1(plan, bytes) {
-        Answer::Refused(cause) => Answer::Refused(cause),
-        Answer::Count(n) => to_form_2(&bytes[0..n], out),
-    }
+    let n = to_form_1(plan, bytes)?;
+    to_form_2(&bytes[0..n], out)
 }

@@ -2,11 +2,10 @@
 ghost use Rattle.std.specs.Prelude.{◌≡◌, true};
 ghost use Rattle.scheduler.specs.Entry.{run_into};
 
-use checker::{Judged, check};
-use numbers::units8;
-use plan_measure::{Measured, measure};
+use checker::check;
+use plan_measure::measure;
 use scheduler::length::schedule_length;
-use scheduler::run::{Ran, run};
+use scheduler::run::run;
 
 // Runs the plan and checks the schedule that was written. No input makes it false: what `run` refuses has no schedule. How long the
 // schedule is, the plan's form, its first byte, and its number of actions tell.
@@ -15,17 +14,12 @@ pub fn own_schedule(plan: &[u8], workers: u32, choices: &[u8], schedule: &mut [u
     ensures schedule_after { schedule.new
         ≡ (run_into plan.now workers choices.now schedule.old).schedule }
 {
-    match run(plan, workers, choices, schedule) {
-        Ran::Refused(_) => true,
-        Ran::Done(_) => match measure(plan) {
-            Measured::Refused(_) => false,
-            Measured::Of(m) => {
-                let n = schedule_length(units8(plan[0]), m.total as usize);
-                match check(plan, &schedule[0..n]) {
-                    Judged::Accepted => true,
-                    Judged::Refused(_) => false,
-                }
-            }
-        },
-    }
+    let Ok(_) = run(plan, workers, choices, schedule) else {
+        return true;
+    };
+    let Ok(m) = measure(plan) else {
+        return false;
+    };
+    let n = schedule_length(u32::from(plan[0]), m.total as usize);
+    check(plan, &schedule[0..n]).is_ok()
 }

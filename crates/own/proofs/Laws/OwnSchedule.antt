@@ -4,7 +4,10 @@
 --   run_room, run_accepted     == the schedule of a run that was done lies within so many bytes, and is accepted
 --   left_is, left_read, left_room, left_accepted == so it is of what the entry `run` left
 use Prim.Native.Nat.{ℕ, ◌-◌, ◌≤◌}
-use mathlib.Core.Path.{◌≡◌, sym, ap, ap₂, ◌∙◌}
+use Rattle.std.specs.Prelude.{Result as Returned, Ok, Err}
+use Rattle.std.specs.Result.{is_ok}
+use mathlib.Core.Path.{◌≡◌, refl, sym, ap, ap₂, ◌∙◌}
+use mathlib.Core.Bool.{true}
 use mathlib.Core.List.{List}
 use native.Mathlib.Omega.{arith}
 use lib.ListN.{length, get_or, take, drop, length-append}
@@ -18,8 +21,6 @@ use Rattle.plan.proofs.Laws.Outcomes.{refused_accepted}
 use Rattle.plan.proofs.Laws.Valid.{total_range}
 use Rattle.plan_writer.proofs.Laws.PlanBytes.{read_form}
 use Rattle.plan_measure.specs.declared.Measures.{Measures}
-use Rattle.plan_measure.specs.declared.Measured.{Measured}
-use Rattle.plan_measure.specs.declared.Measured.TheVariants.{Refused as NotMeasured, Of}
 use Rattle.plan_measure.specs.Measure.{measures_of, measured, measures, told}
 use Rattle.courses.specs.Schedule.{schedule_length, schedule_bytes, checked}
 use Rattle.runs.specs.Setting.{setting}
@@ -28,11 +29,7 @@ use Rattle.runs.specs.Run.{run}
 use Rattle.runs.proofs.Laws.OwnSchedule.{run_checked}
 use Rattle.runs.proofs.Laws.Whole.{run_trace}
 use Rattle.runs.proofs.Laws.Coursed.{round_most}
-use Rattle.scheduler.specs.declared.run.Ran.{Ran}
-use Rattle.scheduler.specs.declared.run.Ran.TheVariants.{Done}
 use Rattle.scheduler.specs.Entry.{Result, run_into, ran_of}
-use Rattle.checker.specs.declared.Judged.{Judged}
-use Rattle.checker.specs.declared.Judged.TheVariants.{Refused}
 use Rattle.checker.specs.Answer.{judged_of}
 use Rattle.own.proofs.Laws.Wrote.{Wrote, wrote, wrote_fit, wrote_length, wrote_front, wrote_few}
 
@@ -40,7 +37,7 @@ abbrev pub Sized : List ℕ → ℕ → Type 0
 Sized plan k = (x : Read) → read_plan plan ≡ accepted x → k ≡ schedule_length x.form (total x.plan)
 
 -- by what measuring the plan tells
-module _ (plan : List ℕ) (r : Measured) (m : Measures) (e : told r ≡ measures plan) (of : r ≡ Of m) where
+module _ (plan : List ℕ) (r : Returned Measures Refusal) (m : Measures) (e : told r ≡ measures plan) (of : r ≡ Ok m) where
   measured_total : (x : Read) → read_plan plan ≡ accepted x → m.total ≡ total x.plan
   unfolding measures measured measures_of
   measured_total x q =
@@ -84,7 +81,7 @@ module _ (plan : List ℕ) (n : ℕ) (choices before after : List ℕ) where
       → after ≡ (run_into plan n choices before).schedule
   left_is o e = ap (λ (x : Result). x.schedule) e
 
-  module _ (r : Ran) (t : Tally) (e : record { answer = ran_of r; schedule = after } ≡ run_into plan n choices before) (done : r ≡ Done t) where
+  module _ (r : Returned Tally Refusal) (t : Tally) (e : record { answer = ran_of r; schedule = after } ≡ run_into plan n choices before) (done : r ≡ Ok t) where
     answered : (run_into plan n choices before).answer ≡ accepted t
     answered = sym (ap (λ (x : Result). x.answer) e) ∙ ap ran_of done
 
@@ -92,7 +89,7 @@ module _ (plan : List ℕ) (n : ℕ) (choices before after : List ℕ) where
     pub left_read : (x : Read) × (read_plan plan ≡ accepted x)
     left_read = let w = wrote plan n choices before t answered in (w.x, w.read)
 
-    pub left_measured : (m : Measured) (cause : Refusal) → told m ≡ measures plan → m ≡ NotMeasured cause → ⊥
+    pub left_measured : (m : Returned Measures Refusal) (cause : Refusal) → told m ≡ measures plan → m ≡ Err cause → ⊥
     unfolding measures measured
     left_measured m cause told-so f =
         let (x, q) = left_read in
@@ -103,10 +100,11 @@ module _ (plan : List ℕ) (n : ℕ) (choices before after : List ℕ) where
       pub left_room : k ≤ length after
       left_room = rw (left_is (ran_of r) e) (run_room plan n choices before t answered k sized)
 
-      -- the checker, lent the part from 0 to that length, does not refuse it
-      pub left_accepted : (j : Judged) (cause : Refusal) → judged_of j ≡ checked plan (take (k - 0) (drop 0 after)) → j ≡ Refused cause → ⊥
-      left_accepted j cause told-so f =
+      -- the checker, lent the part from 0 to that length, accepts it
+      pub left_accepted : (j : Returned Unit Refusal) → judged_of j ≡ checked plan (take (k - 0) (drop 0 after)) → is_ok j ≡ true
+      left_accepted (Ok _) told-so = refl
+      left_accepted (Err cause) told-so =
           let whole : k - 0 ≡ k = omega arith in
           let x : ◌≡◌ {A = Outcome ℕ} (refused (number_of cause)) (accepted 0) =
-          sym (ap judged_of f) ∙ (told-so ∙ rw (whole, left_is (ran_of r) e) (run_accepted plan n choices before t answered k sized)) in
+          told-so ∙ rw (whole, left_is (ran_of r) e) (run_accepted plan n choices before t answered k sized) in
           refused_accepted x
