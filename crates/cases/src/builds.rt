@@ -1,26 +1,26 @@
 // An input of `buildrun` is run.
-use crate::told::{count, refused};
-use build::{Built, Counts, build};
+use crate::told::refused;
+use build::{Counts, build};
 use std::io;
 
 pub fn case(rt: &impl Print, input: &[u8]) -> io::Result<()> {
     match build(input) {
-        Built::Refused(cause) => refused(rt, cause),
-        Built::Counted(c) => counts(rt, c),
+        Ok(c) => counts(rt, c),
+        Err(cause) => refused(rt, cause),
     }
 }
 
 fn counts(rt: &impl Print, c: Counts) -> io::Result<()> {
-    count(rt, "rounds ", c.rounds)?;
-    count(rt, " actions ", c.actions)?;
-    count(rt, " longest ", c.longest)?;
-    count(rt, " path ", c.path)?;
-    count(rt, " parallel ", c.parallel)?;
-    count(rt, " rest ", c.rest)?;
-    count(rt, " peak ", c.peak)?;
-    count(rt, " idle ", c.idle)?;
-    count(rt, " requests ", c.requests)?;
-    count(rt, " steals ", c.steals)?;
-    count(rt, " bare ", c.bare)?;
-    count(rt, " idle-victim ", c.idle_victim)
+    print!(rt;
+        "rounds {} actions {} longest {} path {} ",
+        c.rounds, c.actions, c.longest, c.path
+    )?;
+    print!(rt;
+        "parallel {} rest {} peak {} idle {} ",
+        c.parallel, c.rest, c.peak, c.idle
+    )?;
+    print!(rt;
+        "requests {} steals {} bare {} idle-victim {}",
+        c.requests, c.steals, c.bare, c.idle_victim
+    )
 }

@@ -1,60 +1,45 @@
-// A plan is turned into form 1 or 2 and back. Buffers are filled with 170, to see that a refusal writes nothing, and that nothing
-// beyond an answer is written.
-use crate::plans::{compared, form_of, kept};
-use crate::rooms::number;
-use crate::told::{refused, told};
+// A plan is turned into form 1 or 2 and back.
+use crate::buffers::{BYTE, BYTES, kept};
+use crate::parts::room;
+use crate::plans::{compared, form_of};
+use crate::told::refused;
+use plan::refusal::Refusal;
 use plan_forms::{to_form_1, to_form_2};
-use plan_writer::Answer;
 use std::io;
 
-pub fn case(rt: &impl Print, form: u32, plan: &[u8], rest: &[u8]) -> io::Result<()> {
-    let mut bytes = [170u8; 8192];
-    match within(room(rest), form, plan, &mut bytes) {
-        Answer::Refused(cause) => {
-            refused(rt, cause)?;
-            kept(rt, &bytes, 0, ", kept")
-        }
-        Answer::Count(n) => {
-            told(rt, "bytes ", n)?;
+// The room may stand in `rest`.
+pub fn case(rt: &impl Print, form: u32, plan: &[u8], rest: Option<&[u8]>) -> io::Result<()> {
+    let mut bytes = [BYTE; BYTES];
+    match turned(form, plan, &mut bytes[..room(rest)]) {
+        Ok(n) => {
+            print!(rt; "bytes {n}")?;
             back(rt, plan, &bytes, n)
         }
+        Err(cause) => {
+            refused(rt, cause)?;
+            kept(rt, &bytes, BYTE, 0, ", kept")
+        }
     }
 }
 
-// The room may stand in `rest`, behind a space.
-pub fn room(rest: &[u8]) -> usize {
-    if rest.len() == 0 {
-        return 8192;
+fn turned(form: u32, plan: &[u8], bytes: &mut [u8]) -> Result<usize, Refusal> {
+    match form {
+        1 => to_form_1(plan, bytes),
+        _ => to_form_2(plan, bytes),
     }
-    number(rest)
-}
-
-// Turned, in that much of the buffer.
-fn within(room: usize, form: u32, plan: &[u8], bytes: &mut [u8]) -> Answer {
-    if room < bytes.len() {
-        return turned(form, plan, &mut bytes[0..room]);
-    }
-    turned(form, plan, bytes)
-}
-
-fn turned(form: u32, plan: &[u8], bytes: &mut [u8]) -> Answer {
-    if form == 1 {
-        return to_form_1(plan, bytes);
-    }
-    to_form_2(plan, bytes)
 }
 
 // The first n bytes are turned into the form that the plan has.
 fn back(rt: &impl Print, plan: &[u8], bytes: &[u8], n: usize) -> io::Result<()> {
     if n <= bytes.len() {
-        let mut again = [170u8; 8192];
-        match turned(form_of(plan), &bytes[0..n], &mut again) {
-            Answer::Refused(cause) => refused(rt, cause)?,
-            Answer::Count(m) => {
-                told(rt, ", back ", m)?;
+        let mut again = [BYTE; BYTES];
+        match turned(form_of(plan), &bytes[..n], &mut again) {
+            Ok(m) => {
+                print!(rt; ", back {m}")?;
                 compared(rt, plan, &again, m)?;
-                kept(rt, bytes, n, " kept")?;
+                kept(rt, bytes, BYTE, n, " kept")?;
             }
+            Err(cause) => refused(rt, cause)?,
         }
     }
     Ok(())

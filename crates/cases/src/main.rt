@@ -5,23 +5,22 @@
 // lent. Files, list and answers are written by tools/cases.rs.
 #![tactic(auto)]
 
+mod buffers;
 mod builds;
 mod forms;
 mod pairs;
+mod parts;
 mod plans;
 mod pool_runs;
 mod rooms;
-mod rows;
-mod scan;
 mod schedules;
 mod tables;
 mod told;
 
+use parts::first_word;
 use reading::read_full;
-use scan::{find, same};
 use std::rt::Files;
 use std::{fs, io};
-use told::told;
 
 fn main(rt: HostRuntime) -> io::Result<()> {
     let mut list = [0u8; 65536];
@@ -29,22 +28,16 @@ fn main(rt: HostRuntime) -> io::Result<()> {
     if n == list.len() {
         rt.print("the list is too long\n")?;
     }
-    told(&rt, "cases ", each(&rt, &list[..n])?)?;
-    rt.print("\n")
+    let cases = each(&rt, &list[..n])?;
+    println!(rt; "cases {cases}")
 }
 
-// Runs the case of each line: how many there are. A line takes a byte at least, so that there are no more lines than bytes.
+// Runs the case of each line: how many there are.
 fn each(rt: &(impl Files + Print), list: &[u8]) -> io::Result<usize> {
     let mut cases = 0;
-    let mut at = 0;
-    for k in 0..list.len() {
-        if list.len() <= at {
-            break;
-        }
-        let end = find(list, at, b'\n');
-        case(rt, &list[at..end])?;
+    for (k, line) in list.split_inclusive(|b| *b == b'\n').enumerate() {
+        case(rt, line.strip_suffix(b"\n").unwrap_or(line))?;
         cases = k + 1;
-        at = end + 1;
     }
     Ok(cases)
 }
@@ -52,29 +45,38 @@ fn each(rt: &(impl Files + Print), list: &[u8]) -> io::Result<usize> {
 // The line stands in front of what comes of it, so that a wrong list shows.
 fn case(rt: &(impl Files + Print), line: &[u8]) -> io::Result<()> {
     rt.write_all(line)?;
-    let kind = find(line, 0, b' ');
-    if kind == line.len() {
+    let (kind, Some(rest)) = first_word(line) else {
         return rt.print(": no name\n");
-    }
-    let name = find(line, kind + 1, b' ');
+    };
+    let (name, rest) = first_word(rest);
     rt.print(": ")?;
-    named(rt, &line[0..kind], &line[kind + 1..name], &line[name..])?;
+    named(rt, kind, name, rest)?;
     rt.print("\n")
 }
 
 // The case of a file by its name. What follows the name in the line is `rest`.
-fn named<R: Files + Print>(rt: &R, kind: &[u8], name: &[u8], rest: &[u8]) -> io::Result<()> {
-    let Ok(name) = str::from_utf8(name) else {
-        return rt.print("not opened");
-    };
-    match fs::open(rt, name) {
-        Ok(file) => opened(rt, file, kind, rest),
-        Err(_) => rt.print("not opened"),
+fn named<R: Files + Print>(
+    rt: &R,
+    kind: &[u8],
+    name: &[u8],
+    rest: Option<&[u8]>,
+) -> io::Result<()> {
+    if let Ok(name) = str::from_utf8(name)
+        && let Ok(file) = fs::open(rt, name)
+    {
+        opened(rt, file, kind, rest)
+    } else {
+        rt.print("not opened")
     }
 }
 
 // The case of an open file.
-fn opened<R: Files + Print>(rt: &R, mut file: R::File, kind: &[u8], rest: &[u8]) -> io::Result<()> {
+fn opened<R: Files + Print>(
+    rt: &R,
+    mut file: R::File,
+    kind: &[u8],
+    rest: Option<&[u8]>,
+) -> io::Result<()> {
     let mut input = [0u8; 20500];
     let len = read_full(&mut file, &mut input)?;
     drop(file);
@@ -84,28 +86,18 @@ fn opened<R: Files + Print>(rt: &R, mut file: R::File, kind: &[u8], rest: &[u8])
     of_kind(rt, kind, &input[..len], rest)
 }
 
-fn of_kind(rt: &impl Print, kind: &[u8], input: &[u8], rest: &[u8]) -> io::Result<()> {
-    if same(kind, b"plan") {
-        plans::case(rt, input)
-    } else if same(kind, b"table") {
-        tables::case(rt, input, rest)
-    } else if same(kind, b"room") {
-        rooms::case(rt, input, rest)
-    } else if same(kind, b"into1") {
-        forms::case(rt, 1, input, rest)
-    } else if same(kind, b"into2") {
-        forms::case(rt, 2, input, rest)
-    } else if same(kind, b"pair") {
-        pairs::case(rt, input, rest)
-    } else if same(kind, b"run") {
-        builds::case(rt, input)
-    } else if same(kind, b"pool") {
-        pool_runs::case(rt, input, rest)
-    } else if same(kind, b"check") {
-        schedules::given(rt, input)
-    } else if same(kind, b"own") {
-        schedules::own(rt, input)
-    } else {
-        rt.print("no such kind")
+fn of_kind(rt: &impl Print, kind: &[u8], input: &[u8], rest: Option<&[u8]>) -> io::Result<()> {
+    match kind {
+        b"plan" => plans::case(rt, input),
+        b"table" => tables::case(rt, input, rest),
+        b"room" => rooms::case(rt, input, rest),
+        b"into1" => forms::case(rt, 1, input, rest),
+        b"into2" => forms::case(rt, 2, input, rest),
+        b"pair" => pairs::case(rt, input, rest),
+        b"run" => builds::case(rt, input),
+        b"pool" => pool_runs::case(rt, input, rest),
+        b"check" => schedules::given(rt, input),
+        b"own" => schedules::own(rt, input),
+        _ => rt.print("no such kind"),
     }
 }

@@ -1,78 +1,58 @@
 // Two plans are put under a new root. The file has the lengths of both, each in two bytes, the high one first, both plans, and then
-// what is to be written. The frame stands in `rest`, behind a space, and behind another the room, where not the whole buffer is
-// lent. Buffers are filled with 170, to see that a refusal writes nothing, and that nothing beyond an answer is written.
-ghost use Rattle.std.specs.Prelude.{◌<◌};
-
-use crate::forms::room;
+// what is to be written. The frame stands in `rest`, and behind a space the room, where not the whole buffer is lent.
+use crate::buffers::{BYTE, BYTES, kept};
+use crate::parts::{first_word, number, room};
 use crate::plans;
-use crate::plans::{compared, kept};
-use crate::rooms::number;
-use crate::scan::find;
-use crate::told::{refused, told};
-use numbers::wide8;
+use crate::plans::compared;
+use crate::told::refused;
+use plan::refusal::Refusal;
 use plan_pair::pair;
-use plan_writer::Answer;
 use std::io;
 
-pub fn case(rt: &impl Print, input: &[u8], rest: &[u8]) -> io::Result<()> {
-    if input.len() < 4 {
+pub fn case(rt: &impl Print, input: &[u8], rest: Option<&[u8]>) -> io::Result<()> {
+    let [high_1, low_1, high_2, low_2, plans @ ..] = input else {
         return rt.print("no lengths");
-    }
-    if rest.len() == 0 {
+    };
+    let Some(rest) = rest else {
         return rt.print("no frame");
+    };
+    if let Some((first, behind)) = plans.split_at_checked(length(*high_1, *low_1))
+        && let Some((second, expected)) = behind.split_at_checked(length(*high_2, *low_2))
+    {
+        let (frame, lent) = first_word(rest);
+        let frame = number(frame) % 100000;
+        let mut bytes = [BYTE; BYTES];
+        let a = pair(first, second, frame, &mut bytes[..room(lent)]);
+        answered(rt, a, &bytes, expected)
+    } else {
+        rt.print("too short")
     }
-    let middle = 4 + length(input[0], input[1]);
-    let end = middle + length(input[2], input[3]);
-    if input.len() < end {
-        return rt.print("too short");
-    }
-    let space = find(rest, 1, b' ');
-    let frame = (number(&rest[0..space]) % 100000) as u32;
-    let mut bytes = [170u8; 8192];
-    let lent = room(&rest[space..]);
-    answered(
-        rt,
-        within(
-            lent,
-            &input[4..middle],
-            &input[middle..end],
-            frame,
-            &mut bytes,
-        ),
-        &bytes,
-        &input[end..],
-    )
 }
 
-pub fn length(high: u8, low: u8) -> usize
-    ensures { result < 65536 }
-{
-    256 * wide8(high) + wide8(low)
-}
-
-// Put together, in that much of the buffer.
-fn within(lent: usize, first: &[u8], second: &[u8], frame: u32, bytes: &mut [u8]) -> Answer {
-    if lent < bytes.len() {
-        return pair(first, second, frame, &mut bytes[0..lent]);
-    }
-    pair(first, second, frame, bytes)
+fn length(high: u8, low: u8) -> usize {
+    usize::from(u16::from_be_bytes([high, low]))
 }
 
 // What was written is what is expected, and a plan.
-fn answered(rt: &impl Print, a: Answer, bytes: &[u8], expected: &[u8]) -> io::Result<()> {
+fn answered(
+    rt: &impl Print,
+    a: Result<usize, Refusal>,
+    bytes: &[u8],
+    expected: &[u8],
+) -> io::Result<()> {
     match a {
-        Answer::Refused(cause) => {
-            refused(rt, cause)?;
-            kept(rt, bytes, 0, ", kept")
-        }
-        Answer::Count(n) => {
-            told(rt, "bytes ", n)?;
+        Ok(n) => {
+            print!(rt; "bytes {n}")?;
             compared(rt, expected, bytes, n)?;
             rt.print(", ")?;
-            if n <= bytes.len() {
-                plans::case(rt, &bytes[0..n])?;
+            if let Some(plan) = bytes.get(..n) {
+                plans::case(rt, plan)?;
             }
             Ok(())
+        }
+        Err(cause) => {
+            refused(rt, cause)?;
+            kept(rt, bytes, BYTE, 0, ", kept")
         }
     }
 }
