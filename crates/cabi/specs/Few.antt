@@ -1,8 +1,7 @@
 -- What the function that hands a count on is given. No exported function cites it.
 --   Few a == a count that is answered fits 32 bits
-use Rattle.std.specs.Prelude.{ℕ, ◌<◌, ◌≡◌}
-use Rattle.plan_writer.specs.declared.Answer.{Answer}
-use Rattle.plan_writer.specs.declared.Answer.TheVariants.{Count}
+use Rattle.std.specs.Prelude.{ℕ, ◌<◌, ◌≡◌, Result, Ok}
+use Rattle.plan.specs.declared.refusal.Refusal.{Refusal}
 
-abbrev pub Few : Answer → Type 0
-Few a = (n : ℕ) → a ≡ Count n → n < 4294967296
+abbrev pub Few : Result ℕ Refusal → Type 0
+Few a = (n : ℕ) → a ≡ Ok n → n < 4294967296

@@ -4,7 +4,7 @@
 
 ghost use Rattle.std.specs.Prelude.{◌≡◌};
 ghost use Rattle.plan.specs.Refusal.{number_of};
-ghost use Rattle.plan_measure.specs.Measure.{measures};
+ghost use Rattle.plan_measure.specs.Measure.{measures, told};
 ghost use Rattle.plan_writer.specs.Written.{answer_of};
 ghost use Rattle.plan_table.specs.Table.{to_table, to_plan};
 ghost use Rattle.courses.specs.Schedule.{checked};
@@ -15,16 +15,15 @@ ghost use Rattle.plan_pair.specs.Pair.{pair_into};
 ghost use Rattle.cabi.specs.Plain.{count_of, measures_of, tally_of, check_of, Converted, Paired, Divided, Claimed, PoolClaimed};
 ghost use Rattle.cabi.specs.Few.{Few};
 
-use checker::{Judged, check};
-use numbers::units;
-use plan::refusal::{Refusal, number};
+use checker::check;
+use plan::refusal::Refusal;
 use plan_forms::{to_form_1, to_form_2};
-use plan_measure::{Measured, measure};
+use plan_measure::{Measures, measure};
 use plan_pair::pair;
 use plan_table::{plan_to_table, table_to_plan};
-use plan_writer::Answer;
 use pool_runner::entry::pool;
-use scheduler::run::{Ran, run};
+use runs::tally::Tally;
+use scheduler::run::run;
 
 #[repr(C)]
 #[derive(Clone, Copy)]
@@ -62,53 +61,84 @@ pub struct DwTally {
 fn cause_number(cause: Refusal) -> u32
     ensures { result ≡ number_of cause }
 {
-    number(cause) as u32
+    u32::from(u8::from(cause))
 }
 
-// What an entry that writes answers: the number of its refusal, or of what it wrote.
-fn counted(a: Answer) -> DwCount
+// What an entry that writes answers: the number of its refusal, or of what it wrote. It is no `From`, which could not ask that the
+// number fits.
+fn counted(a: Result<usize, Refusal>) -> DwCount
     requires { Few a }
     ensures { result ≡ count_of (answer_of a) }
 {
     match a {
-        Answer::Refused(cause) => DwCount {
+        Err(cause) => DwCount {
             refused: cause_number(cause),
             count: 0,
         },
-        Answer::Count(n) => DwCount {
+        Ok(n) => DwCount {
             refused: 0,
-            count: units(n),
+            count: n as u32,
         },
     }
 }
 
+// What an entry that measures answers: the number of its refusal, or the measures.
+impl From<Result<Measures, Refusal>> for DwMeasures {
+    ghost from_gives = { λ r d. d ≡ measures_of (told r) };
+
+    fn from(r: Result<Measures, Refusal>) -> DwMeasures {
+        match r {
+            Err(cause) => DwMeasures {
+                refused: cause_number(cause),
+                total: 0,
+                work: 0,
+                longest: 0,
+                path: 0,
+                parallel: 0,
+                rest: 0,
+            },
+            Ok(m) => DwMeasures {
+                refused: 0,
+                total: m.total,
+                work: m.work,
+                longest: m.longest,
+                path: m.path,
+                parallel: m.parallel,
+                rest: m.rest,
+            },
+        }
+    }
+}
+
 // What an entry that runs answers: the number of its refusal, or the tally.
-fn tallied(r: Ran) -> DwTally
-    ensures { result ≡ tally_of (ran_of r) }
-{
-    match r {
-        Ran::Refused(cause) => DwTally {
-            refused: cause_number(cause),
-            rounds: 0,
-            actions: 0,
-            idle: 0,
-            requests: 0,
-            steals: 0,
-            bare: 0,
-            idle_victim: 0,
-            peak: 0,
-        },
-        Ran::Done(t) => DwTally {
-            refused: 0,
-            rounds: t.rounds,
-            actions: t.actions,
-            idle: t.idle,
-            requests: t.requests,
-            steals: t.steals,
-            bare: t.bare,
-            idle_victim: t.idle_victim,
-            peak: t.peak,
-        },
+impl From<Result<Tally, Refusal>> for DwTally {
+    ghost from_gives = { λ r d. d ≡ tally_of (ran_of r) };
+
+    fn from(r: Result<Tally, Refusal>) -> DwTally {
+        match r {
+            Err(cause) => DwTally {
+                refused: cause_number(cause),
+                rounds: 0,
+                actions: 0,
+                idle: 0,
+                requests: 0,
+                steals: 0,
+                bare: 0,
+                idle_victim: 0,
+                peak: 0,
+            },
+            Ok(t) => DwTally {
+                refused: 0,
+                rounds: t.rounds,
+                actions: t.actions,
+                idle: t.idle,
+                requests: t.requests,
+                steals: t.steals,
+                bare: t.bare,
+                idle_victim: t.idle_victim,
+                peak: t.peak,
+            },
+        }
     }
 }
 
@@ -160,26 +190,7 @@ pub extern "C" fn dw_measure(plan: &[u8]) -> DwMeasures
     ensures value { result ≡ measures_of (measures plan.now) }
     ensures divided { Divided result }
 {
-    match measure(plan) {
-        Measured::Refused(cause) => DwMeasures {
-            refused: cause_number(cause),
-            total: 0,
-            work: 0,
-            longest: 0,
-            path: 0,
-            parallel: 0,
-            rest: 0,
-        },
-        Measured::Of(m) => DwMeasures {
-            refused: 0,
-            total: m.total,
-            work: m.work,
-            longest: m.longest,
-            path: m.path,
-            parallel: m.parallel,
-            rest: m.rest,
-        },
-    }
+    measure(plan).into()
 }
 
 #[unsafe(no_mangle)]
@@ -188,7 +199,7 @@ pub extern "C" fn dw_run(plan: &[u8], workers: u32, choices: &[u8], schedule: &m
         × (schedule.new ≡ (run_into plan.now workers choices.now schedule.old).schedule) }
     ensures claimed { Claimed plan.now workers choices.now result schedule.new }
 {
-    tallied(run(plan, workers, choices, schedule))
+    run(plan, workers, choices, schedule).into()
 }
 
 #[unsafe(no_mangle)]
@@ -197,7 +208,7 @@ pub extern "C" fn dw_pool(plan: &[u8], workers: u32, schedule: &mut [u8]) -> DwT
         × (schedule.new ≡ (pool_into plan.now workers schedule.old).schedule) }
     ensures pool_claimed { PoolClaimed plan.now workers result schedule.new }
 {
-    tallied(pool(plan, workers, schedule))
+    pool(plan, workers, schedule).into()
 }
 
 #[unsafe(no_mangle)]
@@ -205,7 +216,7 @@ pub extern "C" fn dw_check(plan: &[u8], schedule: &[u8]) -> u32
     ensures { result ≡ check_of (checked plan.now schedule.now) }
 {
     match check(plan, schedule) {
-        Judged::Refused(cause) => cause_number(cause),
-        Judged::Accepted => 0,
+        Err(cause) => cause_number(cause),
+        Ok(()) => 0,
     }
 }

@@ -2,40 +2,33 @@
 --   number_some == the number of a cause is not 0, so 0 stands for no refusal
 use Prim.Native.Nat.{ℕ, ◌≤◌}
 use native.Mathlib.Omega.{arith}
+use Rattle.std.specs.Prelude.{Result as Returned, Ok, Err}
 use mathlib.Core.Path.{◌≡◌, refl, sym, ap, ◌∙◌}
 use mathlib.Core.List.{List}
 use lib.ListN.{take}
 use Rattle.plan.specs.declared.refusal.Refusal.{Refusal}
 use Rattle.plan.specs.declared.refusal.Refusal.TheVariants.{RanOut, Form, Range, Spawn, Join, Fill, Workers, Choices, Short, Table, Schedule, Rule}
 use Rattle.plan.specs.declared.refusal.Refusal.TheVariants.{Name, Round, Cost, Changes, Pair, Deadline, Windows, Clock}
-use Rattle.plan.specs.Refusal.{Outcome, refused, accepted, number_of}
+use Rattle.plan.specs.Refusal.{accepted, number_of}
 use Rattle.plan.specs.Plan.{Plan, total}
 use Rattle.plan.specs.Reader.{Read, read_plan}
 use Rattle.plan_measure.specs.declared.Measures.{Measures}
-use Rattle.plan_measure.specs.declared.Measured.{Measured}
-use Rattle.plan_measure.specs.declared.Measured.TheVariants.{Refused as NotMeasured, Of}
 use Rattle.plan_measure.specs.Measure.{told, Divided as MeasuresDivided}
-use Rattle.plan_writer.specs.declared.Answer.{Answer}
-use Rattle.plan_writer.specs.declared.Answer.TheVariants.{Refused as NotWritten, Count}
 use Rattle.plan_writer.specs.Written.{Written, answer_of}
 use Rattle.plan_forms.specs.Forms.{Converted as FormConverted}
 use Rattle.plan_pair.specs.Pair.{Result, Paired as PlansPaired}
 use Rattle.runs.specs.declared.tally.Tally.{Tally}
-use Rattle.scheduler.specs.declared.run.Ran.{Ran}
-use Rattle.scheduler.specs.declared.run.Ran.TheVariants.{Refused as NotRun, Done}
 use Rattle.scheduler.specs.Entry.{Result as Result', ran_of, Claimed as RunClaimed}
 use Rattle.pool_runner.specs.Entry.{Claimed as FromPool}
 use Rattle.pools.specs.Claim.{Bounded as PoolBounded}
 use Rattle.runs.specs.Setting.{setting}
 use Rattle.runs.specs.Claim.{Bounded}
 use Rattle.courses.specs.Schedule.{schedule_length, checked}
-use Rattle.checker.specs.declared.Judged.{Judged}
-use Rattle.checker.specs.declared.Judged.TheVariants.{Refused as NotKept, Accepted}
-use Rattle.checker.specs.Answer.{judged_of}
 use Rattle.cabi.specs.declared.DwCount.{DwCount}
+use Rattle.cabi.specs.declared.DwMeasures.{DwMeasures}
 use Rattle.cabi.specs.declared.DwTally.{DwTally}
 use Rattle.cabi.specs.Few.{Few}
-use Rattle.cabi.specs.Plain.{count_of, measures_of, tally_of, check_of, Converted, Paired, Divided, Claimed, PoolClaimed}
+use Rattle.cabi.specs.Plain.{count_of, measures_of, tally_of, Converted, Paired, Divided, Claimed, PoolClaimed}
 
 pub number_some : (cause : Refusal) → number_of cause ≡ 0 → ⊥
 number_some RanOut e = omega arith
@@ -59,15 +52,8 @@ number_some Deadline e = omega arith
 number_some Windows e = omega arith
 number_some Clock e = omega arith
 
-module _ (a : Answer) where
-  pub count_refused : (cause : Refusal) (k : ℕ) → a ≡ NotWritten cause → k ≡ number_of cause → count_of (refused k) ≡ count_of (answer_of a)
-  count_refused cause k e f = rw (e, f)
-
-  pub count_accepted : (n m : ℕ) → a ≡ Count n → m ≡ n → count_of (accepted m) ≡ count_of (answer_of a)
-  count_accepted n m e f = rw (e, f)
-
 -- what an entry that writes answered and left, with the number that stands for it
-module _ (w : Written) (a : Answer) (l : List ℕ) (ensures : record { answer = answer_of a; buffer = l } ≡ w) where
+module _ (w : Written) (a : Returned ℕ Refusal) (l : List ℕ) (ensures : record { answer = answer_of a; buffer = l } ≡ w) where
   pub counts : (r : DwCount) → r ≡ count_of (answer_of a) → (r ≡ count_of w.answer) × (l ≡ w.buffer)
   counts r e = (e ∙ ap (λ (w : Written). count_of w.answer) ensures, ap (λ (w : Written). w.buffer) ensures)
 
@@ -76,65 +62,48 @@ module _ (w : Written) (a : Answer) (l : List ℕ) (ensures : record { answer = 
   counts_fit few n e = omega (arith, few n (sym (ap (λ (w : Written). w.answer) ensures) ∙ ap answer_of e))
 
 -- what an entry promises of what it wrote, by the number that it answered
-count_claim : (P : ℕ → Type 0) (a : Answer) → ((n : ℕ) → a ≡ Count n → P n) → (r : DwCount) → r ≡ count_of (answer_of a) → r.refused ≡ 0 → P r.count
-count_claim P (NotWritten cause) claim r e z = absurd (number_some cause (sym (ap (λ (r : DwCount). r.refused) e) ∙ z))
-count_claim P (Count n) claim r e z = rw (ap (λ (r : DwCount). r.count) e) (claim n refl)
+count_claim : (P : ℕ → Type 0) (a : Returned ℕ Refusal) → ((n : ℕ) → a ≡ Ok n → P n) → (r : DwCount) → r ≡ count_of (answer_of a) → r.refused ≡ 0 → P r.count
+count_claim P (Err cause) claim r e z = absurd (number_some cause (sym (ap (λ (r : DwCount). r.refused) e) ∙ z))
+count_claim P (Ok n) claim r e z = rw (ap (λ (r : DwCount). r.count) e) (claim n refl)
 
-pub converted_count : (from to : ℕ) (s : List ℕ) (a : Answer) (l : List ℕ) → FormConverted from to s a l → (r : DwCount) → r ≡ count_of (answer_of a)
+pub converted_count : (from to : ℕ) (s : List ℕ) (a : Returned ℕ Refusal) (l : List ℕ) → FormConverted from to s a l → (r : DwCount) → r ≡ count_of (answer_of a)
     → Converted from to s r l
 converted_count from to s a l claim r e =
     count_claim
     (λ n. (p : Plan) × (read_plan s ≡ accepted (record { form = from; plan = p })) × (read_plan (take n l) ≡ accepted (record { form = to; plan = p })))
     a claim r e
 
-pub paired_count : (frame : ℕ) (s t : List ℕ) (a : Answer) (l : List ℕ) → PlansPaired frame s t a l → (r : DwCount) → r ≡ count_of (answer_of a)
+pub paired_count : (frame : ℕ) (s t : List ℕ) (a : Returned ℕ Refusal) (l : List ℕ) → PlansPaired frame s t a l → (r : DwCount) → r ≡ count_of (answer_of a)
     → Paired frame s t r l
 paired_count frame s t a l claim r e = count_claim (λ n. Result frame s t (take n l)) a claim r e
 
-module _ (o : Outcome Measures) (r : Measured) (ensures : told r ≡ o) (divided : MeasuresDivided r) where
-  pub measures_refused : (cause : Refusal) (k : ℕ) → r ≡ NotMeasured cause → k ≡ number_of cause
-      → (measures_of (refused k) ≡ measures_of o) × Divided (measures_of (refused k))
-  measures_refused cause k e f = (rw (← ensures, e, f), λ z. absurd (number_some cause (omega arith)))
-
-  pub measures_accepted : (m : Measures) → r ≡ Of m → (measures_of (accepted m) ≡ measures_of o) × Divided (measures_of (accepted m))
-  measures_accepted m e = (rw (← ensures, e), λ z. divided m e)
-
-module _ (r : Ran) where
-  pub tally_refused : (cause : Refusal) (k : ℕ) → r ≡ NotRun cause → k ≡ number_of cause → tally_of (refused k) ≡ tally_of (ran_of r)
-  tally_refused cause k e f = rw (e, f)
-
-  pub tally_accepted : (t : Tally) → r ≡ Done t → tally_of (accepted t) ≡ tally_of (ran_of r)
-  tally_accepted t e = rw e
+-- what an entry that measures promises of what it answered
+pub measures_divided : (r : Returned Measures Refusal) → MeasuresDivided r → (d : DwMeasures) → d ≡ measures_of (told r) → Divided d
+measures_divided (Err cause) divided d e z = absurd (number_some cause (sym (ap (λ (d : DwMeasures). d.refused) e) ∙ z))
+measures_divided (Ok m) divided d e z = rw e (divided m refl)
 
 -- what an entry that runs answered and left, with the numbers that stand for it
-pub tallies : (w : Result') (r : Ran) (l : List ℕ) → record { answer = ran_of r; schedule = l } ≡ w → (d : DwTally) → d ≡ tally_of (ran_of r)
+pub tallies : (w : Result') (r : Returned Tally Refusal) (l : List ℕ) → record { answer = ran_of r; schedule = l } ≡ w → (d : DwTally) → d ≡ tally_of (ran_of r)
     → (d ≡ tally_of w.answer) × (l ≡ w.schedule)
 tallies w r l ensures d e = (e ∙ ap (λ (w : Result'). tally_of w.answer) ensures, ap (λ (w : Result'). w.schedule) ensures)
 
 -- what it promises of what was returned
-ran_claim : (P : Tally → Type 0) (r : Ran) → ((t : Tally) → r ≡ Done t → P t) → (d : DwTally) → d ≡ tally_of (ran_of r) → d.refused ≡ 0
+ran_claim : (P : Tally → Type 0) (r : Returned Tally Refusal) → ((t : Tally) → r ≡ Ok t → P t) → (d : DwTally) → d ≡ tally_of (ran_of r) → d.refused ≡ 0
     → (t : Tally) × (d ≡ tally_of (accepted t)) × P t
-ran_claim P (NotRun cause) claim d e z = absurd (number_some cause (sym (ap (λ (d : DwTally). d.refused) e) ∙ z))
-ran_claim P (Done t) claim d e z = (t, e, claim t refl)
+ran_claim P (Err cause) claim d e z = absurd (number_some cause (sym (ap (λ (d : DwTally). d.refused) e) ∙ z))
+ran_claim P (Ok t) claim d e z = (t, e, claim t refl)
 
-pub run_claimed : (bytes : List ℕ) (n : ℕ) (choices : List ℕ) (r : Ran) (l : List ℕ) → RunClaimed bytes n choices r l → (d : DwTally)
+pub run_claimed : (bytes : List ℕ) (n : ℕ) (choices : List ℕ) (r : Returned Tally Refusal) (l : List ℕ) → RunClaimed bytes n choices r l → (d : DwTally)
     → d ≡ tally_of (ran_of r) → Claimed bytes n choices d l
 run_claimed bytes n choices r l claim d e z =
     let (t, is, (x, read, bounded)) = ran_claim
     (λ t. (x : Read) × (read_plan bytes ≡ accepted x) × Bounded (setting x.plan n choices) x.form l t) r claim d e z in
     (x, t, read, is, bounded)
 
-pub pool_claimed : (bytes : List ℕ) (n : ℕ) (r : Ran) (l : List ℕ) → FromPool bytes n r l → (d : DwTally) → d ≡ tally_of (ran_of r)
+pub pool_claimed : (bytes : List ℕ) (n : ℕ) (r : Returned Tally Refusal) (l : List ℕ) → FromPool bytes n r l → (d : DwTally) → d ≡ tally_of (ran_of r)
     → PoolClaimed bytes n d l
 pool_claimed bytes n r l claim d e z =
     let (t, is, (x, read, bounded, checks)) = ran_claim
     (λ t. (x : Read) × (read_plan bytes ≡ accepted x) × PoolBounded x.plan n x.form l t
     × (checked bytes (take (schedule_length x.form (total x.plan)) l) ≡ accepted 0)) r claim d e z in
     (x, t, read, is, bounded, checks)
-
-module _ (o : Outcome ℕ) (r : Judged) (ensures : judged_of r ≡ o) where
-  pub check_refused : (cause : Refusal) (k : ℕ) → r ≡ NotKept cause → k ≡ number_of cause → k ≡ check_of o
-  check_refused cause k e f = rw (← ensures, e, f)
-
-  pub check_accepted : r ≡ Accepted → 0 ≡ check_of o
-  check_accepted e = rw (← ensures, e)

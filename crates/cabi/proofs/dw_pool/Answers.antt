@@ -6,6 +6,6 @@ pub returns : goal.returns
 returns c =
     let r = c.pool in
     record {
-      value = tallies _ r.result _ r.ensures.schedule_after _ c.tallied.ensures;
-      pool_claimed = pool_claimed _ _ r.result _ r.ensures.claimed _ c.tallied.ensures;
+      value = tallies _ r.result _ r.ensures.schedule_after _ c.into.ensures;
+      pool_claimed = pool_claimed _ _ r.result _ r.ensures.claimed _ c.into.ensures;
     }

@@ -6,6 +6,6 @@ pub returns : goal.returns
 returns c =
     let r = c.run in
     record {
-      value = tallies _ r.result _ r.ensures.schedule_after _ c.tallied.ensures;
-      claimed = run_claimed _ _ _ r.result _ r.ensures.claimed _ c.tallied.ensures;
+      value = tallies _ r.result _ r.ensures.schedule_after _ c.into.ensures;
+      claimed = run_claimed _ _ _ r.result _ r.ensures.claimed _ c.into.ensures;
     }
