@@ -8,18 +8,18 @@
 use Prim.Native.Nat.{ℕ, zero, suc, ◌-◌, ◌^◌, ◌≤◌, ◌<◌}
 use mathlib.Core.Path.{◌≡◌, sym, ap, ◌∙◌}
 use mathlib.Core.Logic.{◌≢◌, by_cases}
-use mathlib.Core.Bool.{Bool, true, false, not}
+use mathlib.Core.Bool.{Bool, true, false}
 use mathlib.Core.List.{List}
 use native.Mathlib.Nat.{pow-suc}
 use native.Mathlib.Omega.{arith}
 use native.Mathlib.Decide.{ℕ_discrete}
-use lib.Dec.{eqb, eqb-suc-zero}
 use lib.Pow.{pow_pos}
 use lib.ListN.{length, get_or, set}
 use lib.Seq.{get_or-set_same, get_or-set_other}
 use borrow.Author.Tests.{eq-eqb, ne_eqb}
 use Rattle.crew.specs.Crew.{whether, member, Marked}
-use Rattle.crew.proofs.Laws.Members.{member_none, member_one, member_but}
+use Rattle.std.proofs.lemmas.Nat.Bits.{bit_at-pow_same, bit_at-pow_other, bit_at_mask_below, bit_at_mask_inside}
+use Rattle.crew.proofs.Laws.Members.{member_none, member_bit}
 use Rattle.crew.proofs.Laws.Walks.{Crewed}
 
 module _ {test : ℕ → Bool} {n : ℕ} where
@@ -34,21 +34,15 @@ module _ {test : ℕ → Bool} {n : ℕ} where
       more (suc n) h = omega (arith, pow-suc 2 n, pow_pos n)
 
       all : (u : ℕ) → u < n → member 1 u ≡ test u
-      all zero l = member_one 0 0 ∙ sym first
-      all (suc u) l = member_one 0 (suc u) ∙ eqb-suc-zero u ∙ sym (none u l)
+      all zero l = member_bit _ _ (bit_at-pow_same 0) ∙ sym first
+      all (suc u) l = member_bit _ _ (bit_at-pow_other 0 (suc u) (λ e. omega arith)) ∙ sym (none u l)
 
   pub crewed_others : 1 ≤ n → test 0 ≡ false → ((u : ℕ) → suc u < n → test (suc u) ≡ true) → Crewed test n (2 ^ n - 2)
-  crewed_others h first more = record { small = less; each = λ u l. ap (λ (x : ℕ). member x u) two ∙ member_but n 0 u h l ∙ all u l }
+  crewed_others h first more = record { small = omega (arith, pow_pos n); each = all }
     where
-      less : 2 ^ n - 2 < 2 ^ n
-      less = omega (arith, pow_pos n)
-
-      two : 2 ^ n - 2 ≡ (2 ^ n - 1) - 1
-      two = omega arith
-
-      all : (u : ℕ) → u < n → not (eqb u 0) ≡ test u
-      all zero l = sym first
-      all (suc u) l = ap not (eqb-suc-zero u) ∙ sym (more u l)
+      all : (u : ℕ) → u < n → member (2 ^ n - 2) u ≡ test u
+      all zero l = member_bit _ _ (bit_at_mask_below 1 n 0 (omega arith)) ∙ sym first
+      all (suc u) l = member_bit _ _ (bit_at_mask_inside 1 n (suc u) (omega arith) l) ∙ sym (more u l)
 
 pub marked_as_was : {w : ℕ} {b : Bool} {s : ℕ} → member s w ≡ b → Marked w b s s
 marked_as_was {w} {b} {s} m = record {

@@ -1,5 +1,5 @@
 -- The worker of lowest number in a set, which `trailing_zeros` finds, and the set without it.
---   tz_lowest  == `trailing_zeros` of a set that is not empty is its lowest worker
+--   tz_lowest  == `trailing_zeros` of a set of 64 digits that is not empty is its lowest worker
 --   tz_rest    == s & (s - 1) is the set without that worker
 --   lowest_one == a set has one lowest worker
 --   lowest_lt  == it is below k where the set has k digits
@@ -11,8 +11,10 @@ use native.Mathlib.Omega.{arith}
 use lib.Dec.{eqb, eqb-zero-suc, eqb-suc-zero, eqb-suc-suc}
 use lib.Bits.{bit_and, and_self}
 use lib.Count.{under, count_trailing_zeros}
+use mir.Syntax.{w64}
+use Rattle.std.proofs.lemmas.Nat.Bits.{bit_at-trailing_zeros}
 use Rattle.crew.specs.Crew.{whether, odd, member, Lowest}
-use Rattle.crew.proofs.Laws.Members.{member_small, and_half, and_odd}
+use Rattle.crew.proofs.Laws.Members.{member_bit, member_small, and_half, and_odd}
 
 -- the lowest digit is 0 or 1
 data Parity (n : ℕ) : Type 0 where
@@ -35,28 +37,10 @@ tz_odd : (k n : ℕ) → n % 2 ≡ 1 → count_trailing_zeros (suc k) n ≡ 0
 unfolding count_trailing_zeros
 tz_odd k n e = ap (λ (d : ℕ). under d (count_trailing_zeros k (n / 2))) e
 
-tz_there : (k n : ℕ) → 0 < n → n < 2 ^ k → member n (count_trailing_zeros k n) ≡ true
-unfolding member
-tz_there zero n p h = absurd (omega arith)
-tz_there (suc k) n p h = elim (parity n) [
-  | even e ↦ ap (member n) (tz_even k n e) ∙ tz_there k (n / 2) (omega arith) (let q = pow-suc 2 k in omega arith)
-  | uneven e ↦ ap (member n) (tz_odd k n e) ∙ ap (λ (d : ℕ). eqb d 1) e
-]
-
-tz_none : (k n u : ℕ) → u < count_trailing_zeros k n → member n u ≡ false
-unfolding member count_trailing_zeros
-tz_none zero n u h = absurd (omega arith)
-tz_none (suc k) n zero h = elim (parity n) [
-  | even e ↦ ap (λ (d : ℕ). eqb d 1) e
-  | uneven e ↦ absurd (omega (arith, tz_odd k n e))
-]
-tz_none (suc k) n (suc u) h = elim (parity n) [
-  | even e ↦ tz_none k (n / 2) u (omega (arith, tz_even k n e))
-  | uneven e ↦ absurd (omega (arith, tz_odd k n e))
-]
-
-pub tz_lowest : (k n : ℕ) → 0 < n → n < 2 ^ k → Lowest n (count_trailing_zeros k n)
-tz_lowest k n p h = record { there = tz_there k n p h; none = tz_none k n }
+pub tz_lowest : (n : ℕ) → 0 < n → n < 2 ^ 64 → Lowest n (count_trailing_zeros 64 n)
+tz_lowest n p h =
+    let (small, there, none) = bit_at-trailing_zeros w64 n p h in
+    record { there = member_bit _ _ there; none = λ u l. member_bit _ _ (none u l) }
 
 pub tz_rest : (k n u : ℕ) → 0 < n → n < 2 ^ k → member (bit_and n (n - 1)) u ≡ whether (eqb u (count_trailing_zeros k n)) false (member n u)
 unfolding member

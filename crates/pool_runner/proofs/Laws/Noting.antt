@@ -1,5 +1,4 @@
 -- The calendar with one worker noted in it.
---   noted_none == a cost of 0 notes nothing
 --   noted_here == the worker comes into the set of the round in which its action ends
 --   marks_none == the marks of an empty calendar; marks_here == those with that round marked
 use Prim.Native.Nat.{ℕ, ◌+◌, ◌%◌, ◌≤◌, ◌<◌}
@@ -19,15 +18,6 @@ use Rattle.plan.proofs.Laws.Lists.{zeros_at}
 use Rattle.crew.specs.Crew.{member, whether, Marked}
 use Rattle.crew.proofs.Laws.Members.{member_none}
 use Rattle.pool_runner.specs.Rounds.{Noted, Marks}
-
-pub noted_none : {round cost w : ℕ} {ends : List ℕ} → length ends ≡ 16 → cost ≡ 0 → Noted round cost w ends ends
-noted_none long e = record {
-  long = long;
-  small = λ k h all. all;
-  others = λ c u f. refl;
-  none = λ z c. refl;
-  here = λ h. absurd (omega arith);
-}
 
 module _ (round cost w : ℕ) (ends : List ℕ) (long : length ends ≡ 16) (some : cost ≢ 0) {at : ℕ} (is : at ≡ (round + cost) % 16) {x : ℕ}
     (m : Marked w true (get_or ends at 0) x) where

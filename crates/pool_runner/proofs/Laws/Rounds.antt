@@ -179,9 +179,6 @@ module _ {p : Plan} {n : ℕ} {plan : List ℕ} (g : Fitted p n plan) where
     abbrev y : Between p n q weighs peak idlers workers ends progress pool rows
     y = z.stands
 
-    pub waits_early : (r ≤ 30720) × (length ends ≡ 16)
-    waits_early = (omega (arith, z.is, begun_early y.begun), y.timed.long)
-
     abbrev s : State
     s = y.state
 

@@ -66,9 +66,6 @@ slot_at r m some few = ap (λ b. both b (eqb (suc r % 16) ((r + m) % 16))) (lt-l
     (λ e. rw e (eq-eqb _ _ (let z : suc r % 16 ≡ (r + 1) % 16 = omega arith in z)))
     (λ f. ne_eqb (suc r % 16) ((r + m) % 16) (λ e. f (let z : m ≡ 1 = omega arith in z)) ∙ sym (ne_eqb m 1 f))
 
-pub slot_none : (r c : ℕ) → slot r 0 c ≡ false
-slot_none r c = refl
-
 module _ {p : Plan} {n : ℕ} (fit : Fit p n) {r k : ℕ} {b : List Worker} {s : State} (t : Trace p n r b (turning k) s) where
   pub rest_most : (w : ℕ) → rest_of p s w ≤ 15
   rest_most w = go (worker_of s w) refl

@@ -3,4 +3,4 @@ use Rattle.crew.proofs.Laws.Lows.{tz_lowest}
 use Rattle.crew.proofs.set.lowest.Goals as goal
 
 pub returns : goal.returns
-returns c = tz_lowest 64 _ c.requires c.ranges.set.fits
+returns c = tz_lowest _ c.requires c.ranges.set.fits

@@ -16,5 +16,5 @@ returns c =
     let f = c.ranges.set.fits in record {
       less = omega (arith, and_le_r s (s - 1));
       each = λ w u low. tz_rest 64 s u p f
-          ∙ ap (λ (t : ℕ). whether (eqb u t) false (member s u)) (lowest_one s _ w (tz_lowest 64 s p f) low);
+          ∙ ap (λ (t : ℕ). whether (eqb u t) false (member s u)) (lowest_one s _ w (tz_lowest s p f) low);
     }

@@ -5,4 +5,7 @@ use Rattle.crew.proofs.Laws.Members.{one_kept, member_with}
 use Rattle.crew.proofs.set.with.Goals as goal
 
 pub returns : goal.returns
-returns c = rw (one_kept c.requires) (record { small = λ n h l. or_lt n _ _ l (pow-lt h); each = λ u. member_with _ _ u })
+returns c = record {
+  small = λ n h l. or_lt n _ _ l (rw (one_kept c.requires) (pow-lt h));
+  each = λ u. member_with _ _ u c.requires;
+}
