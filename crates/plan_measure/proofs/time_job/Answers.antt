@@ -19,7 +19,7 @@ overflow_add-done c =
     let (of, g) = c.requires in
     omega (
       arith,
-      max_told c.loop-k.done (at c.loop-k.late c.loop-k.k),
+      max_told,
       c.cost_at.ensures.0,
       place_small _ _ _ _ _ of g _ _ _ _ c.loop-k.auto.k (omega arith) (c.loop-k.invariant.3 of g),
     )
@@ -29,7 +29,7 @@ pass_child-requires c =
     let (of, g) = c.requires in (
       c.loop-k.invariant.1,
       place_given _ _ _ _ _ of g _ _ (at c.loop-k.time) _ c.loop-k.auto.k (omega arith) (c.loop-k.invariant.3 of g)
-          _ (omega (arith, max_told c.loop-k.done (at c.loop-k.late c.loop-k.k), c.cost_at.ensures.0)) _
+          _ (omega (arith, max_told, c.cost_at.ensures.0)) _
           (get_or-set_same c.loop-k.time _ _ 0 (omega arith)) (λ n d. get_or-set_other c.loop-k.time _ n _ 0 d),
     )
 
@@ -42,7 +42,7 @@ loop-k-preserved c =
       c.loop-k.invariant.2,
       λ of g.
           place_next _ _ _ _ _ of g _ _ (at c.loop-k.time) _ c.loop-k.auto.k h (c.loop-k.invariant.3 of g)
-          _ (omega (arith, max_told c.loop-k.done (at c.loop-k.late c.loop-k.k), c.cost_at.ensures.0)) _
+          _ (omega (arith, max_told, c.cost_at.ensures.0)) _
           (get_or-set_same c.loop-k.time _ _ 0 b) (λ n d. get_or-set_other c.loop-k.time _ n _ 0 d) _ c.pass_child.ensures.1,
     )
 
