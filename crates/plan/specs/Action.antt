@@ -4,6 +4,7 @@
 --                                            job j; or why there is none
 use Rattle.std.specs.Prelude.{ℕ, ◌≡◌, true, false, List, eqb, Result, Ok, Err}
 use Rattle.fields.specs.Field.{Step, stop, step, field_at}
+use Rattle.plan.specs.declared.sheet.Sheet.{Sheet}
 use Rattle.plan.specs.declared.refusal.Refusal.{Refusal}
 use Rattle.plan.specs.Refusal.{number_of}
 use Rattle.plan.specs.Plan.{Action}
@@ -13,7 +14,7 @@ use Rattle.plan.specs.Sheet.{with_action}
 abbrev pub cost_field : ℕ → List ℕ → ℕ → Step ℕ
 cost_field form s at = elim (eqb form 1) [ true ↦ step 1 at | false ↦ field_at s 4 at ]
 
-abbrev pub ActionRead : ℕ → List ℕ → (at j k : ℕ) → List ℕ → List ℕ → Result ℕ Refusal → Type 0
+abbrev pub ActionRead : ℕ → List ℕ → (at j k : ℕ) → Sheet → Sheet → Result ℕ Refusal → Type 0
 ActionRead form s at j k plan plan' (Err cause) = action_at form s at ≡ stop (number_of cause)
 ActionRead form s at j k plan plan' (Ok next) =
     (x : Action) × (action_at form s at ≡ step x next) × (plan' ≡ with_action plan k j x.spawn x.join x.cost)

@@ -1,7 +1,11 @@
 -- Places listed in rising order: those below a bound where a function is not 0.
+--   entry row k    == number k of a row
 --   upto l m       == the place right after the m places that stand first in the list l
 --   Listed f n count l == the first `count` numbers of the list are, in rising order, the places below n where f is not 0
 use Rattle.std.specs.Prelude.{ℕ, zero, suc, ◌≤◌, ◌<◌, ◌≡◌, List, length, get_or}
+
+abbrev pub entry : List ℕ → ℕ → ℕ
+entry row k = get_or row k 0
 
 abbrev pub upto : List ℕ → ℕ → ℕ
 upto l zero = 0

@@ -9,28 +9,28 @@
 --   ActionsRead, HeaderRead, JobRead, PlanRead == the answer is that of the definition, and the array has what was read
 use Rattle.std.specs.Prelude.{ℕ, suc, ◌+◌, ◌≡◌, true, false, List, [], ◌∷◌, length, eqb, ltb, Result, Ok, Err}
 use Rattle.plan.specs.declared.reader.Header.{Header}
-use Rattle.plan.specs.declared.reader.Body.{Body}
+use Rattle.plan.specs.declared.sheet.Sheet.{Sheet}
 use Rattle.plan.specs.declared.refusal.Refusal.{Refusal}
 use Rattle.plan.specs.Refusal.{number_of}
 use Rattle.plan.specs.Test.{either}
 use Rattle.plan.specs.Plan.{Action, Job, Plan, total}
 use Rattle.fields.specs.Field.{Step, stop, step, then, field_at}
 use Rattle.plan.specs.Reader.{Read, actions_at}
-use Rattle.plan.specs.Sheet.{with_action, with_frame, with_first}
+use Rattle.plan.specs.Sheet.{with_action, with_frame, with_first, with_counts}
 
-abbrev pub with_actions : List ℕ → (k j : ℕ) → List Action → List ℕ
+abbrev pub with_actions : Sheet → (k j : ℕ) → List Action → Sheet
 with_actions plan k j [] = plan
 with_actions plan k j (x ∷ l) = with_actions (with_action plan k j x.spawn x.join x.cost) (suc k) j l
 
-abbrev pub with_job : List ℕ → (k j : ℕ) → Job → List ℕ
+abbrev pub with_job : Sheet → (k j : ℕ) → Job → Sheet
 with_job plan k j x =
     with_first (with_actions (with_frame plan j x.frame) k j x.actions) (j + 1) (k + length x.actions)
 
-abbrev pub with_jobs : List ℕ → (k j : ℕ) → List Job → List ℕ
+abbrev pub with_jobs : Sheet → (k j : ℕ) → List Job → Sheet
 with_jobs plan k j [] = plan
 with_jobs plan k j (x ∷ l) = with_jobs (with_job plan k j x) (k + length x.actions) (suc j) l
 
-abbrev pub ActionsRead : ℕ → List ℕ → (at j k n : ℕ) (plan plan' : List ℕ) → Result ℕ Refusal → Type 0
+abbrev pub ActionsRead : ℕ → List ℕ → (at j k n : ℕ) (plan plan' : Sheet) → Result ℕ Refusal → Type 0
 ActionsRead form s at j k n plan plan' (Err cause) = actions_at form s n at ≡ stop (number_of cause)
 ActionsRead form s at j k n plan plan' (Ok next) =
     (l : List Action) × (actions_at form s n at ≡ step l next) × (plan' ≡ with_actions plan k j l)
@@ -56,12 +56,12 @@ unfolding header_at
 one_job_at form s k at =
     then (header_at s k at) (λ h at. then (actions_at form s h.size at) (λ l at. step (record { frame = h.weight; actions = l }) at))
 
-abbrev pub HeaderRead : List ℕ → (at j k : ℕ) (plan plan' : List ℕ) → Result Header Refusal → Type 0
+abbrev pub HeaderRead : List ℕ → (at j k : ℕ) (plan plan' : Sheet) → Result Header Refusal → Type 0
 HeaderRead s at j k plan plan' (Err cause) = header_at s k at ≡ stop (number_of cause)
 HeaderRead s at j k plan plan' (Ok h) =
     (weight : ℕ) × (header_at s k at ≡ step (record { weight = weight; size = h.size }) h.next) × (plan' ≡ with_frame plan j weight)
 
-abbrev pub JobRead : ℕ → List ℕ → (at j k : ℕ) (plan plan' : List ℕ) → Result Header Refusal → Type 0
+abbrev pub JobRead : ℕ → List ℕ → (at j k : ℕ) (plan plan' : Sheet) → Result Header Refusal → Type 0
 JobRead form s at j k plan plan' (Err cause) = one_job_at form s k at ≡ stop (number_of cause)
 JobRead form s at j k plan plan' (Ok h) =
     (x : Job) × (one_job_at form s k at ≡ step x h.next) × (h.size ≡ k + length x.actions) × (plan' ≡ with_job plan k j x)
@@ -70,8 +70,8 @@ JobRead form s at j k plan plan' (Ok h) =
 abbrev pub formed : ℕ → Step Plan → Step Read
 formed form x = then x (λ p at. step (record { form = form; plan = p }) at)
 
-abbrev pub PlanRead : Step Read → (plan plan' : List ℕ) → Result Body Refusal → Type 0
+abbrev pub PlanRead : Step Read → (plan plan' : Sheet) → Result ℕ Refusal → Type 0
 PlanRead x plan plan' (Err cause) = x ≡ stop (number_of cause)
-PlanRead x plan plan' (Ok b) =
-    (p : Plan) × (x ≡ step (record { form = b.found.form; plan = p }) b.next) × (b.found.jobs ≡ length p) × (b.found.actions ≡ total p)
-    × (plan' ≡ with_jobs plan 0 0 p)
+PlanRead x plan plan' (Ok next) =
+    (form : ℕ) × (p : Plan) × (x ≡ step (record { form = form; plan = p }) next)
+    × (plan' ≡ with_counts (with_jobs plan 0 0 p) form (length p) (total p))

@@ -8,7 +8,7 @@ ghost use Rattle.plan.specs.Contract.{◌⇒◌};
 ghost use Rattle.plan.specs.Action.{cost_field, ActionRead};
 
 use crate::refusal::Refusal;
-use crate::sheet::{Sheet, set_action};
+use crate::sheet::Sheet;
 use fields::field::{Field, Window, cut_in, window_at};
 
 // A bit, and if it is 1 a number of 8 bits: the number plus 1, or 0. No branch hangs on the bit, which is hard to foresee.
@@ -66,8 +66,7 @@ pub fn read_action(
     if cost.value == 0 {
         return Err(Refusal::Range);
     }
-    set_action(
-        plan,
+    plan.set_action(
         k,
         j,
         child.value as u16,

@@ -1,4 +1,4 @@
-// Reading plan bytes into a plan's array (document 01, "Plan" and "Turned down"; document 02, L5).
+// Reading plan bytes into a plan's arrays (document 01, "Plan" and "Turned down"; document 02, L5).
 ghost use Rattle.std.specs.Prelude.{◌≡◌, ◌+◌, ◌*◌, ◌^◌, ◌≤◌, ◌<◌, length};
 ghost use Rattle.plan.specs.Reader.{is_form, jobs_at, plan_at, fills};
 ghost use Rattle.plan.specs.Entering.{Unentered};
@@ -9,28 +9,13 @@ ghost use Rattle.plan.specs.Found.{ReadInto};
 use crate::action::read_action;
 use crate::refusal::Refusal;
 use crate::rules::{join_rules, spawn_rules};
-use crate::sheet::{Sheet, set_first, set_frame};
+use crate::sheet::Sheet;
 use fields::field::cut;
-
-// A plan's form and counts.
-#[derive(Clone, Copy)]
-pub struct Found {
-    pub form: u32,
-    pub jobs: usize,
-    pub actions: usize,
-}
 
 // A count of actions, and where reading goes on: of a job, where its actions begin, and of all jobs so far, where the last one ends.
 #[derive(Clone, Copy)]
 struct Header {
     size: usize,
-    next: usize,
-}
-
-// What was read of a plan, and where its fill bits begin.
-#[derive(Clone, Copy)]
-struct Body {
-    found: Found,
     next: usize,
 }
 
@@ -81,7 +66,7 @@ fn read_header(
     if 2048 < earlier + size {
         return Err(Refusal::Range);
     }
-    set_frame(plan, j, weight.value as u16);
+    plan.set_frame(j, weight.value as u16);
     Ok(Header {
         size,
         next: count.next,
@@ -103,12 +88,18 @@ fn read_job(
     let header = read_header(s, at, j, earlier, plan)?;
     let next = read_actions(s, header.next, form, j, earlier, header.size, plan)?;
     let size = earlier + header.size;
-    set_first(plan, j + 1, size);
+    plan.set_first(j + 1, size);
     Ok(Header { size, next })
 }
 
-// Reads all jobs.
-fn read_jobs(s: &[u8], at: usize, form: u32, jobs: usize, plan: &mut Sheet) -> Result<Body, Refusal>
+// Reads all jobs, and tells where the fill bits begin.
+fn read_jobs(
+    s: &[u8],
+    at: usize,
+    form: u32,
+    jobs: usize,
+    plan: &mut Sheet,
+) -> Result<usize, Refusal>
     requires { (at ≤ 17) × (jobs ≤ 256) }
     ensures { PlanRead (formed form (jobs_at form s.now jobs 0 at)) plan.old plan.new result }
 {
@@ -119,14 +110,8 @@ fn read_jobs(s: &[u8], at: usize, form: u32, jobs: usize, plan: &mut Sheet) -> R
         actions = job.size;
         next = job.next;
     }
-    Ok(Body {
-        found: Found {
-            form,
-            jobs,
-            actions,
-        },
-        next,
-    })
+    plan.set_counts(form, jobs, actions);
+    Ok(next)
 }
 
 // The form of a plan is one that is read.
@@ -137,7 +122,7 @@ pub fn is_form(form: u32) -> bool
 }
 
 // Reads the form and the job count, and then the jobs.
-fn read_body(s: &[u8], plan: &mut Sheet) -> Result<Body, Refusal>
+fn read_body(s: &[u8], plan: &mut Sheet) -> Result<usize, Refusal>
     ensures { PlanRead (plan_at s.now) plan.old plan.new result }
 {
     let Some(form) = cut(s, 0, 8) else {
@@ -171,22 +156,21 @@ pub fn filled(s: &[u8], at: usize) -> bool
     zeros.value == 0 && zeros.next / 8 == s.len()
 }
 
-// Reads the plan that the bytes hold into its array, or tells why the bytes are turned down: 1, 2 and 3 as the fields are read,
+// Reads the plan that the bytes hold into its arrays, or tells why the bytes are turned down: 1, 2 and 3 as the fields are read,
 // then 6, 4, 5. `entering` then has how many joins enter each action.
-pub fn read_into(s: &[u8], plan: &mut Sheet, entering: &mut [u8; 2048]) -> Result<Found, Refusal>
+pub fn read_into(s: &[u8], plan: &mut Sheet, entering: &mut [u8; 2048]) -> Result<(), Refusal>
     requires { Blank plan.old × Unentered entering.old }
     ensures { ReadInto s.now result plan.new entering.new }
 {
-    let body = read_body(s, plan)?;
-    let found = body.found;
-    if !filled(s, body.next) {
+    let end = read_body(s, plan)?;
+    if !filled(s, end) {
         return Err(Refusal::Fill);
     }
-    if !spawn_rules(found.jobs, found.actions, plan) {
+    if !spawn_rules(plan) {
         return Err(Refusal::Spawn);
     }
-    if !join_rules(found.jobs, found.actions, plan, entering) {
+    if !join_rules(plan, entering) {
         return Err(Refusal::Join);
     }
-    Ok(found)
+    Ok(())
 }

@@ -1,61 +1,63 @@
-// The spawn rules and the join rules of a plan, over its array (document 01, "Plan").
+// The spawn rules and the join rules of a plan, over its arrays (document 01, "Plan").
 ghost use Rattle.std.specs.Prelude.{suc, ◌≤◌, ◌<◌, ◌≡◌, length, T};
 ghost use Rattle.plan.specs.Contract.{Some, ◌⇒◌};
 ghost use Rattle.plan.specs.Plan.{total};
 ghost use Rattle.plan.specs.Rules.{spawn_rules, join_rules};
-ghost use Rattle.plan.specs.Sheet.{child_at, target_at, LaidIn, SpawnedIn};
+ghost use Rattle.plan.specs.Sheet.{LaidIn, SpawnedIn};
 ghost use Rattle.plan.specs.Entering.{Unentered, Entered};
-ghost use Rattle.plan.specs.Listed.{Listed};
+ghost use Rattle.plan.specs.Listed.{entry, Listed};
 ghost use Rattle.plan.specs.Kept.{SpawnAt, SpawnTold, AllTold, JoinAt, JoinsFrom, JoinTold, LastsIn, LastsTold};
 
-use crate::sheet::{
-    Sheet, child_at, first_of, job_at, parent_of, set_spawner, spawn_of, target_at,
-};
+use crate::sheet::Sheet;
 
-// Lists the actions that spawn, and says how many there are: whether an action spawns is hard to foresee, so that a loop over all
-// actions that branches on it would cost more than this list, whose next free place is worked out without a branch.
-fn note_spawns(actions: usize, plan: &Sheet, list: &mut [u16; 2048]) -> usize
-    requires { actions ≤ 2048 }
-    ensures { Listed (child_at plan.now) actions result list.new }
+// Lists the places of a row whose numbers are not 0, and says how many there are: whether an action spawns, or sends a join, is hard
+// to foresee, so that a loop over all actions that branches on it would cost more than this list, whose next free place is worked out
+// without a branch.
+fn note(row: &[u16], list: &mut [u16; 2048]) -> usize
+    requires { length row.now ≤ 2048 }
+    ensures { Listed (entry row.now) (length row.now) result list.new }
 {
     let mut count = 0;
-    for k in 0..actions {
+    for (k, x) in row.iter().enumerate() {
         list[count] = k as u16;
-        count += usize::from(0 < child_at(plan, k));
+        count += usize::from(0 < *x);
     }
     count
 }
 
 // Records the job that action k spawns, or tells that it may not spawn it.
-fn spawn_rule(jobs: usize, k: usize, plan: &mut Sheet) -> bool
-    requires { Some (SpawnAt jobs k plan.old) }
-    ensures { SpawnAt jobs k plan.old ⇒ SpawnTold (suc k) result plan.new }
+fn spawn_rule(k: usize, plan: &mut Sheet) -> bool
+    requires { Some (SpawnAt k plan.old) }
+    ensures same_form { plan.new.form ≡ plan.old.form }
+    ensures told { SpawnAt k plan.old ⇒ SpawnTold (suc k) result plan.new }
 {
-    let c = child_at(plan, k) - 1;
-    if jobs <= c {
+    let c = plan.child_at(k) - 1;
+    if plan.jobs <= c {
         return false;
     }
-    let q = job_at(plan, k);
+    let q = plan.job_at(k);
     if c <= q {
         return false;
     }
-    if spawn_of(plan, c) != 0 {
+    if plan.spawn_of(c) != 0 {
         return false;
     }
-    let first = first_of(plan, q);
-    set_spawner(plan, c, q, k - first + 1);
+    let first = plan.first_of(q);
+    plan.set_spawner(c, q, k - first + 1);
     true
 }
 
 // No action breaks a rule of its own spawn.
-fn spawns_kept(jobs: usize, actions: usize, plan: &mut Sheet) -> bool
-    requires { Some (LaidIn jobs actions plan.old) }
-    ensures { LaidIn jobs actions plan.old ⇒ (λ p. SpawnTold (total p) result plan.new p) }
+fn spawns_kept(plan: &mut Sheet) -> bool
+    requires { Some (LaidIn plan.old) }
+    ensures same_form { plan.new.form ≡ plan.old.form }
+    ensures told { LaidIn plan.old ⇒ (λ p. SpawnTold (total p) result plan.new p) }
 {
     let mut list = [0u16; 2048];
-    let count = note_spawns(actions, plan, &mut list);
+    let row = &plan.children[..plan.actions];
+    let count = note(row, &mut list);
     for k in &list[..count] {
-        if !spawn_rule(jobs, usize::from(*k), plan) {
+        if !spawn_rule(usize::from(*k), plan) {
             return false;
         }
     }
@@ -63,39 +65,26 @@ fn spawns_kept(jobs: usize, actions: usize, plan: &mut Sheet) -> bool
 }
 
 // Every job but 0 was spawned.
-fn all_spawned(jobs: usize, plan: &Sheet) -> bool
-    requires { jobs ≤ 256 }
-    ensures { AllTold jobs plan.now result }
+fn all_spawned(plan: &Sheet) -> bool
+    requires { plan.now.jobs ≤ 256 }
+    ensures { AllTold plan.now result }
 {
-    for c in 1..jobs {
-        if spawn_of(plan, c) == 0 {
+    for c in 1..plan.jobs {
+        if plan.spawn_of(c) == 0 {
             return false;
         }
     }
     true
 }
 
-// Whether every job but 0 is spawned exactly once, by a job of smaller number. Where they are, the array tells of each job who
+// Whether every job but 0 is spawned exactly once, by a job of smaller number. Where they are, the arrays tell of each job who
 // spawned it and where.
-pub fn spawn_rules(jobs: usize, actions: usize, plan: &mut Sheet) -> bool
-    requires { Some (LaidIn jobs actions plan.old) }
-    ensures { LaidIn jobs actions plan.old
-        ⇒ (λ p. (result ≡ spawn_rules p) × (T result → SpawnedIn jobs actions plan.new p)) }
+pub fn spawn_rules(plan: &mut Sheet) -> bool
+    requires { Some (LaidIn plan.old) }
+    ensures same_form { plan.new.form ≡ plan.old.form }
+    ensures told { LaidIn plan.old ⇒ (λ p. (result ≡ spawn_rules p) × (T result → SpawnedIn plan.new p)) }
 {
-    spawns_kept(jobs, actions, plan) && all_spawned(jobs, plan)
-}
-
-// Lists the actions that send a join, and says how many there are.
-fn note_joins(actions: usize, plan: &Sheet, list: &mut [u16; 2048]) -> usize
-    requires { actions ≤ 2048 }
-    ensures { Listed (target_at plan.now) actions result list.new }
-{
-    let mut count = 0;
-    for k in 0..actions {
-        list[count] = k as u16;
-        count += usize::from(0 < target_at(plan, k));
-    }
-    count
+    spawns_kept(plan) && all_spawned(plan)
 }
 
 // Counts the join that action k sends, or tells that it may not send it. The target and the spawn are both noted as positions plus
@@ -104,20 +93,20 @@ fn join_rule(k: usize, plan: &Sheet, entering: &mut [u8; 2048]) -> bool
     requires { Some (JoinAt k plan.now entering.old) }
     ensures { JoinAt k plan.now entering.old ⇒ JoinTold (suc k) result entering.new }
 {
-    let t = target_at(plan, k);
-    let j = job_at(plan, k);
+    let t = plan.target_at(k);
+    let j = plan.job_at(k);
     if j == 0 {
         return false;
     }
-    if t <= spawn_of(plan, j) {
+    if t <= plan.spawn_of(j) {
         return false;
     }
-    let q = parent_of(plan, j);
-    let target = first_of(plan, q) + (t - 1);
-    if first_of(plan, q + 1) <= target {
+    let q = plan.parent_of(j);
+    let target = plan.first_of(q) + (t - 1);
+    if plan.first_of(q + 1) <= target {
         return false;
     }
-    if child_at(plan, target - 1) != 0 {
+    if plan.child_at(target - 1) != 0 {
         return false;
     }
     if 8 <= entering[target] {
@@ -128,12 +117,13 @@ fn join_rule(k: usize, plan: &Sheet, entering: &mut [u8; 2048]) -> bool
 }
 
 // No action breaks a rule of its own join.
-fn joins_kept(actions: usize, plan: &Sheet, entering: &mut [u8; 2048]) -> bool
-    requires { Some (JoinsFrom actions plan.now entering.old) }
-    ensures { JoinsFrom actions plan.now entering.old ⇒ (λ p. JoinTold (total p) result entering.new p) }
+fn joins_kept(plan: &Sheet, entering: &mut [u8; 2048]) -> bool
+    requires { Some (JoinsFrom plan.now entering.old) }
+    ensures { JoinsFrom plan.now entering.old ⇒ (λ p. JoinTold (total p) result entering.new p) }
 {
     let mut list = [0u16; 2048];
-    let count = note_joins(actions, plan, &mut list);
+    let row = &plan.targets[..plan.actions];
+    let count = note(row, &mut list);
     for k in &list[..count] {
         if !join_rule(usize::from(*k), plan, entering) {
             return false;
@@ -143,12 +133,12 @@ fn joins_kept(actions: usize, plan: &Sheet, entering: &mut [u8; 2048]) -> bool
 }
 
 // The last action of every job but 0 sends a join.
-fn lasts_send(jobs: usize, plan: &Sheet) -> bool
-    requires { Some (LastsIn jobs plan.now) }
-    ensures { LastsTold jobs plan.now result }
+fn lasts_send(plan: &Sheet) -> bool
+    requires { Some (LastsIn plan.now) }
+    ensures { LastsTold plan.now result }
 {
-    for j in 1..jobs {
-        if target_at(plan, first_of(plan, j + 1) - 1) == 0 {
+    for j in 1..plan.jobs {
+        if plan.target_at(plan.first_of(j + 1) - 1) == 0 {
             return false;
         }
     }
@@ -157,10 +147,10 @@ fn lasts_send(jobs: usize, plan: &Sheet) -> bool
 
 // Whether joins go to later actions of the parent, not right after a spawn, at most 8 into one, and every last action but
 // job 0's sends one. Where they do, `entering` tells of each action how many enter it.
-pub fn join_rules(jobs: usize, actions: usize, plan: &Sheet, entering: &mut [u8; 2048]) -> bool
-    requires { Some (SpawnedIn jobs actions plan.now) × Unentered entering.old }
-    ensures { SpawnedIn jobs actions plan.now
+pub fn join_rules(plan: &Sheet, entering: &mut [u8; 2048]) -> bool
+    requires { Some (SpawnedIn plan.now) × Unentered entering.old }
+    ensures { SpawnedIn plan.now
         ⇒ (λ p. (result ≡ join_rules p) × (T result → Entered p entering.new × (length entering.new ≡ 2048))) }
 {
-    lasts_send(jobs, plan) && joins_kept(actions, plan, entering)
+    lasts_send(plan) && joins_kept(plan, entering)
 }

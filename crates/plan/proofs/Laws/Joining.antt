@@ -11,6 +11,7 @@ use native.Mathlib.Nat.{not-suc-le-zero}
 use lib.Dec.{T, leb, ltb, eqb, eqb_refl, le→leb, lt→ltb}
 use lib.ListN.{length, get_or, take, set, get_or-replicate, length-set, length-replicate}
 use lib.Seq.{get_or-set_same, get_or-set_other, take_all}
+use Rattle.plan.specs.declared.sheet.Sheet.{Sheet}
 use Rattle.plan.specs.Test.{both, either, count}
 use Rattle.plan.specs.Plan.{Plan, Placed, size, action, total, placed, no_placed, parent, spawn_at, enters, entering}
 use Rattle.plan.specs.Rules.{in_range, join_fits, few_enter, last_sends, join_rules, Accepted}
@@ -43,7 +44,7 @@ fits_none p a e = rw e tt
 
 -- what is known of a join that is sent, once its target is looked up: job j sends to position s - 1 of job q, whose actions are
 -- at the places from w to z, and d is the position of j's spawn there, plus 1
-pub record Target (plan : List ℕ) (j s d q w z : ℕ) : Type 0 where
+pub record Target (plan : Sheet) (j s d q w z : ℕ) : Type 0 where
   pub child : j ≢ 0
   pub spawned : d ≡ spawn_of plan j
   pub late : d < s
@@ -51,7 +52,7 @@ pub record Target (plan : List ℕ) (j s d q w z : ℕ) : Type 0 where
   pub begins : w ≡ first_of plan q
   pub ends : z ≡ first_of plan (q + 1)
 
-module _ (p : Plan) (plan : List ℕ) (g : Parented plan p) where
+module _ (p : Plan) (plan : Sheet) (g : Parented plan p) where
   accepted : T (join_rules p) → Accepted p
   accepted t = record { range = g.laid.range; spawns = g.rules; joins = t }
 
@@ -76,7 +77,7 @@ module _ (k : ℕ) (l : List ℕ) (p : Plan) (r : Counted k l p) (h : k < total 
         few = r.few;
       }
 
-module _ (p : Plan) (k : ℕ) (plan l : List ℕ) (g : JoinAt k plan l p) where
+module _ (p : Plan) (k : ℕ) (plan : Sheet) (l : List ℕ) (g : JoinAt k plan l p) where
   lies : Laid plan p
   lies = g.given.laid
 
@@ -236,13 +237,13 @@ counted_start p g l u =
     zero_at : (q t : ℕ) → q < length p → t < size p q → get_or l (start p q + t) 0 ≡ 0
     zero_at q t h b = rw u (get_or-replicate 2048 (start p q + t) 0 0 (omega (arith, place_below p q t h b, total_in_range p g)))
 
-pub joins_from : (jobs actions : ℕ) (plan l : List ℕ) (p : Plan) → SpawnedIn jobs actions plan p → Unentered l → JoinsFrom actions plan l p
-joins_from jobs actions plan l p g u =
+pub joins_from : (plan : Sheet) (l : List ℕ) (p : Plan) → SpawnedIn plan p → Unentered l → JoinsFrom plan l p
+joins_from plan l p g u =
     record { given = g.parented; all = g.all; counted = counted_start p g.parented.laid.range l u }
 
 -- the actions that send a join are listed: the next of them, and past the last one the end
-module _ (actions many : ℕ) (plan first list : List ℕ) (p : Plan) (g : JoinsFrom actions plan first p) (f : Listed (target_at plan) actions many list) (l : List ℕ) where
-  over_none : (i : ℕ) → i < actions → target_at plan i ≡ 0 → Counted i l p → Counted (suc i) l p
+module _ (many : ℕ) (plan : Sheet) (first list : List ℕ) (p : Plan) (g : JoinsFrom plan first p) (f : Listed (target_at plan) plan.actions many list) (l : List ℕ) where
+  over_none : (i : ℕ) → i < plan.actions → target_at plan i ≡ 0 → Counted i l p → Counted (suc i) l p
   over_none i b z r =
       let h : i < total p = omega (arith, g.all) in counted_none i l p r h (sym (g.given.laid.targets i h) ∙ z)
 
@@ -253,15 +254,15 @@ module _ (actions many : ℕ) (plan first list : List ℕ) (p : Plan) (g : Joins
         given = g.given;
         here = omega (arith, g.all, f.below m b);
         sends = f.some m b;
-        counted = to_next (target_at plan) actions many list f (λ i. Counted i l p) over_none m b r;
+        counted = to_next (target_at plan) plan.actions many list f (λ i. Counted i l p) over_none m b r;
       })
 
   pub joins_all : Counted (upto list many) l p → Counted (total p) l p
   joins_all r =
-      rw g.all at (to_end (target_at plan) actions many list f (λ i. Counted i l p) over_none r)
+      rw g.all at (to_end (target_at plan) plan.actions many list f (λ i. Counted i l p) over_none r)
 
 -- the last actions
-module _ (p : Plan) (plan : List ℕ) (g : Laid plan p) (j : ℕ) (h : j < length p) where
+module _ (p : Plan) (plan : Sheet) (g : Laid plan p) (j : ℕ) (h : j < length p) where
   pub last_small : (1 ≤ first_of plan (j + 1)) × (first_of plan (j + 1) - 1 < 2048)
   last_small =
       let z = size_in_range p g.range j h in
@@ -274,7 +275,7 @@ module _ (p : Plan) (plan : List ℕ) (g : Laid plan p) (j : ℕ) (h : j < lengt
       let e : first_of plan (j + 1) - 1 ≡ start p j + (size p j - 1) = omega (arith, laid_end plan p g j h, z) in
       ap (target_at plan) e ∙ laid_target plan p g j h (size p j - 1) b
 
-module _ (p : Plan) (plan : List ℕ) (jobs : ℕ) (g : jobs ≡ length p) (r : Parented plan p) (told : Bool) (t : LastsTold jobs plan told) where
+module _ (p : Plan) (plan : Sheet) (g : plan.jobs ≡ length p) (r : Parented plan p) (told : Bool) (t : LastsTold plan told) where
   pub lasts_broken : (T told → ⊥) → T (join_rules p) → ⊥
   lasts_broken f y =
       let u = t.broken f in

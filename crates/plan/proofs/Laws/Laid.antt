@@ -1,14 +1,14 @@
--- What stands in a plan's array, by job and position.
+-- What stands in a plan's arrays, by job and position.
 use Prim.Native.Nat.{ℕ, suc, ◌+◌, ◌<◌}
 use mathlib.Core.Path.{◌≡◌, ap, ◌∙◌}
-use mathlib.Core.List.{List}
+use Rattle.plan.specs.declared.sheet.Sheet.{Sheet}
 use native.Mathlib.Numerals.{add-one}
 use lib.ListN.{length}
 use Rattle.plan.specs.Plan.{Plan, size, action}
 use Rattle.plan.specs.Sheet.{child_at, target_at, job_at, cost_at, first_of, Laid}
 use Rattle.plan.proofs.Laws.Placed.{start, placed_at, place_below, start_suc}
 
-module _ (plan : List ℕ) (p : Plan) (g : Laid plan p) (j : ℕ) (h : j < length p) where
+module _ (plan : Sheet) (p : Plan) (g : Laid plan p) (j : ℕ) (h : j < length p) where
   pub laid_end : first_of plan (j + 1) ≡ start p j + size p j
   laid_end = ap (first_of plan) (add-one j) ∙ g.firsts (suc j) h ∙ start_suc p j h
 

@@ -11,8 +11,8 @@ use lib.Dec.{ltb, lt→ltb, ltb→lt}
 use lib.ListN.{length, get_or, take, set, length-set}
 use lib.Seq.{get_or-set_same, get_or-set_other}
 use Rattle.std.specs.Int.{from_bool}
-use Rattle.std.proofs.lemmas.List.{get_or-take}
-use Rattle.plan.specs.Listed.{upto, Listed}
+use Rattle.std.proofs.lemmas.List.{get_or-take, length-take}
+use Rattle.plan.specs.Listed.{entry, upto, Listed}
 use Rattle.plan.proofs.Laws.Lists.{true_of, false_of}
 
 -- nothing is listed
@@ -135,6 +135,21 @@ module _ (f : ℕ → ℕ) (n count : ℕ) (l : List ℕ) (g : Listed f n count 
 -- the place after a listed one
 pub upto_more : (l : List ℕ) (m k : ℕ) → k ≡ get_or l m 0 → suc k ≡ upto l (m + 1)
 upto_more l m k e = ap suc e ∙ ap (upto l) (sym (add-one m))
+
+-- what is listed of the front of a row
+pub listed_front : (row : List ℕ) (n many : ℕ) (l : List ℕ) → n ≤ length row
+    → Listed (entry (take n row)) (length (take n row)) many l → Listed (entry row) n many l
+listed_front row n many l h g =
+    let e : length (take n row) ≡ n = omega (arith, length-take n row) in
+    record {
+      long = g.long;
+      few = omega (arith, g.few);
+      below = λ m b. omega (arith, g.below m b);
+      some = λ m b z. g.some m b (get_or-take n row (get_or l m 0) 0 (omega (arith, g.below m b)) ∙ z);
+      rises = g.rises;
+      none = λ m i b c d. sym (get_or-take n row i 0 (omega (arith, g.below m b))) ∙ g.none m i b c d;
+      rest = λ i c d. sym (get_or-take n row i 0 d) ∙ g.rest i c (omega (arith, e));
+    }
 
 -- the first places of a list alone
 pub upto_take : (l : List ℕ) (n m : ℕ) → m ≤ n → upto (take n l) m ≡ upto l m

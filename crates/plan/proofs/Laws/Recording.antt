@@ -11,6 +11,7 @@ use native.Mathlib.Nat.{le_of_suc-le-suc, not-suc-le-zero}
 use lib.Dec.{T, leb, ltb, eqb, eqb→eq, eqb_refl, le→leb, lt→ltb}
 use lib.ListN.{length, get_or, take}
 use lib.Seq.{take_all}
+use Rattle.plan.specs.declared.sheet.Sheet.{Sheet}
 use Rattle.plan.specs.Test.{both, all, count, below}
 use Rattle.plan.specs.Plan.{Plan, Placed, total, placed, no_placed, spawner_in, parent, spawn_at}
 use Rattle.plan.specs.Rules.{spawn_fits, spawned_once, spawn_rules}
@@ -47,7 +48,7 @@ fits_none : (jobs : ℕ) (a : Placed) → a.spawn ≡ 0 → T (spawn_fits jobs a
 fits_none jobs a e = rw e tt
 
 -- one more action
-module _ (k : ℕ) (plan : List ℕ) (p : Plan) (r : Recorded k plan p) (h : k < total p) where
+module _ (k : ℕ) (plan : Sheet) (p : Plan) (r : Recorded k plan p) (h : k < total p) where
   fits_more : T (spawn_fits (length p) (here p k)) → (i : ℕ) → i < suc k → T (spawn_fits (length p) (here p i))
   fits_more t i b = below_more (λ i. T (spawn_fits (length p) (here p i))) k r.fits t i (omega arith)
 
@@ -63,13 +64,15 @@ module _ (k : ℕ) (plan : List ℕ) (p : Plan) (r : Recorded k plan p) (h : k <
   recorded_none : (here p k).spawn ≡ 0 → Recorded (suc k) plan p
   recorded_none z =
       record {
+        jobs = r.jobs;
+        actions = r.actions;
         laid = r.laid;
         fits = fits_more (fits_none (length p) (here p k) z);
         none = λ c b n. same_count c (omega arith) ∙ r.none c b n;
         once = λ c b n. let o = r.once c b n in (same_count c (omega arith) ∙ o.0, o.1, o.2);
       }
 
-module _ (p : Plan) (jobs k : ℕ) (plan : List ℕ) (g : SpawnAt jobs k plan p) where
+module _ (p : Plan) (k : ℕ) (plan : Sheet) (g : SpawnAt k plan p) where
   lies : Laid plan p
   lies = g.recorded.laid
 
@@ -92,16 +95,16 @@ module _ (p : Plan) (jobs k : ℕ) (plan : List ℕ) (g : SpawnAt jobs k plan p)
     allowed t = spawn_fits_lem (length p) (here p k) (s - 1) (spawn_allowed p t k g.here) spawn_here
 
     -- the child is no job
-    pub refused_many : jobs ≤ s - 1 → SpawnTold (suc k) false plan p
-    refused_many m = told_no (λ t. omega (arith, allowed t, g.count))
+    pub refused_many : plan.jobs ≤ s - 1 → SpawnTold (suc k) false plan p
+    refused_many m = told_no (λ t. omega (arith, allowed t, g.recorded.jobs))
 
     -- the child is not above its parent
     pub refused_older : (q : ℕ) → q ≡ job_at plan k → s - 1 ≤ q → SpawnTold (suc k) false plan p
     refused_older q o m = told_no (λ t. omega (arith, allowed t, lies.owners k g.here))
 
-    module _ (b : s - 1 < jobs) where
+    module _ (b : s - 1 < plan.jobs) where
       known : s - 1 < length p
-      known = omega (arith, g.count)
+      known = omega (arith, g.recorded.jobs)
 
       -- the child was spawned before
       pub refused_twice : (d : ℕ) → d ≡ spawn_of plan (s - 1) → d ≢ 0 → SpawnTold (suc k) false plan p
@@ -117,19 +120,21 @@ module _ (p : Plan) (jobs k : ℕ) (plan : List ℕ) (g : SpawnAt jobs k plan p)
 
       -- the child is recorded
       pub recorded_new : (q w d : ℕ) → q ≡ job_at plan k → w ≡ first_of plan q → q < s - 1 → d ≡ spawn_of plan (s - 1) → d ≡ 0
-          → (after : List ℕ) → after ≡ with_spawner plan (s - 1) q (k - w + 1) → SpawnTold (suc k) true after p
+          → (after : Sheet) → after ≡ with_spawner plan (s - 1) q (k - w + 1) → SpawnTold (suc k) true after p
       unfolding parent spawn_at
       recorded_new q w d o f l i m after is =
           rw is
           (told_yes
           (record {
+            jobs = g.recorded.jobs;
+            actions = g.recorded.actions;
             laid = noted_laid plan p lies (s - 1) q (k - w + 1) known;
             fits = fits_more k plan p g.recorded g.here (fits_by (length p) (here p k) (s - 1) spawn_here known (omega (arith, lies.owners k g.here)));
             none = λ c v z. none_of c v z (ℕ_discrete c (s - 1));
             once = λ c v z. once_of c v z (ℕ_discrete c (s - 1));
           }))
         where
-          new : List ℕ
+          new : Sheet
           new = with_spawner plan (s - 1) q (k - w + 1)
 
           before : count (spawning (s - 1)) (take k (placed p)) ≡ 0
@@ -144,7 +149,7 @@ module _ (p : Plan) (jobs k : ℕ) (plan : List ℕ) (g : SpawnAt jobs k plan p)
               let x : spawn_of new c ≡ k - w + 1 = rw y (noted_spawn plan p lies (s - 1) q (k - w + 1) known) in
               absurd (omega arith)
           none_of c v z (no y) =
-              same_count k plan p g.recorded g.here c (omega (arith, spawn_here)) ∙ g.recorded.none c v (sym (noted_other plan p lies (s - 1) q (k - w + 1) known c v y).1 ∙ z)
+              same_count k plan p g.recorded g.here c (omega (arith, spawn_here)) ∙ g.recorded.none c v (sym (noted_other plan p lies (s - 1) q (k - w + 1) known c y).1 ∙ z)
 
           once_of : (c : ℕ) → c < length p → (spawn_of new c ≡ 0 → ⊥) → Dec (c ≡ s - 1)
               → (count (spawning c) (take (suc k) (placed p)) ≡ 1) × (parent_of new c ≡ parent p c) × (spawn_of new c ≡ suc (spawn_at p c))
@@ -156,14 +161,16 @@ module _ (p : Plan) (jobs k : ℕ) (plan : List ℕ) (g : SpawnAt jobs k plan p)
                     ∙ omega (arith, position_here q w o f, ap (λ a. a.position) spawner_here),
               )
           once_of c v z (no y) =
-              let same = noted_other plan p lies (s - 1) q (k - w + 1) known c v y in
+              let same = noted_other plan p lies (s - 1) q (k - w + 1) known c y in
               let u = g.recorded.once c v (λ x. z (same.1 ∙ x)) in
               (same_count k plan p g.recorded g.here c (omega (arith, spawn_here)) ∙ u.0, same.0 ∙ u.1, same.1 ∙ u.2)
 
 -- before the first action
-pub recorded_start : (jobs actions : ℕ) (plan : List ℕ) (p : Plan) → LaidIn jobs actions plan p → Recorded 0 plan p
-recorded_start jobs actions plan p g =
+pub recorded_start : (plan : Sheet) (p : Plan) → LaidIn plan p → Recorded 0 plan p
+recorded_start plan p g =
     record {
+      jobs = g.count;
+      actions = g.all;
       laid = g.laid;
       fits = λ i b. absurd (not-suc-le-zero b);
       none = λ c b z. refl;
@@ -171,18 +178,17 @@ recorded_start jobs actions plan p g =
     }
 
 -- the actions that spawn are listed: the next of them, and past the last one the end
-module _ (jobs actions many : ℕ) (first l : List ℕ) (p : Plan) (g : LaidIn jobs actions first p) (f : Listed (child_at first) actions many l) (plan : List ℕ) where
-  over_none : (i : ℕ) → i < actions → child_at first i ≡ 0 → Recorded i plan p → Recorded (suc i) plan p
+module _ (many : ℕ) (first : Sheet) (l : List ℕ) (p : Plan) (g : LaidIn first p) (f : Listed (child_at first) first.actions many l) (plan : Sheet) where
+  over_none : (i : ℕ) → i < first.actions → child_at first i ≡ 0 → Recorded i plan p → Recorded (suc i) plan p
   over_none i b z r =
       let h : i < total p = omega (arith, g.all) in recorded_none i plan p r h (sym (g.laid.children i h) ∙ z)
 
-  pub spawn_next : (m k : ℕ) → m < many → k ≡ get_or l m 0 → Recorded (upto l m) plan p → SpawnAt jobs k plan p
+  pub spawn_next : (m k : ℕ) → m < many → k ≡ get_or l m 0 → Recorded (upto l m) plan p → SpawnAt k plan p
   spawn_next m k b e r =
-      let next : Recorded (get_or l m 0) plan p = to_next (child_at first) actions many l f (λ i. Recorded i plan p) over_none m b r in
+      let next : Recorded (get_or l m 0) plan p = to_next (child_at first) first.actions many l f (λ i. Recorded i plan p) over_none m b r in
       let h : get_or l m 0 < total p = omega (arith, g.all, f.below m b) in
       rw e
       (record {
-        count = g.count;
         here = h;
         spawns = λ z. f.some m b (g.laid.children (get_or l m 0) h ∙ sym (next.laid.children (get_or l m 0) h) ∙ z);
         recorded = next;
@@ -190,10 +196,10 @@ module _ (jobs actions many : ℕ) (first l : List ℕ) (p : Plan) (g : LaidIn j
 
   pub spawns_all : Recorded (upto l many) plan p → Recorded (total p) plan p
   spawns_all r =
-      rw g.all at (to_end (child_at first) actions many l f (λ i. Recorded i plan p) over_none r)
+      rw g.all at (to_end (child_at first) first.actions many l f (λ i. Recorded i plan p) over_none r)
 
 -- what the record of every action says of the spawn rules, with whether every job but 0 is in it
-module _ (p : Plan) (plan : List ℕ) (jobs actions : ℕ) (g : jobs ≡ length p) (n : actions ≡ total p) (r : Recorded (total p) plan p) (told : Bool) (t : AllTold jobs plan told) where
+module _ (p : Plan) (plan : Sheet) (r : Recorded (total p) plan p) (told : Bool) (t : AllTold plan told) where
   all_counted : (c : ℕ) → count (spawning c) (take (total p) (placed p)) ≡ count (spawning c) (placed p)
   all_counted c = ap (count (spawning c)) (take_all (total p) (placed p) (omega (arith, placed_length p)))
 
@@ -208,27 +214,27 @@ module _ (p : Plan) (plan : List ℕ) (jobs actions : ℕ) (g : jobs ≡ length 
       once zero b = tt
       once (suc c) b =
           either_right (eqb (suc c) 0) (eqb (count (spawning (suc c)) (placed p)) 1)
-          (rw (sym (all_counted (suc c)) ∙ (r.once (suc c) b (t.kept y (suc c) (omega arith) (omega arith))).0) (eqb_refl 1))
+          (rw (sym (all_counted (suc c)) ∙ (r.once (suc c) b (t.kept y (suc c) (omega arith) (omega (arith, r.jobs)))).0) (eqb_refl 1))
 
-  pub spawns_told : (told ≡ spawn_rules p) × (T told → SpawnedIn jobs actions plan p)
+  pub spawns_told : (told ≡ spawn_rules p) × (T told → SpawnedIn plan p)
   spawns_told = (equal_tests told (spawn_rules p) kept_here broken, held)
     where
       broken : (T told → ⊥) → T (spawn_rules p) → ⊥
       broken f y =
           let u = t.broken f in
-          omega (arith, r.none u.0 (omega (arith, u.2)) u.3, all_counted u.0, spawn_count p y u.0 u.1 (omega (arith, u.2)))
+          omega (arith, r.none u.0 (omega (arith, u.2, r.jobs)) u.3, all_counted u.0, spawn_count p y u.0 u.1 (omega (arith, u.2, r.jobs)))
 
-      held : T told → SpawnedIn jobs actions plan p
+      held : T told → SpawnedIn plan p
       held y =
           record {
-            count = g;
-            all = n;
+            count = r.jobs;
+            all = r.actions;
             parented = record {
               laid = r.laid;
               rules = kept_here y;
               spawned = record {
-                parents = λ c h b. (r.once c b (t.kept y c h (omega arith))).1;
-                spawns = λ c h b. (r.once c b (t.kept y c h (omega arith))).2;
+                parents = λ c h b. (r.once c b (t.kept y c h (omega (arith, r.jobs)))).1;
+                spawns = λ c h b. (r.once c b (t.kept y c h (omega (arith, r.jobs)))).2;
               };
             };
           }

@@ -9,6 +9,7 @@ use mathlib.Core.List.{List, [], ◌∷◌, ◌++◌, append-nil}
 use lib.ListN.{length, length-append}
 use Rattle.std.specs.Prelude.{Ok}
 use Rattle.std.proofs.lemmas.Result.{err_from_is_err_and}
+use Rattle.plan.specs.declared.sheet.Sheet.{Sheet}
 use Rattle.plan.specs.Plan.{Action}
 use Rattle.fields.specs.Field.{Step, stop, step}
 use Rattle.plan.specs.Reader.{action_at, actions_at}
@@ -18,7 +19,7 @@ use Rattle.plan.proofs.Laws.Sheets.{actions_one_more}
 use Rattle.plan.proofs.reader.read_actions.Goals as goal
 use Rattle.plan.proofs.reader.read_actions.Invariants.{Begun}
 
-begin : (form : ℕ) (s : List ℕ) (at j from count : ℕ) (plan : List ℕ) → Begun form s at j from count plan plan at from
+begin : (form : ℕ) (s : List ℕ) (at j from count : ℕ) (plan : Sheet) → Begun form s at j from count plan plan at from
 begin form s at j from count plan =
     record {
       l = [];
@@ -33,14 +34,14 @@ begin form s at j from count plan =
     go (stop n) = refl
     go (step l n) = refl
 
-module _ (form : ℕ) (s : List ℕ) (at j from count : ℕ) (plan₀ plan : List ℕ) (place k : ℕ) (h : Begun form s at j from count plan₀ plan place k) (t : k < from + count) where
+module _ (form : ℕ) (s : List ℕ) (at j from count : ℕ) (plan₀ plan : Sheet) (place k : ℕ) (h : Begun form s at j from count plan₀ plan place k) (t : k < from + count) where
   left : count - length h.l ≡ suc (count - suc (length h.l))
   left = omega (arith, h.here)
 
   stopped : (n : ℕ) → action_at form s place ≡ stop n → actions_at form s count at ≡ stop n
   stopped n e = h.rest ∙ rw left (actions_out form s h.l (count - suc (length h.l)) place n e)
 
-  went_on : (plan' : List ℕ) (next : ℕ) → ActionRead form s place j k plan plan' (Ok next) → Begun form s at j from count plan₀ plan' next (suc k)
+  went_on : (plan' : Sheet) (next : ℕ) → ActionRead form s place j k plan plan' (Ok next) → Begun form s at j from count plan₀ plan' next (suc k)
   went_on plan' next (x, e, w) =
       let n : length (h.l ++ (x ∷ [])) ≡ suc (length h.l) = omega (arith, length-append h.l (x ∷ [])) in
       record {

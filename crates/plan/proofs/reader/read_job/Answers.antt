@@ -3,9 +3,11 @@ use Prim.Native.Nat.{ℕ, ◌+◌, ◌≤◌}
 use native.Mathlib.Omega.{arith}
 use mathlib.Core.Path.{◌≡◌, ap, sym, ◌∙◌}
 use mathlib.Core.List.{List}
-use lib.ListN.{length, set}
+use lib.ListN.{length}
+use Rattle.plan.specs.Sheet.{with_frame, with_first}
 use Rattle.std.specs.Prelude.{Ok}
 use Rattle.std.proofs.lemmas.Result.{err_from_is_err_and}
+use Rattle.plan.specs.declared.sheet.Sheet.{Sheet}
 use Rattle.plan.specs.Plan.{Action}
 use Rattle.fields.specs.Field.{stop, step}
 use Rattle.plan.specs.Reader.{actions_at}
@@ -22,8 +24,8 @@ module _ (form : ℕ) (s : List ℕ) (k at weight size m : ℕ) (h : header_at s
   unfolding one_job_at
   no_actions n e = rw (h, e)
 
-  read : (j n : ℕ) (l : List Action) (plan plan' plan'' last : List ℕ) → plan' ≡ set plan (4096 + j) weight → actions_at form s size m ≡ step l n
-      → plan'' ≡ with_actions plan' k j l → last ≡ set plan'' (4352 + (j + 1)) (k + size)
+  read : (j n : ℕ) (l : List Action) (plan plan' plan'' last : Sheet) → plan' ≡ with_frame plan j weight → actions_at form s size m ≡ step l n
+      → plan'' ≡ with_actions plan' k j l → last ≡ with_first plan'' (j + 1) (k + size)
       → JobRead form s at j k plan last (Ok (record { size = k + size; next = n }))
   unfolding one_job_at
   read j n l plan plan' plan'' last d e w f =

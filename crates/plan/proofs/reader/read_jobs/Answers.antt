@@ -8,6 +8,7 @@ use mathlib.Core.List.{List, [], ◌∷◌, ◌++◌, append-nil}
 use lib.ListN.{length, length-append}
 use Rattle.std.specs.Prelude.{Ok}
 use Rattle.std.proofs.lemmas.Result.{err_from_is_err_and}
+use Rattle.plan.specs.declared.sheet.Sheet.{Sheet}
 use Rattle.plan.specs.declared.reader.Header.{Header}
 use Rattle.plan.specs.Plan.{Job, total}
 use Rattle.fields.specs.Field.{Step, stop, step}
@@ -19,7 +20,7 @@ use Rattle.plan.proofs.Laws.Sheets.{jobs_one_more}
 use Rattle.plan.proofs.reader.read_jobs.Goals as goal
 use Rattle.plan.proofs.reader.read_jobs.Invariants.{Begun}
 
-begin : (form : ℕ) (s : List ℕ) (at jobs : ℕ) (plan : List ℕ) → Begun form s at jobs plan plan at 0 0
+begin : (form : ℕ) (s : List ℕ) (at jobs : ℕ) (plan : Sheet) → Begun form s at jobs plan plan at 0 0
 begin form s at jobs plan =
     record {
       p = [];
@@ -35,14 +36,14 @@ begin form s at jobs plan =
     go (stop n) = refl
     go (step l n) = refl
 
-module _ (form : ℕ) (s : List ℕ) (at jobs : ℕ) (plan₀ plan : List ℕ) (place actions j : ℕ) (h : Begun form s at jobs plan₀ plan place actions j) (t : j < jobs) where
+module _ (form : ℕ) (s : List ℕ) (at jobs : ℕ) (plan₀ plan : Sheet) (place actions j : ℕ) (h : Begun form s at jobs plan₀ plan place actions j) (t : j < jobs) where
   here : jobs - j ≡ suc (jobs - (j + 1))
   here = omega arith
 
   stopped : (m : ℕ) → one_job_at form s actions place ≡ stop m → jobs_at form s jobs 0 at ≡ stop m
   stopped m e = h.rest ∙ rw here (jobs_stop form s h.p m (jobs - (j + 1)) actions place e)
 
-  went_on : (plan' : List ℕ) (job : Header) → JobRead form s place j actions plan plan' (Ok job) → Begun form s at jobs plan₀ plan' job.next job.size (j + 1)
+  went_on : (plan' : Sheet) (job : Header) → JobRead form s place j actions plan plan' (Ok job) → Begun form s at jobs plan₀ plan' job.next job.size (j + 1)
   went_on plan' job (x, e, f, w) =
       let r = job_next form s actions place x job.next e in
       let a : 0 + total h.p ≡ actions = omega (arith, h.all) in
@@ -81,5 +82,9 @@ returns c =
     let n : c.loop-j.j ≡ c.args.jobs = omega (arith, c.loop-j-test.false) in
     let m : c.args.jobs - c.loop-j.j ≡ 0 = omega (arith, n) in
     let a = c.args in
-    let e : jobs_at a.form a.s.now a.jobs 0 a.at ≡ step h.p c.loop-j.next = h.rest ∙ rw (m, append-nil) in
-    (h.p, ap (formed a.form) e, sym n ∙ h.count, h.all, h.written)
+    let e : jobs_at a.form a.s.now a.jobs 0 a.at ≡ step h.p c.loop-j.next = h.rest ∙ rw (m, append-nil) in (
+      a.form,
+      h.p,
+      ap (formed a.form) e,
+      c.set_counts.ensures ∙ rw (h.written, h.all, sym n ∙ h.count),
+    )

@@ -4,13 +4,14 @@ use Prim.Native.Nat.{ℕ, ◌+◌, ◌*◌, ◌-◌, ◌≤◌}
 use mathlib.Core.Path.{◌≡◌}
 use mathlib.Core.List.{List}
 use lib.ListN.{length}
+use Rattle.plan.specs.declared.sheet.Sheet.{Sheet}
 use Rattle.plan.specs.Plan.{Plan, total}
 use Rattle.plan.specs.Reader.{jobs_at}
 use Rattle.plan.specs.Progress.{with_jobs}
 use Rattle.plan.proofs.Laws.Steps.{after}
 use Rattle.plan.proofs.reader.read_jobs.Given as goal
 
-pub record Begun (form : ℕ) (s : List ℕ) (at jobs : ℕ) (plan₀ plan : List ℕ) (place actions j : ℕ) : Type 0 where
+pub record Begun (form : ℕ) (s : List ℕ) (at jobs : ℕ) (plan₀ plan : Sheet) (place actions j : ℕ) : Type 0 where
   pub p : Plan
   pub rest : jobs_at form s jobs 0 at ≡ after p (jobs_at form s (jobs - j) actions place)
   pub count : j ≡ length p

@@ -6,4 +6,4 @@ use Rattle.plan.proofs.rules.all_spawned.Given as goal
 
 abbrev pub invariant-loop-c : goal.invariant-loop-c
 invariant-loop-c l =
-    (l.jobs ≤ 256) × ((n : ℕ) → n < l.c → 1 ≤ n → spawn_of l.plan n ≡ 0 → ⊥)
+    (l.plan.jobs ≤ 256) × ((n : ℕ) → n < l.c → 1 ≤ n → spawn_of l.plan n ≡ 0 → ⊥)

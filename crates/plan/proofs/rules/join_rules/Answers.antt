@@ -13,15 +13,15 @@ pub returns-else-lasts_send : goal.returns-else-lasts_send
 returns-else-lasts_send c = λ p g. rw c.if-lasts_send.false (
   sym
       (false_of (join_rules p)
-      (lasts_broken p _ _ g.count g.parented _ c.lasts_send.ensures (not_passed c.lasts_send.result c.if-lasts_send.false))),
+      (lasts_broken p _ g.count g.parented _ c.lasts_send.ensures (not_passed c.lasts_send.result c.if-lasts_send.false))),
   λ x. absurd x,
 )
 
 pub joins_kept-requires : goal.joins_kept-requires
-joins_kept-requires c = let x = c.requires in (x.0.0, joins_from _ _ _ _ x.0.0 x.0.1 x.1)
+joins_kept-requires c = let x = c.requires in (x.0.0, joins_from _ _ x.0.0 x.0.1 x.1)
 
 pub returns-then-lasts_send : goal.returns-then-lasts_send
 returns-then-lasts_send c = λ p g.
     let k = c.lasts_send in
-    joins_told p _ g.parented.laid.range (lasts_kept p _ _ g.count g.parented _ k.ensures (passed k.result c.if-lasts_send.true)) _
-    (c.joins_kept.ensures p (joins_from _ _ _ _ p g c.requires.1))
+    joins_told p _ g.parented.laid.range (lasts_kept p _ g.count g.parented _ k.ensures (passed k.result c.if-lasts_send.true)) _
+    (c.joins_kept.ensures p (joins_from _ _ p g c.requires.1))

@@ -7,4 +7,4 @@ use Rattle.plan.proofs.rules.joins_kept.Given as goal
 
 abbrev pub invariant-loop-k : goal.invariant-loop-k
 invariant-loop-k l =
-    (p : Plan) → JoinsFrom l.actions l.plan l.initial.entering p → Counted (upto l.k-items l.k-index) l.entering p
+    (p : Plan) → JoinsFrom l.plan l.initial.entering p → Counted (upto l.k-items l.k-index) l.entering p

@@ -12,29 +12,29 @@ child_at-c-requires c =
     let x = c.requires in omega (arith, total_in_range x.0 x.1.recorded.laid.range, x.1.here)
 
 pub overflow_sub-c : goal.overflow_sub-c
-overflow_sub-c c = let x = c.requires in some_child x.0 _ _ _ x.1 _ c.child_at-c.ensures.0
+overflow_sub-c c = let x = c.requires in some_child x.0 _ _ x.1 _ c.child_at-c.ensures.0
 
-pub returns-then-jobs-c : goal.returns-then-jobs-c
-returns-then-jobs-c c = λ p s. refused_many p _ _ _ s _ c.child_at-c.ensures.0 c.if-jobs-c.true
+pub returns-then-plan-c-clause-told : goal.returns-then-plan-c-clause-told
+returns-then-plan-c-clause-told c = λ p s. refused_many p _ _ s _ c.child_at-c.ensures.0 c.if-plan-c.true
 
 pub job_at-q-requires : goal.job_at-q-requires
 job_at-q-requires c =
     let x = c.requires in omega (arith, total_in_range x.0 x.1.recorded.laid.range, x.1.here)
 
-pub returns-then-c-q : goal.returns-then-c-q
-returns-then-c-q c = λ p s. refused_older p _ _ _ s _ c.child_at-c.ensures.0 _ c.job_at-q.ensures.0 c.if-c-q.true
+pub returns-then-c-q-clause-told : goal.returns-then-c-q-clause-told
+returns-then-c-q-clause-told c = λ p s. refused_older p _ _ s _ c.child_at-c.ensures.0 _ c.job_at-q.ensures.0 c.if-c-q.true
 
 pub spawn_of-requires : goal.spawn_of-requires
 spawn_of-requires c =
-    let x = c.requires in omega (arith, jobs_in_range x.0 x.1.recorded.laid.range, x.1.count)
+    let x = c.requires in omega (arith, jobs_in_range x.0 x.1.recorded.laid.range, x.1.recorded.jobs)
 
-pub returns-then-spawn_of-ne0 : goal.returns-then-spawn_of-ne0
-returns-then-spawn_of-ne0 c = λ p s.
-    refused_twice p _ _ _ s _ c.child_at-c.ensures.0 c.if-jobs-c.false _ c.spawn_of.ensures.0 c.if-spawn_of-ne0.true
+pub returns-then-spawn_of-ne0-clause-told : goal.returns-then-spawn_of-ne0-clause-told
+returns-then-spawn_of-ne0-clause-told c = λ p s.
+    refused_twice p _ _ s _ c.child_at-c.ensures.0 c.if-plan-c.false _ c.spawn_of.ensures.0 c.if-spawn_of-ne0.true
 
 pub first_of-first-requires : goal.first_of-first-requires
 first_of-first-requires c =
-    let x = c.requires in omega (arith, position_here x.0 _ _ _ x.1 _ _ c.job_at-q.ensures.0 refl)
+    let x = c.requires in omega (arith, position_here x.0 _ _ x.1 _ _ c.job_at-q.ensures.0 refl)
 
 -- the action's job and position
 position : (c : After-first_of-first)
@@ -44,7 +44,7 @@ position : (c : After-first_of-first)
     (q < 256) × (w ≤ k) × (k - w < 255)
 position c =
     let x = c.requires in
-    let f = position_here x.0 _ _ _ x.1 _ _ c.job_at-q.ensures.0 c.first_of-first.ensures.0 in
+    let f = position_here x.0 _ _ x.1 _ _ c.job_at-q.ensures.0 c.first_of-first.ensures.0 in
     (f.0, f.1, f.3)
 
 pub overflow_sub-k : goal.overflow_sub-k
@@ -56,7 +56,7 @@ overflow_add-k c = omega (arith, position (goal.at.overflow_add-k c).After-first
 pub set_spawner-requires : goal.set_spawner-requires
 set_spawner-requires c = (spawn_of-requires (goal.at.set_spawner-requires c).Else-c-q, (position (goal.at.set_spawner-requires c).After-first_of-first).0, omega (arith, position (goal.at.set_spawner-requires c).After-first_of-first))
 
-pub returns : goal.returns
-returns c = λ p s.
-    recorded_new p _ _ _ s _ c.child_at-c.ensures.0 c.if-jobs-c.false _ _ _ c.job_at-q.ensures.0
+pub returns-clause-told : goal.returns-clause-told
+returns-clause-told c = λ p s.
+    recorded_new p _ _ s _ c.child_at-c.ensures.0 c.if-plan-c.false _ _ _ c.job_at-q.ensures.0
     c.first_of-first.ensures.0 c.if-c-q.false c.spawn_of.ensures.0 c.if-spawn_of-ne0.false _ c.set_spawner.ensures

@@ -9,14 +9,18 @@ use Rattle.plan.proofs.Laws.Recording.{spawns_told}
 use Rattle.plan.proofs.rules.spawn_rules.Goals as goal
 
 pub returns-else-spawns_kept : goal.returns-else-spawns_kept
-returns-else-spawns_kept c = λ p g.
+returns-else-spawns_kept c = record { same_form = c.spawns_kept.ensures.same_form; told = λ p g.
     let k = c.spawns_kept in
-    rw c.if-spawns_kept.false (sym (false_of (spawn_rules p) ((k.ensures p g).broken (not_passed k.result c.if-spawns_kept.false))), λ x. absurd x)
+    rw c.if-spawns_kept.false (sym (false_of (spawn_rules p) ((k.ensures.told p g).broken (not_passed k.result c.if-spawns_kept.false))), λ x. absurd x) }
 
 pub all_spawned-requires : goal.all_spawned-requires
-all_spawned-requires c = let x = c.requires in omega (arith, x.1.count, jobs_in_range x.0 x.1.laid.range)
+all_spawned-requires c =
+    let x = c.requires in
+    let k = c.spawns_kept in
+    let r = (k.ensures.told x.0 x.1).kept (passed k.result c.if-spawns_kept.true) in
+    omega (arith, r.jobs, jobs_in_range x.0 x.1.laid.range)
 
 pub returns-then-spawns_kept : goal.returns-then-spawns_kept
-returns-then-spawns_kept c = λ p g.
+returns-then-spawns_kept c = record { same_form = c.spawns_kept.ensures.same_form; told = λ p g.
     let k = c.spawns_kept in
-    spawns_told p _ _ _ g.count g.all ((k.ensures p g).kept (passed k.result c.if-spawns_kept.true)) _ c.all_spawned.ensures
+    spawns_told p _ ((k.ensures.told p g).kept (passed k.result c.if-spawns_kept.true)) _ c.all_spawned.ensures }
