@@ -14,7 +14,7 @@ ghost use Rattle.plan.specs.Refusal.{accepted};
 
 use fields::field::{Sink, finish, put};
 use plan::refusal::Refusal;
-use plan::sheet::{Sheet, child_at, cost_at, first_of, frame_of, job_at, target_at};
+use plan::sheet::Sheet;
 
 // How many bits a number plus 1, or 0, takes.
 fn number_bits(x: usize) -> usize
@@ -60,13 +60,13 @@ fn action_field(form: u32, child: usize, target: usize, cost: usize) -> u64
 }
 
 // How many bits the plan's fields take in a form.
-fn plan_bits(form: u32, jobs: usize, actions: usize, plan: &Sheet) -> usize
-    requires { Some (RuledIn jobs actions plan.now) }
-    ensures { (result < 65536) × (RuledIn jobs actions plan.now ⇒ (λ p. result ≡ length (plan_bits form p))) }
+fn plan_bits(form: u32, plan: &Sheet) -> usize
+    requires { Some (RuledIn plan.now) }
+    ensures { (result < 65536) × (RuledIn plan.now ⇒ (λ p. result ≡ length (plan_bits form p))) }
 {
-    let mut bits = 17 + 24 * jobs;
-    for k in 0..actions {
-        bits += action_bits(form, child_at(plan, k), target_at(plan, k));
+    let mut bits = 17 + 24 * plan.jobs;
+    for k in 0..plan.actions {
+        bits += action_bits(form, plan.child_at(k), plan.target_at(k));
     }
     bits
 }
@@ -100,33 +100,33 @@ fn put_action(out: &mut [u8], sink: Sink, form: u32, k: usize, plan: &Sheet) -> 
     requires { Sound out.old sink × Writable plan.now k × Room out.old sink (length (action_bits form plan.now k)) }
     ensures { Put out.old sink (action_bits form plan.now k) out.new result }
 {
-    let j = job_at(plan, k);
-    let start = first_of(plan, j);
+    let j = plan.job_at(k);
+    let start = plan.first_of(j);
     if start == k {
-        let s = put_header(out, sink, frame_of(plan, j), first_of(plan, j + 1) - start);
+        let s = put_header(out, sink, plan.frame_of(j), plan.first_of(j + 1) - start);
         return put_fields(
             out,
             s,
             form,
-            child_at(plan, k),
-            target_at(plan, k),
-            cost_at(plan, k),
+            plan.child_at(k),
+            plan.target_at(k),
+            plan.cost_at(k),
         );
     }
     put_fields(
         out,
         sink,
         form,
-        child_at(plan, k),
-        target_at(plan, k),
-        cost_at(plan, k),
+        plan.child_at(k),
+        plan.target_at(k),
+        plan.cost_at(k),
     )
 }
 
 // Writes the plan's bytes in a form, and tells how many they are.
-fn write_plan(out: &mut [u8], form: u32, jobs: usize, actions: usize, plan: &Sheet) -> usize
-    requires { Some (WritesInto (length out.old) form jobs actions plan.now) }
-    ensures { RuledIn jobs actions plan.now
+fn write_plan(out: &mut [u8], form: u32, plan: &Sheet) -> usize
+    requires { Some (WritesInto (length out.old) form plan.now) }
+    ensures { RuledIn plan.now
         ⇒ (λ p. (result ≡ length (plan_bytes form p)) × (out.new ≡ plan_bytes form p ++ drop (length (plan_bytes form p)) out.old)) }
 {
     let mut sink = put(
@@ -139,28 +139,22 @@ fn write_plan(out: &mut [u8], form: u32, jobs: usize, actions: usize, plan: &She
         form as u64,
         8,
     );
-    sink = put(out, sink, jobs as u64, 9);
-    for k in 0..actions {
+    sink = put(out, sink, plan.jobs as u64, 9);
+    for k in 0..plan.actions {
         sink = put_action(out, sink, form, k, plan);
     }
     finish(out, sink)
 }
 
-// Writes the bytes, in a form, of the plan that the array has, where there is room, and tells their number, or why nothing was
+// Writes the bytes, in a form, of the plan that the arrays have, where there is room, and tells their number, or why nothing was
 // written. It looks at no parent, so none need be noted.
-pub fn encode(
-    form: u32,
-    jobs: usize,
-    actions: usize,
-    plan: &Sheet,
-    bytes: &mut [u8],
-) -> Result<usize, Refusal>
-    requires { Some (RuledIn jobs actions plan.now) × (form < 256) }
-    ensures { RuledIn jobs actions plan.now
+pub fn encode(form: u32, plan: &Sheet, bytes: &mut [u8]) -> Result<usize, Refusal>
+    requires { Some (RuledIn plan.now) × (form < 256) }
+    ensures { RuledIn plan.now
         ⇒ (λ p. record { answer = answer_of result; buffer = bytes.new } ≡ encoded form (accepted p) bytes.old) }
 {
-    if bytes.len() < (plan_bits(form, jobs, actions, plan) + 7) / 8 {
+    if bytes.len() < (plan_bits(form, plan) + 7) / 8 {
         return Err(Refusal::Short);
     }
-    Ok(write_plan(bytes, form, jobs, actions, plan))
+    Ok(write_plan(bytes, form, plan))
 }

@@ -15,6 +15,7 @@ use native.Mathlib.Numerals.{add-one}
 use native.Mathlib.Decide.{dec_le}
 use borrow.Author.Tests.{eq-eqb, ne_eqb}
 use lib.ListN.{length, get_or, length-append}
+use Rattle.plan.specs.declared.sheet.Sheet.{Sheet}
 use Rattle.plan.specs.Plan.{Action, Job, Plan, job, size, action, total, no_action, no_placed, placed}
 use Rattle.fields.specs.Field.{bits_of}
 use Rattle.plan_writer.specs.Writer.{number_bits, cost_bits, actions_bits, jobs_bits, plan_bits}
@@ -104,17 +105,17 @@ module _ (form : ℕ) (f : ℕ → List ℕ) where
       let n = length-append (actions_bits form b.actions) (jobs_bits form p) in
       rw (← e) (omega arith)
 
-opening_first : (plan : List ℕ) (j k : ℕ) → first_of plan j ≡ k
+opening_first : (plan : Sheet) (j k : ℕ) → first_of plan j ≡ k
     → opening_bits plan j k ≡ bits_of 16 (frame_of plan j) ++ bits_of 8 (first_of plan (j + 1) - first_of plan j)
 unfolding opening_bits
 opening_first plan j k e = rw (opening_bits, eq-eqb (first_of plan j) k e)
 
-opening_later : (plan : List ℕ) (j k : ℕ) → (first_of plan j ≡ k → ⊥) → opening_bits plan j k ≡ []
+opening_later : (plan : Sheet) (j k : ℕ) → (first_of plan j ≡ k → ⊥) → opening_bits plan j k ≡ []
 unfolding opening_bits
 opening_later plan j k n = rw (opening_bits, ne_eqb (first_of plan j) k n)
 
 -- what is added at place k, by the numbers that were read there: its job j, which begins at place s and ends at e, and the frame f
-module _ (form : ℕ) (plan : List ℕ) (k j s : ℕ) (owner : j ≡ job_at plan k) (begins : s ≡ first_of plan j) where
+module _ (form : ℕ) (plan : Sheet) (k j s : ℕ) (owner : j ≡ job_at plan k) (begins : s ≡ first_of plan j) where
   pub action_later : (s ≡ k → ⊥) → action_bits form plan k ≡ fields_at form plan k
   action_later n = rw (← owner, opening_later plan j k (λ e. n (begins ∙ e)))
 
@@ -128,7 +129,7 @@ module _ (form : ℕ) (plan : List ℕ) (k j s : ℕ) (owner : j ≡ job_at plan
         let x = rw (← owner, ← begins, ← ends) at w.few in
         omega arith
 
-module _ (form : ℕ) (plan : List ℕ) where
+module _ (form : ℕ) (plan : Sheet) where
   pub fields_more : (k : ℕ) → length (up_to (fields_at form plan) (k + 1)) ≡ length (up_to (fields_at form plan) k) + length (fields_at form plan k)
   fields_more k = rw (add-one, length-append (up_to (fields_at form plan) k) (fields_at form plan k))
 
@@ -138,7 +139,7 @@ module _ (form : ℕ) (plan : List ℕ) where
       let m = rw add-one at (fields_more k) in
       omega (arith, fields_many k, fields_few form (child_at plan k) (target_at plan k) (cost_at plan k))
 
-module _ {p : Plan} {jobs actions : ℕ} {plan : List ℕ} (g : RuledIn jobs actions plan p) where
+module _ {p : Plan} {plan : Sheet} (g : RuledIn plan p) where
   laid : Laid plan p
   laid = g.laid
 
@@ -149,7 +150,7 @@ module _ {p : Plan} {jobs actions : ℕ} {plan : List ℕ} (g : RuledIn jobs act
       rw (opening_first plan j (start p j + 0) (omega arith), laid_end plan p laid j h, a, d, laid.frames j h)
   opening_at j (suc i) h = opening_later plan j (start p j + suc i) (omega (arith, laid.firsts j (omega arith)))
 
-  pub place_writable : (k : ℕ) → k < actions → Writable plan k
+  pub place_writable : (k : ℕ) → k < plan.actions → Writable plan k
   place_writable k h =
       let l : k < total p = rw g.all at h in
       let s = placed_of p k l in
@@ -158,7 +159,7 @@ module _ {p : Plan} {jobs actions : ℕ} {plan : List ℕ} (g : RuledIn jobs act
       let a = laid.firsts j (omega (arith, s.known)) in
       let b = laid_end plan p laid j s.known in
       let z = size_range p g.rules j s.known in
-      let c = ruled_few jobs actions plan p g in
+      let c = ruled_few plan p g in
       let n = small_numbers p g.rules j (get_or (placed p) k no_placed).position s.known s.within in
       record {
         place = omega arith;
@@ -179,18 +180,19 @@ module _ {p : Plan} {jobs actions : ℕ} {plan : List ℕ} (g : RuledIn jobs act
     action_at_lem j i h b =
         rw (laid_owner plan p laid j h i b) (ap₂ (λ (x y : List ℕ). x ++ y) (opening_at j i h) (fields_at_lem j i h b))
 
-    pub plan_count : length (plan_bits form p) ≡ 17 + 24 * jobs + length (up_to (fields_at form plan) actions)
+    pub plan_count : length (plan_bits form p) ≡ 17 + 24 * plan.jobs + length (up_to (fields_at form plan) plan.actions)
     unfolding plan_bits
     plan_count =
         let c = jobs_count form (fields_at form plan) 0 p (λ j i h b. rw zero-add (fields_at_lem j i h b)) in
         rw (g.all, g.count) (omega (arith, rw (zero-add (total p)) at c))
 
     -- all bits of the plan
-    pub plan_up_to : plan_bits form p ≡ bits_of 8 form ++ (bits_of 9 jobs ++ up_to (action_bits form plan) actions)
+    pub plan_up_to : plan_bits form p ≡ bits_of 8 form ++ (bits_of 9 plan.jobs ++ up_to (action_bits form plan) plan.actions)
     unfolding plan_bits
     plan_up_to =
         let u = jobs_up_to form (action_bits form plan) 0 p (λ j h. (size_range p g.rules j h).0) (λ j i h b. rw zero-add (action_at_lem j i h b)) in
-        rw (g.all, g.count, rw zero-add at u)
+        let e : up_to (action_bits form plan) plan.actions ≡ jobs_bits form p = ap (up_to (action_bits form plan)) g.all ∙ (rw zero-add at u) in
+        rw (e, g.count)
 
-    pub plan_room : (n : ℕ) → (length (plan_bits form p) + 7) / 8 ≤ n → 17 + length (up_to (action_bits form plan) actions) ≤ 8 * n
+    pub plan_room : (n : ℕ) → (length (plan_bits form p) + 7) / 8 ≤ n → 17 + length (up_to (action_bits form plan) plan.actions) ≤ 8 * n
     plan_room n h = let e = ap (λ (l : List ℕ). length l) plan_up_to in omega arith

@@ -13,7 +13,7 @@ use Rattle.plan_writer.proofs.encode.Goals.{After-plan_bits}
 
 -- what the bytes take
 bits : (c : After-plan_bits) (p : Plan) → let a = c.args in
-    RuledIn a.jobs a.actions a.plan.now p → (c.plan_bits.result + 7) / 8 ≡ length (plan_bytes a.form p)
+    RuledIn a.plan.now p → (c.plan_bits.result + 7) / 8 ≡ length (plan_bytes a.form p)
 bits c p g = ap (λ n. (n + 7) / 8) (c.plan_bits.ensures.1 p g) ∙ sym (plan_bytes_length _ p)
 
 pub returns-then-bytes-plan_bits : goal.returns-then-bytes-plan_bits

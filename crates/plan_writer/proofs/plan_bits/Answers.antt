@@ -10,13 +10,13 @@ use Rattle.plan_writer.proofs.Laws.PlanBits.{fields_many, fields_more, plan_coun
 use Rattle.plan_writer.proofs.plan_bits.Goals as goal
 
 pub overflow_mul-bits : goal.overflow_mul-bits
-overflow_mul-bits c = omega (arith, ruled_few _ _ _ _ c.requires.1)
+overflow_mul-bits c = omega (arith, ruled_few _ _ c.requires.1)
 
 pub overflow_add-bits : goal.overflow_add-bits
-overflow_add-bits c = omega (arith, ruled_few _ _ _ _ c.requires.1)
+overflow_add-bits c = omega (arith, ruled_few _ _ c.requires.1)
 
 pub loop-k-init : goal.loop-k-init
-loop-k-init c = omega (arith, ruled_few _ _ _ _ c.requires.1)
+loop-k-init c = omega (arith, ruled_few _ _ c.requires.1)
 
 pub overflow_add-bits-in-loop-k : goal.overflow_add-bits-in-loop-k
 overflow_add-bits-in-loop-k c =
@@ -32,7 +32,7 @@ loop-k-preserved c =
 
 pub returns : goal.returns
 returns c =
-    let e : c.loop-k.k ≡ c.args.actions = omega arith in
+    let e : c.loop-k.k ≡ c.args.plan.now.actions = omega arith in
     let i = c.loop-k.invariant.2 in
     let a = c.args in
     (omega (arith, fields_many a.form a.plan.now c.loop-k.k), (λ p g. rw e at i ∙ sym (plan_count g a.form)))

@@ -8,4 +8,4 @@ use Rattle.plan_writer.proofs.plan_bits.Given as goal
 
 abbrev pub invariant-loop-k : goal.invariant-loop-k
 invariant-loop-k l =
-    (l.actions ≤ 2048) × (l.jobs ≤ 256) × (l.bits ≡ 17 + 24 * l.jobs + length (up_to (fields_at l.form l.plan) l.k))
+    (l.plan.actions ≤ 2048) × (l.plan.jobs ≤ 256) × (l.bits ≡ 17 + 24 * l.plan.jobs + length (up_to (fields_at l.form l.plan) l.k))
