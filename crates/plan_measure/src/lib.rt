@@ -10,7 +10,7 @@ ghost use Rattle.plan_measure.specs.Times.{at, PlanOf, ActionsOf, JobGiven, JobT
 
 use plan::reader::read_into;
 use plan::refusal::Refusal;
-use plan::sheet::{PLACES, Sheet, child_at, cost_at, first_of, frame_of, parent_of, target_at};
+use plan::sheet::Sheet;
 
 // The number of actions, T1, T∞, S1, and T1 divided by T∞: the quotient and what remains.
 #[derive(Clone, Copy, PartialEq, Eq, Debug)]
@@ -24,29 +24,29 @@ pub struct Measures {
 }
 
 // T1: the costs of the actions, added up.
-pub fn work(actions: usize, plan: &Sheet) -> u32
-    requires { Some (ActionsOf actions plan.now) }
-    ensures { ActionsOf actions plan.now ⇒ (λ p. result ≡ work_of p) }
+pub fn work(plan: &Sheet) -> u32
+    requires { Some (ActionsOf plan.now) }
+    ensures { ActionsOf plan.now ⇒ (λ p. result ≡ work_of p) }
 {
     let mut sum = 0;
-    for k in 0..actions {
-        sum += cost_at(plan, k) as u32;
+    for k in 0..plan.actions {
+        sum += plan.cost_at(k) as u32;
     }
     sum
 }
 
 // S1: each job's path weight is its frame and its parent's path weight.
-fn heaviest(jobs: usize, plan: &Sheet) -> u32
-    requires { Some (PlanOf jobs plan.now) }
-    ensures { PlanOf jobs plan.now ⇒ (λ p. result ≡ heaviest_of p) }
+fn heaviest(plan: &Sheet) -> u32
+    requires { Some (PlanOf plan.now) }
+    ensures { PlanOf plan.now ⇒ (λ p. result ≡ heaviest_of p) }
 {
-    let root = frame_of(plan, 0);
+    let root = plan.frame_of(0);
     let mut path = [0u32; 256];
     path[0] = root;
     let mut most = root;
-    for j in 1..jobs {
-        let q = parent_of(plan, j);
-        let weight = frame_of(plan, j) + path[q];
+    for j in 1..plan.jobs {
+        let q = plan.parent_of(j);
+        let weight = plan.frame_of(j) + path[q];
         path[j] = weight;
         most = most.max(weight);
     }
@@ -67,7 +67,7 @@ fn send_join(
     ensures { (length late.new ≡ 2048)
         × Sent k (suc k) base spawned (target_at plan.now) (at time.now) (at late.old) (at late.new) }
 {
-    let sent = target_at(plan, k);
+    let sent = plan.target_at(k);
     if sent == 0 {
         return;
     }
@@ -107,13 +107,13 @@ fn pass_child(
     ensures { (length late.new ≡ 2048)
         × Passed k base spawned plan.now (at time.now) (at late.old) (at late.new) }
 {
-    let child = child_at(plan, k);
+    let child = plan.child_at(k);
     if child == 0 {
         return;
     }
     send_joins(
-        first_of(plan, child - 1),
-        first_of(plan, child),
+        plan.first_of(child - 1),
+        plan.first_of(child),
         base,
         spawned,
         plan,
@@ -135,7 +135,7 @@ fn time_job(
 {
     let mut done = 0;
     for k in base..end {
-        done = done.max(late[k]) + cost_at(plan, k) as u16;
+        done = done.max(late[k]) + plan.cost_at(k) as u16;
         time[k] = done;
         pass_child(k, base, done, plan, time, late);
     }
@@ -144,17 +144,17 @@ fn time_job(
 
 // T∞, one pass from the highest job down: what an action of a job must follow lies, but for the job's spawn, in the job and
 // those below it. Times are at most T∞, which is at most 15 × 2,048: 16 bits halve the arrays.
-fn longest(jobs: usize, plan: &Sheet) -> u32
-    requires { Some (PlanOf jobs plan.now) }
-    ensures { PlanOf jobs plan.now ⇒ (λ p. result ≡ longest_of p) }
+fn longest(plan: &Sheet) -> u32
+    requires { Some (PlanOf plan.now) }
+    ensures { PlanOf plan.now ⇒ (λ p. result ≡ longest_of p) }
 {
     let mut time = [0u16; 2048];
     let mut late = [0u16; 2048];
     let mut most = 0;
-    for j in (0..jobs).rev() {
+    for j in (0..plan.jobs).rev() {
         most = time_job(
-            first_of(plan, j),
-            first_of(plan, j + 1),
+            plan.first_of(j),
+            plan.first_of(j + 1),
             plan,
             &mut time,
             &mut late,
@@ -163,18 +163,18 @@ fn longest(jobs: usize, plan: &Sheet) -> u32
     u32::from(most)
 }
 
-// The measures of the plan that the array holds. T∞ is at least 1.
-pub fn measure_read(jobs: usize, actions: usize, plan: &Sheet) -> Measures
-    requires { Some (PlanIn jobs actions plan.now) }
-    ensures { PlanIn jobs actions plan.now ⇒ (λ p. result ≡ measures_of p) }
+// The measures of the plan that the arrays hold. T∞ is at least 1.
+pub fn measure_read(plan: &Sheet) -> Measures
+    requires { Some (PlanIn plan.now) }
+    ensures { PlanIn plan.now ⇒ (λ p. result ≡ measures_of p) }
 {
-    let sum = work(actions, plan);
-    let most = longest(jobs, plan);
+    let sum = work(plan);
+    let most = longest(plan);
     Measures {
-        total: actions as u32,
+        total: plan.actions as u32,
         work: sum,
         longest: most,
-        path: heaviest(jobs, plan),
+        path: heaviest(plan),
         parallel: sum / most,
         rest: sum % most,
     }
@@ -185,8 +185,8 @@ pub fn measure(bytes: &[u8]) -> Result<Measures, Refusal>
     ensures result_value { told result ≡ measures bytes.now }
     ensures divided { Divided result }
 {
-    let mut plan = [0u16; PLACES];
+    let mut plan = Sheet::blank();
     let mut entering = [0u8; 2048];
-    let found = read_into(bytes, &mut plan, &mut entering)?;
-    Ok(measure_read(found.jobs, found.actions, &plan))
+    read_into(bytes, &mut plan, &mut entering)?;
+    Ok(measure_read(&plan))
 }

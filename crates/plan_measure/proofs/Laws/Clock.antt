@@ -7,6 +7,7 @@ use native.Mathlib.Omega.{arith}
 use native.Mathlib.Nat.{not-suc-le-zero}
 use native.Mathlib.Decide.{dec_lt}
 use lib.ListN.{length}
+use Rattle.plan.specs.declared.sheet.Sheet.{Sheet}
 use Rattle.plan.specs.Plan.{Plan, size, action, parent, spawn_at}
 use Rattle.plan_measure.specs.Measure.{longest}
 use Rattle.plan_measure.specs.Times.{at, PlanOf, ends, begins, JobOf, JobGiven, JobTimed, TimedFrom, SendGiven, Sent, PassGiven, Passed}
@@ -74,7 +75,7 @@ module _ (p : Plan) (ok : Accepted p) where
     tick_small : max done (late (start p j + i)) + (action p j i).cost ≤ 30720
     tick_small = omega (arith, tick, ends_small p ok j i known within)
 
-    module _ (plan : List ℕ) (laid : Laid plan p) (time' late' : ℕ → ℕ) (done' : ℕ)
+    module _ (plan : Sheet) (laid : Laid plan p) (time' late' : ℕ → ℕ) (done' : ℕ)
         (is : done' + begins p j ≡ ends p j i) (new : time' (start p j + i) ≡ done')
         (same : (k : ℕ) → (k ≡ start p j + i → ⊥) → time' k ≡ time k) where
       later' : (c a : ℕ) → j < c → c < length p → a < size p c → time' (start p c + a) + begins p c ≡ ends p c a
@@ -204,7 +205,7 @@ module _ (p : Plan) (ok : Accepted p) where
               absurd (omega arith))
 
 -- the same by the action's place k
-module _ (base end : ℕ) (plan time₀ late₀ : List ℕ) (of : JobOf) (g : JobGiven base end plan time₀ late₀ of) where
+module _ (base end : ℕ) (plan : Sheet) (time₀ late₀ : List ℕ) (of : JobOf) (g : JobGiven base end plan time₀ late₀ of) where
   abbrev MidwayAt : ℕ → ℕ → (time late : ℕ → ℕ) → Type 0
   MidwayAt k = Midway of.plan of.job (k - base)
 
@@ -255,7 +256,7 @@ module _ (base end : ℕ) (plan time₀ late₀ : List ℕ) (of : JobOf) (g : Jo
           (rw (here, ← g.start) r))
 
 -- job j - 1 is given where the jobs from j on are timed
-module _ (jobs : ℕ) (plan : List ℕ) (p : Plan) (g : PlanOf jobs plan p) (j from end : ℕ) (some : 0 < j) (known : j ≤ jobs)
+module _ (plan : Sheet) (p : Plan) (g : PlanOf plan p) (j from end : ℕ) (some : 0 < j) (known : j ≤ plan.jobs)
     (start : from ≡ first_of plan (j - 1)) (past : end ≡ first_of plan (j - 1 + 1)) where
   pub job_given : (time late : List ℕ) → length time ≡ 2048 → length late ≡ 2048 → TimedFrom p j (at time) (at late)
       → JobGiven from end plan time late (record { plan = p; job = j - 1 })

@@ -2,9 +2,9 @@
 use Prim.Native.Nat.{ℕ, suc, ◌+◌, ◌-◌, ◌≤◌, ◌<◌, max}
 use mathlib.Core.Path.{◌≡◌, ap, sym, ◌∙◌}
 use mathlib.Core.Logic.{◌⊎◌, inl, inr}
-use mathlib.Core.List.{List}
 use native.Mathlib.Omega.{arith}
 use native.Mathlib.Decide.{dec_le, ℕ_discrete}
+use Rattle.plan.specs.declared.sheet.Sheet.{Sheet}
 use Rattle.plan.specs.Sheet.{child_at, target_at, first_of}
 use Rattle.plan_measure.specs.Times.{SendGiven, Sent, PassGiven}
 
@@ -46,7 +46,7 @@ module _ (base spawned : ℕ) (target time : ℕ → ℕ) where
     sums = λ m l u. g.sums m (omega arith) (omega arith);
   }
 
-module _ (k base spawned : ℕ) (plan : List ℕ) (time : ℕ → ℕ) where
+module _ (k base spawned : ℕ) (plan : Sheet) (time : ℕ → ℕ) where
   module _ (child from end : ℕ) (is : child ≡ child_at plan k) (some : child ≡ 0 → ⊥) (start : from ≡ first_of plan (child - 1)) (past : end ≡ first_of plan child) where
     number : child ≡ suc (child - 1)
     number = omega arith

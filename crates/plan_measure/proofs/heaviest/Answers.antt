@@ -25,7 +25,7 @@ loop-j-init c =
 
 -- the parent of the job that the loop is at, which stands below it
 parent-here : (c : After-frame_of) (p : Plan)
-    → PlanOf c.args.jobs c.args.plan.now p
+    → PlanOf c.args.plan.now p
     → (c.parent_of-q.result ≡ parent p c.loop-j.j)
     × (parent p c.loop-j.j < c.loop-j.j)
 parent-here c p g =

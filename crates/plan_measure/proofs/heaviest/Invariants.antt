@@ -9,5 +9,5 @@ use Rattle.plan_measure.proofs.heaviest.Given as goal
 
 abbrev pub invariant-loop-j : goal.invariant-loop-j
 invariant-loop-j l =
-    (l.jobs ≤ 256) × (length l.path ≡ 256)
-    × ((p : Plan) → PlanOf l.jobs l.plan p → Weighed p l.j l.most (at l.path))
+    (l.plan.jobs ≤ 256) × (length l.path ≡ 256)
+    × ((p : Plan) → PlanOf l.plan p → Weighed p l.j l.most (at l.path))

@@ -26,19 +26,19 @@ time_job-most-requires c =
     let (p, g) = c.requires in
     let i = c.loop-j.invariant in (
       record { plan = p; job = c.loop-j.j - 1 },
-      job_given _ _ p g _ _ _ (omega arith) (omega arith) c.first_of.ensures.0 c.first_of-in-loop-j.ensures.0
+      job_given _ p g _ _ _ (omega arith) (omega arith) c.first_of.ensures.0 c.first_of-in-loop-j.ensures.0
           _ _ i.1 i.2 (i.3 p g).0,
     )
 
 -- the job that was timed
 timed : (c : After-time_job-most) (p : Plan)
-    → PlanOf c.args.jobs c.args.plan.now p
+    → PlanOf c.args.plan.now p
     → JobTimed c.time_job-most.result c.time_job-most.new.time c.time_job-most.new.late
     (record { plan = p; job = c.loop-j.j - 1 })
 timed c p g =
     let i = c.loop-j.invariant in
     c.time_job-most.ensures _
-    (job_given _ _ p g _ _ _ (omega arith) (omega arith) c.first_of.ensures.0 c.first_of-in-loop-j.ensures.0
+    (job_given _ p g _ _ _ (omega arith) (omega arith) c.first_of.ensures.0 c.first_of-in-loop-j.ensures.0
     _ _ i.1 i.2 (i.3 p g).0)
 
 pub loop-j-preserved : goal.loop-j-preserved

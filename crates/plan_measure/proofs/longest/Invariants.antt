@@ -8,6 +8,6 @@ use Rattle.plan_measure.proofs.longest.Given as goal
 
 abbrev pub invariant-loop-j : goal.invariant-loop-j
 invariant-loop-j l =
-    (l.jobs ≤ 256) × (length l.time ≡ 2048) × (length l.late ≡ 2048)
-    × ((p : Plan) → PlanOf l.jobs l.plan p
+    (l.plan.jobs ≤ 256) × (length l.time ≡ 2048) × (length l.late ≡ 2048)
+    × ((p : Plan) → PlanOf l.plan p
     → TimedFrom p l.j (at l.time) (at l.late) × (l.j ≡ 0 → l.most + begins p 0 ≡ ends p 0 (size p 0 - 1)))

@@ -9,4 +9,4 @@ use Rattle.plan_measure.proofs.work.Given as goal
 
 abbrev pub invariant-loop-k : goal.invariant-loop-k
 invariant-loop-k l =
-    (l.actions ≤ 2048) × ((p : Plan) → ActionsOf l.actions l.plan p → l.sum ≡ costs (take l.k (placed p)))
+    (l.plan.actions ≤ 2048) × ((p : Plan) → ActionsOf l.plan p → l.sum ≡ costs (take l.k (placed p)))
