@@ -10,13 +10,13 @@ ghost use Rattle.plan_forms.specs.Forms.{to_form2, to_form1, Converted};
 ghost use Rattle.plan_forms.specs.Given.{ReadAs};
 
 use fields::field::{Field, cut};
-use plan::reader::{Found, read_into};
+use plan::reader::read_into;
 use plan::refusal::Refusal;
-use plan::sheet::{PLACES, Sheet, cost_at};
+use plan::sheet::Sheet;
 use plan_writer::encode;
 
-// Reads the plan that the bytes hold into its array, where they are of the form that is expected.
-fn read_as(form: u32, s: &[u8], plan: &mut Sheet) -> Result<Found, Refusal>
+// Reads the plan that the bytes hold into its arrays, where they are of the form that is expected.
+fn read_as(form: u32, s: &[u8], plan: &mut Sheet) -> Result<(), Refusal>
     requires { Blank plan.old }
     ensures { ReadAs form s.now result plan.new }
 {
@@ -31,12 +31,12 @@ fn read_as(form: u32, s: &[u8], plan: &mut Sheet) -> Result<Found, Refusal>
 }
 
 // Whether every action costs 1.
-fn costs_one(jobs: usize, actions: usize, plan: &Sheet) -> bool
-    requires { Some (PlanIn jobs actions plan.now) }
-    ensures { PlanIn jobs actions plan.now ⇒ (λ p. result ≡ costs_fit 1 p) }
+fn costs_one(plan: &Sheet) -> bool
+    requires { Some (PlanIn plan.now) }
+    ensures { PlanIn plan.now ⇒ (λ p. result ≡ costs_fit 1 p) }
 {
-    for k in 0..actions {
-        if cost_at(plan, k) != 1 {
+    for k in 0..plan.actions {
+        if plan.cost_at(k) != 1 {
             return false;
         }
     }
@@ -48,9 +48,9 @@ pub fn to_form_2(plan: &[u8], bytes: &mut [u8]) -> Result<usize, Refusal>
     ensures bytes_after { record { answer = answer_of result; buffer = bytes.new } ≡ to_form2 plan.now bytes.old }
     ensures converted { Converted 1 2 plan.now result bytes.new }
 {
-    let mut sheet = [0u16; PLACES];
-    let found = read_as(1, plan, &mut sheet)?;
-    encode(2, found.jobs, found.actions, &sheet, bytes)
+    let mut sheet = Sheet::blank();
+    read_as(1, plan, &mut sheet)?;
+    encode(2, &sheet, bytes)
 }
 
 // Writes, in form 1, the plan that bytes of form 2 hold, where all its costs are 1, and tells the number of bytes.
@@ -58,10 +58,10 @@ pub fn to_form_1(plan: &[u8], bytes: &mut [u8]) -> Result<usize, Refusal>
     ensures bytes_after { record { answer = answer_of result; buffer = bytes.new } ≡ to_form1 plan.now bytes.old }
     ensures converted { Converted 2 1 plan.now result bytes.new }
 {
-    let mut sheet = [0u16; PLACES];
-    let found = read_as(2, plan, &mut sheet)?;
-    if !costs_one(found.jobs, found.actions, &sheet) {
+    let mut sheet = Sheet::blank();
+    read_as(2, plan, &mut sheet)?;
+    if !costs_one(&sheet) {
         return Err(Refusal::Cost);
     }
-    encode(1, found.jobs, found.actions, &sheet, bytes)
+    encode(1, &sheet, bytes)
 }

@@ -1,6 +1,6 @@
 -- What private functions that take rows over and write rows are given and answer. No public entry cites these.
---   RowsGiven actions plan p == the array has the jobs and actions of the plan p, so many actions in all
---   row_on plan k       == the row of the action at place k, by the array
+--   RowsGiven plan p    == the arrays have the jobs and actions of the plan p, and their number of actions is its
+--   row_on plan k       == the row of the action at place k, by the arrays
 --   with_row t at a     == the table t with the five numbers of the row a at `at`
 --   row_at t at         == the row whose five numbers stand at `at` of the table t
 --   fits_at t at        == that row has small numbers and may stand where it stands: first, or below the row before it
@@ -9,24 +9,25 @@
 --   RowFits form p a k == the row a, at place k of the plan p, has its numbers and its place in its job in range
 --   begun t k          == how many jobs the first k rows of the table t begin
 --   ranged form p      == no number of the plan p is out of range, the costs not for a plan of that form either
---   RowsTaken form t k plan == the table t is kept and not too long, those rows fit, and the array has of their plan what they tell
+--   RowsTaken form t k plan == the table t is kept and not too long, those rows fit, and the arrays have of their plan what they tell
 --   RowTaken form t k r plan == what taking over row k, behind those, answers: so it is with row k, or a number is out of range
---   Taken form rows r plan == what taking all rows over answers: the array has their plan, or a number is out of range
---   LaidAs form jobs actions plan p == the array has the plan p, of so many jobs and actions, whose costs fit that form, a byte
+--   Taken form rows r plan == what taking all rows over answers: the arrays have their plan, of that form, or a number is out of range
+--   LaidAs plan p       == the arrays have the plan p, whose costs fit the form that they tell, a byte
 use Rattle.std.specs.Prelude.{ℕ, zero, suc, ◌+◌, ◌-◌, ◌*◌, ◌/◌, ◌%◌, ◌≤◌, ◌<◌, ◌≡◌, Bool, true, false, List, length, get_or, take, set, T, eqb, leb, Result, Ok, Err}
+use Rattle.plan.specs.declared.sheet.Sheet.{Sheet}
 use Rattle.plan.specs.declared.refusal.Refusal.{Refusal}
 use Rattle.plan.specs.declared.refusal.Refusal.TheVariants.{Range}
 use Rattle.plan.specs.Plan.{Plan, job, total}
 use Rattle.plan.specs.Rules.{in_range, costs_fit}
 use Rattle.plan.specs.Test.{both}
-use Rattle.plan.specs.Sheet.{child_at, target_at, frame_of, first_of, spawn_of, job_at, cost_at, Laid, LaidIn}
+use Rattle.plan.specs.Sheet.{child_at, target_at, frame_of, first_of, spawn_of, job_at, cost_at, Sized, Laid, LaidIn}
 use Rattle.plan_table.specs.Table.{Row, rows_of, small, goes_on, row_rules, plan_of}
 
-pub record RowsGiven (actions : ℕ) (plan : List ℕ) (p : Plan) : Type 0 where
-  pub all : actions ≡ total p
+pub record RowsGiven (plan : Sheet) (p : Plan) : Type 0 where
+  pub all : plan.actions ≡ total p
   pub laid : Laid plan p
 
-abbrev pub row_on : List ℕ → ℕ → Row
+abbrev pub row_on : Sheet → ℕ → Row
 row_on plan k =
     record { job = job_at plan k; frame = frame_of plan (job_at plan k); spawn = child_at plan k; join = target_at plan k; cost = cost_at plan k }
 
@@ -62,10 +63,10 @@ begun t (suc k) = suc (row_at t (5 * k)).job
 abbrev pub ranged : ℕ → Plan → Bool
 ranged form p = both (in_range p) (costs_fit form p)
 
-pub record RowsTaken (form : ℕ) (t : List ℕ) (k : ℕ) (plan : List ℕ) : Type 0 where
+pub record RowsTaken (form : ℕ) (t : List ℕ) (k : ℕ) (plan : Sheet) : Type 0 where
   pub kept : TableKept t
   pub few : length t / 5 ≤ 2048
-  pub long : length plan ≡ 9217
+  pub sized : Sized plan
   pub fit : (i : ℕ) → i < k → RowFits form (plan_of (rows_of t)) (row_at t (5 * i)) i
   pub frames : (j : ℕ) → j < begun t k → frame_of plan j ≡ (job (plan_of (rows_of t)) j).frame
   pub firsts : (j : ℕ) → j < begun t k → first_of plan j ≡ total (take j (plan_of (rows_of t)))
@@ -76,15 +77,15 @@ pub record RowsTaken (form : ℕ) (t : List ℕ) (k : ℕ) (plan : List ℕ) : T
   pub costs : (i : ℕ) → i < k → cost_at plan i ≡ (row_at t (5 * i)).cost
   pub unspawned : (c : ℕ) → c < 256 → spawn_of plan c ≡ 0
 
-abbrev pub RowTaken : ℕ → List ℕ → ℕ → Result Unit Refusal → List ℕ → Type 0
+abbrev pub RowTaken : ℕ → List ℕ → ℕ → Result Unit Refusal → Sheet → Type 0
 RowTaken form t k (Ok done) plan = RowsTaken form t (suc k) plan
 RowTaken form t k (Err cause) plan = (cause ≡ Range) × (ranged form (plan_of (rows_of t)) ≡ false)
 
-abbrev pub Taken : ℕ → List Row → Result ℕ Refusal → List ℕ → Type 0
+abbrev pub Taken : ℕ → List Row → Result Unit Refusal → Sheet → Type 0
 Taken form rows (Err cause) plan = (cause ≡ Range) × (ranged form (plan_of rows) ≡ false)
-Taken form rows (Ok n) plan = LaidIn n (length rows) plan (plan_of rows) × T (costs_fit form (plan_of rows))
+Taken form rows (Ok done) plan = LaidIn plan (plan_of rows) × T (costs_fit form (plan_of rows)) × (plan.form ≡ form)
 
-pub record LaidAs (form jobs actions : ℕ) (plan : List ℕ) (p : Plan) : Type 0 where
-  pub held : LaidIn jobs actions plan p
-  pub costs : T (costs_fit form p)
-  pub byte : form < 256
+pub record LaidAs (plan : Sheet) (p : Plan) : Type 0 where
+  pub held : LaidIn plan p
+  pub costs : T (costs_fit plan.form p)
+  pub byte : plan.form < 256

@@ -13,44 +13,38 @@ use crate::rows::{table_rules, take_rows, write_rows};
 use plan::reader::{is_form, read_into};
 use plan::refusal::Refusal;
 use plan::rules::{join_rules, spawn_rules};
-use plan::sheet::{PLACES, Sheet};
+use plan::sheet::Sheet;
 use plan_writer::encode;
 
 // Writes the open table of the plan that the bytes hold, and tells the number of rows.
 pub fn plan_to_table(bytes: &[u8], rows: &mut [u16]) -> Result<usize, Refusal>
     ensures { record { answer = answer_of result; buffer = rows.new } ≡ to_table bytes.now rows.old }
 {
-    let mut plan = [0u16; PLACES];
+    let mut plan = Sheet::blank();
     let mut entering = [0u8; 2048];
-    let actions = read_into(bytes, &mut plan, &mut entering)?.actions;
-    if rows.len() < 5 * actions {
+    read_into(bytes, &mut plan, &mut entering)?;
+    if rows.len() < 5 * plan.actions {
         return Err(Refusal::Short);
     }
-    write_rows(actions, &plan, rows);
-    Ok(actions)
+    write_rows(&plan, rows);
+    Ok(plan.actions)
 }
 
-// Writes the bytes, in a form, of the plan whose jobs and actions the array has, where it keeps its rules and there is room, and
+// Writes the bytes, in its form, of the plan whose jobs and actions the arrays have, where it keeps its rules and there is room, and
 // tells their number.
-fn close(
-    form: u32,
-    jobs: usize,
-    rows: usize,
-    plan: &mut Sheet,
-    bytes: &mut [u8],
-) -> Result<usize, Refusal>
-    requires { Some (LaidAs form jobs rows plan.old) }
-    ensures { LaidAs form jobs rows plan.old
-        ⇒ (λ p. record { answer = answer_of result; buffer = bytes.new } ≡ encoded form (ruled form p) bytes.old) }
+fn close(plan: &mut Sheet, bytes: &mut [u8]) -> Result<usize, Refusal>
+    requires { Some (LaidAs plan.old) }
+    ensures { LaidAs plan.old
+        ⇒ (λ p. record { answer = answer_of result; buffer = bytes.new } ≡ encoded plan.old.form (ruled plan.old.form p) bytes.old) }
 {
     let mut entering = [0u8; 2048];
-    if !spawn_rules(jobs, rows, plan) {
+    if !spawn_rules(plan) {
         return Err(Refusal::Spawn);
     }
-    if !join_rules(jobs, rows, plan, &mut entering) {
+    if !join_rules(plan, &mut entering) {
         return Err(Refusal::Join);
     }
-    encode(form, jobs, rows, plan, bytes)
+    encode(plan.form, plan, bytes)
 }
 
 // Writes the bytes, in the form told, of the plan that an open table holds, and tells the number of bytes.
@@ -67,7 +61,7 @@ pub fn table_to_plan(form: u32, table: &[u16], bytes: &mut [u8]) -> Result<usize
     if 2048 < rows {
         return Err(Refusal::Range);
     }
-    let mut plan = [0u16; PLACES];
-    let jobs = take_rows(form, table, &mut plan)?;
-    close(form, jobs, rows, &mut plan, bytes)
+    let mut plan = Sheet::blank();
+    take_rows(form, table, &mut plan)?;
+    close(&mut plan, bytes)
 }

@@ -7,10 +7,7 @@ ghost use Rattle.plan_table.specs.Table.{table_of, row_rules, rows_of};
 ghost use Rattle.plan_table.specs.GivenRows.{RowsGiven, row_on, with_row, fits_at, TableKept, cost_stands, RowsTaken, RowTaken, Taken};
 
 use plan::refusal::Refusal;
-use plan::sheet::{
-    Sheet, child_at, cost_at, first_of, frame_of, job_at, set_action, set_first, set_frame,
-    target_at,
-};
+use plan::sheet::Sheet;
 
 // Writes the row of the action at place k.
 fn write_row(k: usize, plan: &Sheet, rows: &mut [u16])
@@ -18,20 +15,20 @@ fn write_row(k: usize, plan: &Sheet, rows: &mut [u16])
     ensures { rows.new ≡ with_row rows.old (5 * k) (row_on plan.now k) }
 {
     let at = 5 * k;
-    let j = job_at(plan, k);
+    let j = plan.job_at(k);
     rows[at] = j as u16;
-    rows[at + 1] = frame_of(plan, j) as u16;
-    rows[at + 2] = child_at(plan, k) as u16;
-    rows[at + 3] = target_at(plan, k) as u16;
-    rows[at + 4] = cost_at(plan, k) as u16;
+    rows[at + 1] = plan.frame_of(j) as u16;
+    rows[at + 2] = plan.child_at(k) as u16;
+    rows[at + 3] = plan.target_at(k) as u16;
+    rows[at + 4] = plan.cost_at(k) as u16;
 }
 
 // Writes the rows of the actions, in plan order.
-pub fn write_rows(actions: usize, plan: &Sheet, rows: &mut [u16])
-    requires { Some (RowsGiven actions plan.now) × (5 * actions ≤ length rows.old) }
-    ensures { RowsGiven actions plan.now ⇒ (λ p. rows.new ≡ table_of p ++ drop (5 * actions) rows.old) }
+pub fn write_rows(plan: &Sheet, rows: &mut [u16])
+    requires { Some (RowsGiven plan.now) × (5 * plan.now.actions ≤ length rows.old) }
+    ensures { RowsGiven plan.now ⇒ (λ p. rows.new ≡ table_of p ++ drop (5 * plan.now.actions) rows.old) }
 {
-    for k in 0..actions {
+    for k in 0..plan.actions {
         write_row(k, plan, rows);
     }
 }
@@ -91,7 +88,7 @@ fn cost_stands(form: u32, cost: u16) -> bool
     1 <= cost && cost <= 15
 }
 
-// Takes row k over into the array, if its numbers and its place in its job are in range. Behind the last job begun the array has
+// Takes row k over into the arrays, if its numbers and its place in its job are in range. Behind the last job begun the arrays have
 // the end of the rows taken, so a row that begins a job finds its own place there.
 fn take_row(form: u32, table: &[u16], k: usize, plan: &mut Sheet) -> Result<(), Refusal>
     requires { (k < length table.now / 5) × RowsTaken form table.now k plan.old }
@@ -110,17 +107,17 @@ fn take_row(form: u32, table: &[u16], k: usize, plan: &mut Sheet) -> Result<(), 
     if 256 <= number {
         return Err(Refusal::Range);
     }
-    if 255 <= k - first_of(plan, number) {
+    if 255 <= k - plan.first_of(number) {
         return Err(Refusal::Range);
     }
-    set_frame(plan, number, weight);
-    set_first(plan, number + 1, k + 1);
-    set_action(plan, k, number, table[at + 2], table[at + 3], cost);
+    plan.set_frame(number, weight);
+    plan.set_first(number + 1, k + 1);
+    plan.set_action(k, number, table[at + 2], table[at + 3], cost);
     Ok(())
 }
 
-// Takes the rows over into the array, and tells how many jobs they have.
-pub fn take_rows(form: u32, table: &[u16], plan: &mut Sheet) -> Result<usize, Refusal>
+// Takes the rows over into the arrays, as a plan of that form.
+pub fn take_rows(form: u32, table: &[u16], plan: &mut Sheet) -> Result<(), Refusal>
     requires { TableKept table.now × (length table.now / 5 ≤ 2048) × Blank plan.old }
     ensures { Taken form (rows_of table.now) result plan.new }
 {
@@ -128,5 +125,6 @@ pub fn take_rows(form: u32, table: &[u16], plan: &mut Sheet) -> Result<usize, Re
     for k in 0..rows {
         take_row(form, table, k, plan)?;
     }
-    Ok(usize::from(table[5 * rows - 5]) + 1)
+    plan.set_counts(form, usize::from(table[5 * rows - 5]) + 1, rows);
+    Ok(())
 }

@@ -69,7 +69,7 @@ actions_beside plan k j (x ∷ l) =
     let b = actions_beside (with_action plan k j x.spawn x.join x.cost) (suc k) j l in
     record { frames = b.frames; firsts = b.firsts; spawns = b.spawns }
 
-action_sized : (plan : Sheet) (k j child target cost : ℕ) → Sized plan → Sized (with_action plan k j child target cost)
+pub action_sized : (plan : Sheet) (k j child target cost : ℕ) → Sized plan → Sized (with_action plan k j child target cost)
 action_sized plan k j child target cost s =
     record {
       children = length-set plan.children k child ∙ s.children;
@@ -146,18 +146,21 @@ record Begun (plan : Sheet) (p : Plan) : Type 0 where
   costs : (k : ℕ) → k < total p → cost_at plan k ≡ (get_or (placed p) k no_placed).cost
   unspawned : (c : ℕ) → c < 256 → spawn_of plan c ≡ 0
 
+pub blank_sized : (plan : Sheet) → Blank plan → Sized plan
+blank_sized plan e = rw e (record {
+  children = length-replicate {A = ℕ} 2048 0;
+  targets = length-replicate {A = ℕ} 2048 0;
+  owners = length-replicate {A = ℕ} 2048 0;
+  costs = length-replicate {A = ℕ} 2048 0;
+  frames = length-replicate {A = ℕ} 256 0;
+  firsts = length-replicate {A = ℕ} 257 0;
+  parents = length-replicate {A = ℕ} 256 0;
+  spawns = length-replicate {A = ℕ} 256 0;
+})
+
 begun_none : (plan : Sheet) → Blank plan → Begun plan []
 begun_none plan e = rw e (record {
-  sized = record {
-    children = length-replicate {A = ℕ} 2048 0;
-    targets = length-replicate {A = ℕ} 2048 0;
-    owners = length-replicate {A = ℕ} 2048 0;
-    costs = length-replicate {A = ℕ} 2048 0;
-    frames = length-replicate {A = ℕ} 256 0;
-    firsts = length-replicate {A = ℕ} 257 0;
-    parents = length-replicate {A = ℕ} 256 0;
-    spawns = length-replicate {A = ℕ} 256 0;
-  };
+  sized = blank_sized blank refl;
   frames = λ j h. absurd (not-suc-le-zero h);
   firsts = λ j h. get_or-replicate 257 j 0 0 (omega arith) ∙ first j h;
   owners = λ k h. absurd (not-suc-le-zero h);

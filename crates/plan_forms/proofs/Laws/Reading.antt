@@ -2,7 +2,7 @@
 --   as_stopped, as_other, as_read == by what the first field is: 1, 2, or what reading tells
 --   as_accepted, as_known         == so a plan is read exactly where the bytes hold one of that form
 --   as_answers                    == what the function that reads answers
-use Rattle.std.specs.Prelude.{Result, Ok, Err}
+use Rattle.std.specs.Prelude.{⊤, Result, Ok, Err}
 use Prim.Native.Nat.{ℕ}
 use native.Mathlib.Decide.{ℕ_discrete}
 use mathlib.Core.Path.{◌≡◌, refl, sym, ap, ◌∙◌}
@@ -10,7 +10,7 @@ use mathlib.Core.Bool.{true, false}
 use mathlib.Core.List.{List}
 use borrow.Author.Tests.{eq-eqb, ne_eqb}
 use Rattle.fields.specs.Field.{Step, stop, step, field_at}
-use Rattle.plan.specs.declared.reader.Found.{Found}
+use Rattle.plan.specs.declared.sheet.Sheet.{Sheet}
 use Rattle.plan.specs.declared.refusal.Refusal.{Refusal}
 use Rattle.plan.specs.Refusal.{Outcome, refused, accepted}
 use Rattle.plan.specs.Plan.{Plan}
@@ -42,10 +42,10 @@ module _ (form : ℕ) (s : List ℕ) where
     first_form : (x : Read) → read_plan s ≡ accepted x → x.form ≡ first
     first_form x r = let (m, f) = accepted_first s x r in step_same x.form first m at (sym f ∙ e)
 
-    pub as_answers : first ≡ form → (r : Result Found Refusal) (plan entering : List ℕ) → ReadInto s r plan entering → ReadAs form s r plan
+    pub as_answers : first ≡ form → (r : Result ⊤ Refusal) (plan : Sheet) (entering : List ℕ) → ReadInto s r plan entering → ReadAs form s r plan
     as_answers f (Err cause) plan entering h = as_read f ∙ ap plan_read h
-    as_answers f (Ok found) plan entering h =
-        let o : found.form ≡ form = first_form (record { form = found.form; plan = h.is }) h.read ∙ f in
+    as_answers f (Ok _) plan entering h =
+        let o : plan.form ≡ form = first_form (record { form = plan.form; plan = h.is }) h.read ∙ f in
         record { is = h.is; told = as_read f ∙ ap plan_read h.read; read = rw o at h.read; held = h.held }
 
     -- a plan that is read is read of bytes of that form

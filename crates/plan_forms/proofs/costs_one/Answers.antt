@@ -10,7 +10,7 @@ use Rattle.plan_writer.proofs.Laws.Costs.{costs_place, costs_by}
 use Rattle.plan_forms.proofs.costs_one.Goals as goal
 
 pub cost_at-requires : goal.cost_at-requires
-cost_at-requires c = omega (arith, counts_few _ _ _ _ c.requires.1)
+cost_at-requires c = omega (arith, counts_few _ _ c.requires.1)
 
 pub returns-then-cost_at-ne1 : goal.returns-then-cost_at-ne1
 returns-then-cost_at-ne1 c p g =

@@ -6,6 +6,7 @@ use mathlib.Core.Bool.{true, false}
 use mathlib.Core.List.{List, ◌++◌}
 use lib.ListN.{length, drop}
 use lib.Dec.{T, eqb}
+use Rattle.plan.specs.declared.sheet.Sheet.{Sheet}
 use Rattle.plan.specs.Refusal.{refused, accepted}
 use Rattle.plan.specs.Plan.{Plan, total}
 use Rattle.plan.specs.Reader.{is_form, read_plan}
@@ -83,6 +84,6 @@ module _ (form : ℕ) (t buffer : List ℕ) where
 
 -- what the writer of rows is given
 
-module _ {jobs actions : ℕ} {plan : List ℕ} {p : Plan} (g : PlanIn jobs actions plan p) where
-  pub rows_given : RowsGiven actions plan p
+module _ {plan : Sheet} {p : Plan} (g : PlanIn plan p) where
+  pub rows_given : RowsGiven plan p
   rows_given = record { all = g.all; laid = g.planned.laid }

@@ -10,6 +10,7 @@ use lib.ListN.{length, get_or, take, drop, set, length-append, get_or-append}
 use lib.Seq.{drop-cons, get_or-append-add, set_at, take-suc, length-take-le}
 use lib.Dec.{T, eqb, eqb→eq}
 use borrow.Author.Tests.{eqb-true, eqb-false}
+use Rattle.plan.specs.declared.sheet.Sheet.{Sheet}
 use Rattle.plan.specs.Test.{both, either, all}
 use Rattle.plan.specs.Plan.{Action, Job, Plan, Placed, job, size, action, total, placed, no_action, no_placed}
 use Rattle.plan_table.specs.Table.{
@@ -163,9 +164,9 @@ table_at p k h =
     sym (rows_of_at (table_of p) k (omega (arith, table_length p))) ∙ ap (λ l. get_or l k no_row) (table_rows p) ∙ row_placed_lem p k h
 
 -- the k-th row of a plan's table, from the array that holds the plan
-pub row_given : (p : Plan) (n : ℕ) (plan : List ℕ) → RowsGiven n plan p → (k : ℕ) → k < n
+pub row_given : (p : Plan) (plan : Sheet) → RowsGiven plan p → (k : ℕ) → k < plan.actions
     → (job_at plan k < 256) × (row_at (table_of p) (5 * k) ≡ row_on plan k)
-row_given p n plan g k h =
+row_given p plan g k h =
     let l : k < total p = omega (arith, g.all) in
     let j = g.laid.owners k l in
     let s = placed_of p k l in (

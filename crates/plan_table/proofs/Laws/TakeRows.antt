@@ -1,7 +1,7 @@
--- Taking the rows of a table over into the array, row by row.
---   taken plan k a == the array with the row a taken over at place k
---   row_begins     == the array has the place where the job of the next row begins
---   rows_none, rows_more, rows_all == what the array has before the first row, with one row more, and after the last
+-- Taking the rows of a table over into the arrays, row by row.
+--   taken plan k a == the arrays with the row a taken over at place k
+--   row_begins     == the arrays have the place where the job of the next row begins
+--   rows_none, rows_more, rows_all == what the arrays have before the first row, with one row more, and after the last
 use Prim.Native.Nat.{ℕ, zero, suc, ◌+◌, ◌-◌, ◌*◌, ◌/◌, ◌≤◌, ◌<◌}
 use mathlib.Core.Path.{◌≡◌, ap, sym, ◌∙◌}
 use mathlib.Core.Logic.{◌≢◌}
@@ -14,25 +14,18 @@ use lib.ListN.{length, get_or, length-set}
 use lib.Seq.{get_or-set_same, get_or-set_other}
 use lib.Dec.{T}
 use borrow.Author.Count.{below_more}
+use Rattle.plan.specs.declared.sheet.Sheet.{Sheet}
 use Rattle.plan.specs.Plan.{total, placed, no_placed}
 use Rattle.plan.specs.Rules.{in_range, costs_fit}
-use Rattle.plan.specs.Sheet.{child_at, target_at, frame_of, first_of, job_at, cost_at, with_action, with_frame, with_first, Blank, LaidIn}
+use Rattle.plan.specs.Sheet.{child_at, target_at, frame_of, first_of, job_at, cost_at, with_action, with_frame, with_first, with_counts, Blank, Sized, LaidIn}
 use Rattle.plan_table.specs.Table.{Row, rows_of, plan_of}
 use Rattle.plan_table.specs.GivenRows.{row_at, TableKept, RowFits, begun, RowsTaken}
 use Rattle.plan.proofs.Laws.Lists.{zeros_at}
 use Rattle.plan.proofs.Laws.Placed.{start, start_suc, start_all, start_rises}
-use Rattle.plan.proofs.Laws.Sheets.{action_kept, action_there}
+use Rattle.plan.proofs.Laws.Sheets.{At, action_sized, action_kept, action_there, blank_sized}
 use Rattle.plan.proofs.Laws.Spawning.{jobs_in_range}
 use Rattle.plan_table.proofs.Laws.Rows.{row_placed, filled_at}
-use Rattle.plan_table.proofs.Laws.RowsInRange.{
-  rows_length_lem,
-  table_filled,
-  table_total,
-  table_placed,
-  table_sits,
-  table_fits,
-  table_costs,
-}
+use Rattle.plan_table.proofs.Laws.RowsInRange.{table_filled, table_total, table_placed, table_sits, table_fits, table_costs}
 
 -- the jobs that the first rows begin
 
@@ -77,62 +70,67 @@ pub begun_last : (t : List ℕ) (k : ℕ) → 1 ≤ k → begun t k ≡ get_or t
 begun_last t zero h = absurd (not-suc-le-zero h)
 begun_last t (suc k) h = let e : 5 * suc k - 5 ≡ 5 * k = omega arith in rw (e, add-one)
 
--- the array with one row more: its job's frame, the place behind it, and its action
+-- the arrays with one row more: its job's frame, the place behind it, and its action
 
-module _ (plan : List ℕ) (k : ℕ) (a : Row) where
-  abbrev framed : List ℕ
+module _ (plan : Sheet) (k : ℕ) (a : Row) where
+  abbrev framed : Sheet
   framed = with_frame plan a.job a.frame
 
-  abbrev ended : List ℕ
+  abbrev ended : Sheet
   ended = with_first framed (a.job + 1) (k + 1)
 
-  abbrev taken : List ℕ
+  abbrev taken : Sheet
   taken = with_action ended k a.job a.spawn a.join a.cost
 
-  -- a place that none of them is written to
-  elsewhere : (i : ℕ) → (i ≢ k) × (i ≢ 2048 + k) × (i ≢ 4096 + a.job) × (i ≢ 4352 + (a.job + 1)) × (i ≢ 5121 + k) × (i ≢ 7169 + k)
-      → get_or taken i 0 ≡ get_or plan i 0
-  elsewhere i n =
-      action_kept ended k a.job a.spawn a.join a.cost i n.0 n.1 n.4 n.5
-      ∙ get_or-set_other framed (4352 + (a.job + 1)) i (k + 1) 0 n.3 ∙ get_or-set_other plan (4096 + a.job) i a.frame 0 n.2
+  -- the actions' arrays at another place
+  row_beside : (i : ℕ) → i ≢ k → At taken i (child_at plan i) (target_at plan i) (job_at plan i) (cost_at plan i)
+  row_beside i n = action_kept ended k a.job a.spawn a.join a.cost i n
 
-  module _ (long : length plan ≡ 9217) (few : k < 2048) (small : a.job < 256) where
+  module _ (s : Sized plan) (few : k < 2048) (small : a.job < 256) where
+    ended_sized : Sized ended
+    ended_sized =
+        record {
+          children = s.children;
+          targets = s.targets;
+          owners = s.owners;
+          costs = s.costs;
+          frames = length-set plan.frames a.job a.frame ∙ s.frames;
+          firsts = length-set plan.firsts (a.job + 1) (k + 1) ∙ s.firsts;
+          parents = s.parents;
+          spawns = s.spawns;
+        }
+
     frame_there : frame_of taken a.job ≡ a.frame
-    frame_there =
-        action_kept ended k a.job a.spawn a.join a.cost (4096 + a.job) (omega arith) (omega arith) (omega arith) (omega arith)
-        ∙ get_or-set_other framed (4352 + (a.job + 1)) (4096 + a.job) (k + 1) 0 (omega arith)
-        ∙ get_or-set_same plan (4096 + a.job) a.frame 0 (omega arith)
+    frame_there = get_or-set_same plan.frames a.job a.frame 0 (omega (arith, s.frames))
 
     first_there : first_of taken (suc a.job) ≡ suc k
     first_there =
-        rw (← add-one a.job, ← add-one k)
-        (action_kept ended k a.job a.spawn a.join a.cost (4352 + (a.job + 1)) (omega arith) (omega arith) (omega arith) (omega arith)
-        ∙ get_or-set_same framed (4352 + (a.job + 1)) (k + 1) 0 (rw length-set (omega arith)))
+        rw (← add-one a.job, ← add-one k) (get_or-set_same plan.firsts (a.job + 1) (k + 1) 0 (omega (arith, s.firsts)))
 
-    row_there : (child_at taken k ≡ a.spawn) × (target_at taken k ≡ a.join) × (job_at taken k ≡ a.job) × (cost_at taken k ≡ a.cost)
-    row_there = action_there ended k a.job a.spawn a.join a.cost (rw (length-set, length-set) long) few
+    row_there : At taken k a.spawn a.join a.job a.cost
+    row_there = action_there ended k a.job a.spawn a.join a.cost ended_sized few
 
 below_suc : (P : ℕ → Type 0) (k : ℕ) → ((i : ℕ) → i < k → P i) → P k → (i : ℕ) → i < suc k → P i
 below_suc P k f x i h = below_more P k f x i (omega arith)
 
-pub rows_none : (form : ℕ) (t plan : List ℕ) → TableKept t → length t / 5 ≤ 2048 → Blank plan → RowsTaken form t 0 plan
+pub rows_none : (form : ℕ) (t : List ℕ) (plan : Sheet) → TableKept t → length t / 5 ≤ 2048 → Blank plan → RowsTaken form t 0 plan
 rows_none form t plan g h e =
     record {
       kept = g;
       few = h;
-      long = rw e;
+      sized = blank_sized plan e;
       fit = λ i h. absurd (not-suc-le-zero h);
       frames = λ j h. absurd (not-suc-le-zero h);
       firsts = λ j h. absurd (not-suc-le-zero h);
-      end = rw e (zeros_at 9217 4352);
+      end = rw e (zeros_at 257 0);
       owners = λ i h. absurd (not-suc-le-zero h);
       children = λ i h. absurd (not-suc-le-zero h);
       targets = λ i h. absurd (not-suc-le-zero h);
       costs = λ i h. absurd (not-suc-le-zero h);
-      unspawned = λ c h. rw e (zeros_at 9217 (4865 + c));
+      unspawned = λ c h. rw e (zeros_at 256 c);
     }
 
-module _ {form : ℕ} {t : List ℕ} {k : ℕ} {plan : List ℕ} (g : RowsTaken form t k plan) (h : k < length t / 5) where
+module _ {form : ℕ} {t : List ℕ} {k : ℕ} {plan : Sheet} (g : RowsTaken form t k plan) (h : k < length t / 5) where
   pub row_begins : let j = (row_at t (5 * k)).job in
       (first_of plan j ≡ start (plan_of (rows_of t)) j) × (start (plan_of (rows_of t)) j ≤ k)
   row_begins = (go (ℕ_discrete (row_at t (5 * k)).job (begun t k)), omega (arith, (table_sits g.kept k h).place))
@@ -149,36 +147,46 @@ module _ {form : ℕ} {t : List ℕ} {k : ℕ} {plan : List ℕ} (g : RowsTaken 
       let b : k < 2048 = omega (arith, g.few) in
       let s = table_sits g.kept k h in
       let r = row_next g.kept k h in
-      let same = elsewhere plan k a in
-      let z = row_there plan k a g.long b f.few in
+      let same = row_beside plan k a in
+      let z = row_there plan k a g.sized b f.few in
       record {
         kept = g.kept;
         few = g.few;
-        long = rw (length-set, length-set, length-set, length-set, length-set, length-set) g.long;
+        sized = action_sized (ended plan k a) k a.job a.spawn a.join a.cost (ended_sized plan k a g.sized b f.few);
         fit = below_suc _ k g.fit f;
-        frames = below_suc _ a.job (λ j l. same (4096 + j) (omega arith) ∙ g.frames j (omega (arith, r.0)))
-            (frame_there plan k a g.long b f.few ∙ s.frame);
+        frames = below_suc _ a.job (λ j l. get_or-set_other plan.frames a.job j a.frame 0 (omega arith) ∙ g.frames j (omega (arith, r.0)))
+            (frame_there plan k a g.sized b f.few ∙ s.frame);
         firsts = λ j l.
-            same (4352 + j) (omega arith) ∙ below_suc _ a.job (λ j l. g.firsts j (omega (arith, r.0))) row_begins.0 j l;
-        end = first_there plan k a g.long b f.few;
-        owners = below_suc _ k (λ i l. same (5121 + i) (omega arith) ∙ g.owners i l) z.2;
-        children = below_suc _ k (λ i l. same i (omega arith) ∙ g.children i l) z.0;
-        targets = below_suc _ k (λ i l. same (2048 + i) (omega arith) ∙ g.targets i l) z.1;
-        costs = below_suc _ k (λ i l. same (7169 + i) (omega arith) ∙ g.costs i l) z.3;
-        unspawned = λ c l. same (4865 + c) (omega arith) ∙ g.unspawned c l;
+            get_or-set_other plan.firsts (a.job + 1) j (k + 1) 0 (omega arith)
+            ∙ below_suc _ a.job (λ j l. g.firsts j (omega (arith, r.0))) row_begins.0 j l;
+        end = first_there plan k a g.sized b f.few;
+        children = below_suc _ k (λ i l. (same i (omega arith)).0 ∙ g.children i l) z.0;
+        targets = below_suc _ k (λ i l. (same i (omega arith)).1 ∙ g.targets i l) z.1;
+        owners = below_suc _ k (λ i l. (same i (omega arith)).2 ∙ g.owners i l) z.2;
+        costs = below_suc _ k (λ i l. (same i (omega arith)).3 ∙ g.costs i l) z.3;
+        unspawned = g.unspawned;
       }
 
-module _ {form : ℕ} {t plan : List ℕ} (g : RowsTaken form t (length t / 5) plan) where
+module _ {form : ℕ} {t : List ℕ} {plan : Sheet} (g : RowsTaken form t (length t / 5) plan) where
   pub rows_costs : T (costs_fit form (plan_of (rows_of t)))
   rows_costs = table_costs g.kept form g.fit
 
-  pub rows_all : LaidIn (begun t (length t / 5)) (length (rows_of t)) plan (plan_of (rows_of t))
-  rows_all =
+  pub rows_all : (jobs : ℕ) → jobs ≡ begun t (length t / 5) → LaidIn (with_counts plan form jobs (length t / 5)) (plan_of (rows_of t))
+  rows_all jobs e =
       record {
-        count = all;
-        all = rows_length_lem g.kept ∙ sym n;
+        count = e ∙ all;
+        all = sym n;
         laid = record {
-          long = g.long;
+          sized = record {
+            children = g.sized.children;
+            targets = g.sized.targets;
+            owners = g.sized.owners;
+            costs = g.sized.costs;
+            frames = g.sized.frames;
+            firsts = g.sized.firsts;
+            parents = g.sized.parents;
+            spawns = g.sized.spawns;
+          };
           range = range;
           frames = λ j h. g.frames j (omega (arith, all));
           firsts = λ j h. begins j h (ℕ_discrete j (length (plan_of (rows_of t))));

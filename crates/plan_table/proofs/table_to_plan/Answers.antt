@@ -1,6 +1,6 @@
 -- `plan_table::table_to_plan` meets its contract: each answer by what the form, the table's rules, its rows and their plan tell.
-use Prim.Native.Nat.{◌/◌, ◌%◌}
-use mathlib.Core.Path.{◌≡◌, refl, sym, ◌∙◌}
+use Prim.Native.Nat.{◌%◌}
+use mathlib.Core.Path.{◌≡◌, sym, ◌∙◌}
 use mathlib.Core.Bool.{true}
 use native.Mathlib.Omega.{arith}
 use lib.ListN.{length}
@@ -11,11 +11,11 @@ use Rattle.plan.specs.Reader.{is_form}
 use Rattle.plan_table.specs.Table.{rows_of, row_rules, plan_of}
 use Rattle.plan_table.specs.GivenRows.{TableKept, LaidAs}
 use Rattle.plan.proofs.Laws.Lists.{of_true, both_left, both_right}
-use Rattle.plan_table.proofs.Laws.RowsInRange.{rows_length_lem, table_long}
+use Rattle.plan_table.proofs.Laws.RowsInRange.{table_long}
 use Rattle.plan_table.proofs.Laws.Answers.{form_refused, plan_refused, plan_range, plan_ruled}
 use Rattle.plan.proofs.Laws.Accepted.{form_small}
 use Rattle.plan_table.proofs.table_to_plan.Goals as goal
-use Rattle.plan_table.proofs.table_to_plan.Goals.{Else-not-is_form, Else-not-table_rules, In_ok-jobs}
+use Rattle.plan_table.proofs.table_to_plan.Goals.{Else-not-is_form, Else-not-table_rules, In_ok-take_rows}
 
 pub returns-then-not-is_form : goal.returns-then-not-is_form
 returns-then-not-is_form c = form_refused _ _ _ (sym c.is_form.ensures ∙ c.if-not-is_form.true)
@@ -44,30 +44,29 @@ returns-then-rows-gt2048 c =
     plan_range _ _ _ (known (goal.at.returns-then-rows-gt2048 c).Else-not-is_form) (rules (goal.at.returns-then-rows-gt2048 c).Else-not-table_rules) (table_long (kept (goal.at.returns-then-rows-gt2048 c).Else-not-table_rules) c.args.form (omega arith))
 
 pub take_rows-requires : goal.take_rows-requires
-take_rows-requires c = (kept (goal.at.take_rows-requires c).Else-not-table_rules, omega arith, refl)
+take_rows-requires c = (kept (goal.at.take_rows-requires c).Else-not-table_rules, omega arith, c.blank-plan.ensures)
 
--- the array has the rows' plan
-laid : (c : In_ok-jobs) → is_form c.args.form ≡ true → TableKept c.args.table.now
-    → LaidAs c.args.form c.in_ok-jobs.jobs (length c.args.table.now / 5) c.take_rows.new.plan (plan_of (rows_of c.args.table.now))
-laid c known kept =
+-- the arrays have the rows' plan
+laid : (c : In_ok-take_rows) → is_form c.args.form ≡ true → LaidAs c.take_rows.new.plan (plan_of (rows_of c.args.table.now))
+laid c known =
     let form = c.args.form in
-    let l = c.in_ok-jobs.ensures in
-    record { held = rw (rows_length_lem kept) at l.0; costs = l.1; byte = form_small form (of_true (is_form form) known) }
+    let l = c.in_ok-take_rows.ensures in
+    record { held = l.0; costs = rw l.2 l.1; byte = rw l.2 (form_small form (of_true (is_form form) known)) }
 
 pub close-requires : goal.close-requires
 close-requires c =
     let at = goal.at.close-requires c in
-    (_, laid at.In_ok-jobs (known at.Else-not-is_form) (kept at.Else-not-table_rules))
+    (_, laid at.In_ok-take_rows (known at.Else-not-is_form))
 
-pub returns-in_err-jobs : goal.returns-in_err-jobs
-returns-in_err-jobs c =
-    let at = goal.at.returns-in_err-jobs c in
+pub returns-in_err-take_rows : goal.returns-in_err-take_rows
+returns-in_err-take_rows c =
+    let at = goal.at.returns-in_err-take_rows c in
     let p = err_from_is_err_and c.from_residual.result c.from_residual.ensures.1 in
-    let e = c.in_err-jobs.ensures in
+    let e = c.in_err-take_rows.ensures in
     rw (p.1, p.2, e.0) (plan_range _ _ _ (known at.Else-not-is_form) (rules at.Else-not-table_rules) e.1)
 
 pub returns : goal.returns
 returns c =
     let at = goal.at.returns c in
     let known = known at.Else-not-is_form in
-    c.close.ensures _ (laid at.In_ok-jobs known (kept at.Else-not-table_rules)) ∙ plan_ruled _ _ _ known (rules at.Else-not-table_rules)
+    rw c.in_ok-take_rows.ensures.2 at (c.close.ensures _ (laid at.In_ok-take_rows known)) ∙ plan_ruled _ _ _ known (rules at.Else-not-table_rules)

@@ -1,6 +1,6 @@
 -- `plan_table::rows::take_rows` meets its contract. The loop's invariant: the array has what the first k rows put there.
 use Prim.Native.Nat.{◌/◌, ◌≤◌}
-use mathlib.Core.Path.{◌≡◌}
+use mathlib.Core.Path.{◌≡◌, refl}
 use native.Mathlib.Numerals.{add-one}
 use native.Mathlib.Omega.{arith}
 use lib.ListN.{length}
@@ -25,7 +25,7 @@ room : (c : After-loop-k) → let n = length c.args.table.now / 5 in (1 ≤ n) �
 room c = let g = c.loop-k.invariant in (table_some g.kept, g.few)
 
 pub overflow_sub-rows : goal.overflow_sub-rows
-overflow_sub-rows c = omega (arith, room c)
+overflow_sub-rows c = omega (arith, room (goal.at.overflow_sub-rows c).After-loop-k)
 
 pub bounds-table-rows : goal.bounds-table-rows
 bounds-table-rows c = omega (arith, room (goal.at.bounds-table-rows c).After-loop-k)
@@ -36,4 +36,5 @@ returns c =
     let t = c.args.table.now in
     let e : l.k ≡ length t / 5 = omega arith in
     let g = rw e at l.invariant in
-    (rw (c.from.ensures, ← begun_last t (length t / 5) (room (goal.at.returns c).After-loop-k).0) (rows_all g), rows_costs g)
+    let last = begun_last t (length t / 5) (room (goal.at.returns c).After-loop-k).0 in
+    rw c.set_counts.ensures (rows_all g _ (omega (arith, c.from.ensures, last)), rows_costs g, refl)

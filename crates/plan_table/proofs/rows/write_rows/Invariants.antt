@@ -12,4 +12,4 @@ use Rattle.plan_table.proofs.rows.write_rows.Given as goal
 abbrev pub invariant-loop-k : goal.invariant-loop-k
 invariant-loop-k l =
     (length l.rows ≡ length l.initial.rows)
-    × ((p : Plan) → RowsGiven l.actions l.plan p → l.rows ≡ take (5 * l.k) (table_of p) ++ drop (5 * l.k) l.initial.rows)
+    × ((p : Plan) → RowsGiven l.plan p → l.rows ≡ take (5 * l.k) (table_of p) ++ drop (5 * l.k) l.initial.rows)
