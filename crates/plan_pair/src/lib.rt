@@ -1,4 +1,4 @@
-// Two plans under a new root, to be built together (document 02, L9). The result is laid out in one array: the first plan as soon as
+// Two plans under a new root, to be built together (document 02, L9). The result is laid out in the arrays of one plan: the first plan as soon as
 // that is read, then the second, then the new root. That it keeps all rules is proved and not tested.
 #![tactic(auto)]
 
@@ -11,12 +11,9 @@ ghost use Rattle.plan_writer.specs.Written.{answer_of};
 ghost use Rattle.plan_pair.specs.Pair.{raised_child, under, new_root, in_limits, pair_form, pair_into, Paired};
 ghost use Rattle.plan_pair.specs.Given.{target_under, Lays, ActionAt, LaysJob, LaidBelow, Taken};
 
-use plan::reader::{Found, read_into};
+use plan::reader::read_into;
 use plan::refusal::Refusal;
-use plan::sheet::{
-    PLACES, Sheet, child_at, cost_at, first_of, frame_of, set_action, set_first, set_frame,
-    target_at,
-};
+use plan::sheet::Sheet;
 use plan_writer::encode;
 
 // A child's number plus 1, or 0 for none, where numbers rise by d.
@@ -32,10 +29,10 @@ fn target_under(plan: &Sheet, k: usize) -> usize
     requires { k < 2048 }
     ensures { (result ≡ target_under plan.now k) × (result < 65536) }
 {
-    if k + 1 == first_of(plan, 1) {
+    if k + 1 == plan.first_of(1) {
         return 5;
     }
-    target_at(plan, k)
+    plan.target_at(k)
 }
 
 // Lays the action at place k of a plan at place `at`, as one of job `owner`; its child's number rises by d.
@@ -44,10 +41,10 @@ fn lay_action(plan: &Sheet, k: usize, d: usize, at: usize, owner: usize, sheet: 
     ensures { sheet.new ≡ with_action sheet.old at owner
         (raised_child d (child_at plan.now k)) (target_under plan.now k) (cost_at plan.now k) }
 {
-    let child = raised_child(d, child_at(plan, k));
+    let child = raised_child(d, plan.child_at(k));
     let target = target_under(plan, k);
-    let cost = cost_at(plan, k);
-    set_action(sheet, at, owner, child as u16, target as u16, cost as u16);
+    let cost = plan.cost_at(k);
+    sheet.set_action(at, owner, child as u16, target as u16, cost as u16);
 }
 
 // Lays job j of a plan as job d + j, its actions as many places later as `from` says.
@@ -56,20 +53,20 @@ fn lay_job(plan: &Sheet, j: usize, d: usize, from: usize, sheet: &mut Sheet)
     ensures { LaysJob d from j plan.now
         ⇒ (λ p. sheet.new ≡ with_job sheet.old (from + total (take j p)) (d + j) (job (under d p) j)) }
 {
-    let end = first_of(plan, j + 1);
-    set_frame(sheet, d + j, frame_of(plan, j) as u16);
-    for k in first_of(plan, j)..end {
+    let end = plan.first_of(j + 1);
+    sheet.set_frame(d + j, plan.frame_of(j) as u16);
+    for k in plan.first_of(j)..end {
         lay_action(plan, k, d, from + k, d + j, sheet);
     }
-    set_first(sheet, d + j + 1, from + end);
+    sheet.set_first(d + j + 1, from + end);
 }
 
 // Lays all jobs of a plan, the first as job d, and their actions from place `from` on.
-fn lay_jobs(plan: &Sheet, jobs: usize, d: usize, from: usize, sheet: &mut Sheet)
-    requires { Some (λ p. (jobs ≡ length p) × Lays d from plan.now p) }
-    ensures { Lays d from plan.now ⇒ (λ p. jobs ≡ length p → sheet.new ≡ with_jobs sheet.old from d (under d p)) }
+fn lay_jobs(plan: &Sheet, d: usize, from: usize, sheet: &mut Sheet)
+    requires { Some (Lays d from plan.now) }
+    ensures { Lays d from plan.now ⇒ (λ p. sheet.new ≡ with_jobs sheet.old from d (under d p)) }
 {
-    for j in 0..jobs {
+    for j in 0..plan.jobs {
         lay_job(plan, j, d, from, sheet);
     }
 }
@@ -79,13 +76,13 @@ fn lay_root(frame: u16, jobs: usize, sheet: &mut Sheet)
     requires { jobs ≤ 256 }
     ensures { sheet.new ≡ with_job sheet.old 0 0 (new_root frame jobs) }
 {
-    set_frame(sheet, 0, frame);
-    set_action(sheet, 0, 0, 2, 0, 1);
-    set_action(sheet, 1, 0, 0, 0, 1);
-    set_action(sheet, 2, 0, (jobs + 2) as u16, 0, 1);
-    set_action(sheet, 3, 0, 0, 0, 1);
-    set_action(sheet, 4, 0, 0, 0, 1);
-    set_first(sheet, 1, 5);
+    sheet.set_frame(0, frame);
+    sheet.set_action(0, 0, 2, 0, 1);
+    sheet.set_action(1, 0, 0, 0, 1);
+    sheet.set_action(2, 0, (jobs + 2) as u16, 0, 1);
+    sheet.set_action(3, 0, 0, 0, 1);
+    sheet.set_action(4, 0, 0, 0, 1);
+    sheet.set_first(1, 5);
 }
 
 // A root's frame and the counts of a plan are within their limits.
@@ -96,18 +93,30 @@ fn within(frame: u32, jobs: usize, actions: usize) -> bool
     1 <= frame && frame <= 65535 && jobs <= 256 && actions <= 2048
 }
 
+// The form and the counts of a plan that was laid.
+#[derive(Clone, Copy)]
+struct Laid {
+    form: u32,
+    jobs: usize,
+    actions: usize,
+}
+
 // Reads a plan, and lays it from job d and place `from` on, where that is within the limits.
-fn lay(s: &[u8], frame: u32, d: usize, from: usize, sheet: &mut Sheet) -> Result<Found, Refusal>
+fn lay(s: &[u8], frame: u32, d: usize, from: usize, sheet: &mut Sheet) -> Result<Laid, Refusal>
     requires { (d ≤ 257) × (from ≤ 2053) }
     ensures { Taken s.now result (LaidBelow frame d from sheet.old sheet.new) }
 {
-    let mut plan = [0u16; PLACES];
+    let mut plan = Sheet::blank();
     let mut entering = [0u8; 2048];
-    let found = read_into(s, &mut plan, &mut entering)?;
-    if within(frame, d + found.jobs, from + found.actions) {
-        lay_jobs(&plan, found.jobs, d, from, sheet);
+    read_into(s, &mut plan, &mut entering)?;
+    if within(frame, d + plan.jobs, from + plan.actions) {
+        lay_jobs(&plan, d, from, sheet);
     }
-    Ok(found)
+    Ok(Laid {
+        form: plan.form,
+        jobs: plan.jobs,
+        actions: plan.actions,
+    })
 }
 
 // The form of the result of two plans of these forms.
@@ -124,7 +133,7 @@ pub fn pair(first: &[u8], second: &[u8], frame: u32, bytes: &mut [u8]) -> Result
         ≡ pair_into frame first.now second.now bytes.old }
     ensures paired { Paired frame first.now second.now result bytes.new }
 {
-    let mut sheet = [0u16; PLACES];
+    let mut sheet = Sheet::blank();
     let one = lay(first, frame, 1, 5, &mut sheet)?;
     let two = lay(second, frame, 1 + one.jobs, 5 + one.actions, &mut sheet)?;
     let jobs = 1 + one.jobs + two.jobs;
@@ -133,5 +142,6 @@ pub fn pair(first: &[u8], second: &[u8], frame: u32, bytes: &mut [u8]) -> Result
         return Err(Refusal::Pair);
     }
     lay_root(frame as u16, one.jobs, &mut sheet);
-    encode(form_of(one.form, two.form), jobs, actions, &sheet, bytes)
+    sheet.set_counts(form_of(one.form, two.form), jobs, actions);
+    encode(sheet.form, &sheet, bytes)
 }

@@ -12,6 +12,7 @@ use native.Mathlib.Decide.{dec_lt}
 use lib.ListN.{length, take, length-take}
 use lib.Seq.{take-suc, take_all}
 use borrow.Author.Tests.{eq-eqb, ne_eqb}
+use Rattle.plan.specs.declared.sheet.Sheet.{Sheet}
 use Rattle.plan.specs.Plan.{Action, Plan, job, size, action, total, no_action, no_job}
 use Rattle.plan.specs.Progress.{with_actions, with_job, with_jobs}
 use Rattle.plan.specs.Sheet.{child_at, target_at, cost_at, frame_of, first_of, with_action, with_frame, with_first}
@@ -23,7 +24,7 @@ use Rattle.plan_pair.specs.Pair.{raised_child, under}
 use Rattle.plan_pair.specs.Given.{target_under, ActionAt, LaysJob}
 use Rattle.plan_pair.proofs.Laws.Under.{under_length, under_size, under_frame, under_cost, under_spawn, under_join, under_other, under_last, under_start}
 
-module _ (plan : List ℕ) (k : ℕ) where
+module _ (plan : Sheet) (k : ℕ) where
   pub target_last : k + 1 ≡ first_of plan 1 → 5 ≡ target_under plan k
   unfolding target_under
   target_last e = rw (target_under, eq-eqb (k + 1) (first_of plan 1) e)
@@ -33,7 +34,7 @@ module _ (plan : List ℕ) (k : ℕ) where
   target_other f = rw (target_under, ne_eqb (k + 1) (first_of plan 1) f)
 
 -- one job of a plan
-module _ {d from j : ℕ} {plan : List ℕ} {p : Plan} (g : LaysJob d from j plan p) where
+module _ {d from j : ℕ} {plan : Sheet} {p : Plan} (g : LaysJob d from j plan p) where
   row : List Action
   row = (job (under d p) j).actions
 
@@ -94,16 +95,16 @@ module _ {d from j : ℕ} {plan : List ℕ} {p : Plan} (g : LaysJob d from j pla
           let e : start p 1 ≡ start p 0 + size p 0 = start_suc p 0 h in
           sym (target_other plan (start p j + i) (omega (arith, root_end))) ∙ laid ∙ sym (under_join d p j i o)
 
-  module _ (sheet : List ℕ) where
+  module _ (sheet : Sheet) where
     -- the first so many actions laid
-    pub first_rows : ℕ → List ℕ
+    pub first_rows : ℕ → Sheet
     first_rows n = with_actions sheet (from + start p j) (d + j) (take n row)
 
     pub rows_none : first_rows 0 ≡ sheet
     unfolding first_rows
     rows_none = refl
 
-    pub action_more : {rows rows' : List ℕ} (k n : ℕ) → k ≡ start p j + n → n < size p j → rows ≡ first_rows n
+    pub action_more : {rows rows' : Sheet} (k n : ℕ) → k ≡ start p j + n → n < size p j → rows ≡ first_rows n
         → rows' ≡ with_action rows (from + k) (d + j) (raised_child d (child_at plan k)) (target_under plan k) (cost_at plan k)
         → rows' ≡ first_rows (suc n)
     unfolding first_rows row
@@ -117,7 +118,7 @@ module _ {d from j : ℕ} {plan : List ℕ} {p : Plan} (g : LaysJob d from j pla
         w ∙ rw (is, child, cost, target, at, take-suc row n no_action (omega (arith, row_long)))
         (sym (actions_one_more sheet (from + start p j) (d + j) (take n row) a))
 
-  pub job_whole : (sheet : List ℕ) {framed rows sheet' : List ℕ} (n end weight : ℕ) → n ≡ size p j → end ≡ first_of plan (j + 1) → weight ≡ frame_of plan j
+  pub job_whole : (sheet : Sheet) {framed rows sheet' : Sheet} (n end weight : ℕ) → n ≡ size p j → end ≡ first_of plan (j + 1) → weight ≡ frame_of plan j
       → framed ≡ with_frame sheet (d + j) weight → rows ≡ first_rows framed n → sheet' ≡ with_first rows (d + j + 1) (from + end)
       → sheet' ≡ with_job sheet (from + start p j) (d + j) (job (under d p) j)
   unfolding first_rows row
@@ -127,15 +128,15 @@ module _ {d from j : ℕ} {plan : List ℕ} {p : Plan} (g : LaysJob d from j pla
       last ∙ rw (rest, front, f, a, take_all n row (omega (arith, row_long)))
 
 -- all jobs of a plan
-module _ (d from : ℕ) (p : Plan) (sheet : List ℕ) where
-  pub first_jobs : ℕ → List ℕ
+module _ (d from : ℕ) (p : Plan) (sheet : Sheet) where
+  pub first_jobs : ℕ → Sheet
   first_jobs n = with_jobs sheet from d (take n (under d p))
 
   pub jobs_none : first_jobs 0 ≡ sheet
   unfolding first_jobs
   jobs_none = refl
 
-  pub job_more : {jobs jobs' : List ℕ} (j : ℕ) → j < length p → jobs ≡ first_jobs j
+  pub job_more : {jobs jobs' : Sheet} (j : ℕ) → j < length p → jobs ≡ first_jobs j
       → jobs' ≡ with_job jobs (from + start p j) (d + j) (job (under d p) j) → jobs' ≡ first_jobs (suc j)
   unfolding first_jobs
   job_more j h is w =

@@ -16,7 +16,7 @@ loop-k-init c =
 -- the action at hand
 here : (c : In-loop-k) → (p : Plan) (g : LaysJob c.args.d c.args.from c.args.j c.args.plan.now p)
     → (n : ℕ) × (c.loop-k.k ≡ start p c.args.j + n) × (n < size p c.args.j)
-    × (c.loop-k.sheet ≡ first_rows g c.set_frame.new.plan n)
+    × (c.loop-k.sheet ≡ first_rows g c.set_frame.new.self n)
 here c p g =
     let (n, e, is) = c.loop-k.invariant p g in
     (n, e, omega (arith, c.loop-k-test.true, c.first_of-end.ensures.0, job_place g), is)

@@ -1,12 +1,13 @@
 -- `plan_pair::pair` meets its contract: each answer by what reading both plans, the limits and the writer tell.
 use Prim.Native.Nat.{ℕ, ◌+◌}
 use mathlib.Core.List.{List}
+use Rattle.plan.specs.declared.sheet.Sheet.{Sheet}
 use Rattle.plan.specs.Plan.{Plan}
-use mathlib.Core.Path.{◌≡◌, refl, sym, ◌∙◌}
+use mathlib.Core.Path.{◌≡◌, sym, ◌∙◌}
 use mathlib.Core.Bool.{true}
 use native.Mathlib.Omega.{arith}
 use Rattle.std.proofs.lemmas.Result.{err_from_is_err_and}
-use Rattle.plan.specs.Sheet.{RuledIn}
+use Rattle.plan.specs.Sheet.{with_counts, RuledIn}
 use Rattle.plan.proofs.Laws.Lists.{of_true}
 use Rattle.plan.specs.Progress.{with_job}
 use Rattle.plan_pair.specs.Pair.{paired, new_root, pair_fits, in_limits}
@@ -70,24 +71,27 @@ pub lay_root-requires : goal.lay_root-requires
 lay_root-requires c = omega (arith, took_few c.in_ok-one.ensures)
 
 -- the array has the result
-laid : (c : Else-not-within) (sheet : List ℕ) → sheet ≡ with_job c.lay-2.new.sheet 0 0 (new_root c.args.frame c.in_ok-one.one.jobs)
-    → RuledIn (1 + c.in_ok-one.one.jobs + c.in_ok-two.two.jobs) (5 + c.in_ok-one.one.actions + c.in_ok-two.two.actions)
-    sheet (paired c.args.frame c.in_ok-one.ensures.is c.in_ok-two.ensures.is)
-laid c sheet root =
+laid : (c : Else-not-within) (sheet : Sheet) → sheet ≡ with_job c.lay-2.new.sheet 0 0 (new_root c.args.frame c.in_ok-one.one.jobs)
+    → (form : ℕ)
+    → let one = c.in_ok-one.one in
+    let two = c.in_ok-two.two in
+    RuledIn (with_counts sheet form (1 + one.jobs + two.jobs) (5 + one.actions + two.actions))
+    (paired c.args.frame c.in_ok-one.ensures.is c.in_ok-two.ensures.is)
+laid c sheet root form =
     let a = c.in_ok-one.ensures in
     let b = c.in_ok-two.ensures in
-    both_laid _ a.is b.is _ _ _ _ refl (took_kept a) (took_kept b) (of_true _ (passes c)) _ _ _ _ a.count a.all b.count b.all a.left b.left root
+    both_laid _ a.is b.is _ _ _ _ c.blank-sheet.ensures (took_kept a) (took_kept b) (of_true _ (passes c)) _ _ _ _ a.count a.all b.count b.all a.left b.left root form
 
 pub encode-requires : goal.encode-requires
 encode-requires c =
-    ((_, laid (goal.at.encode-requires c).Else-not-within _ c.lay_root.ensures), c.form_of.ensures.1)
+    (rw c.set_counts.ensures (_, laid (goal.at.encode-requires c).Else-not-within _ c.lay_root.ensures _), rw c.set_counts.ensures c.form_of.ensures.1)
 
 pub returns : goal.returns
 returns c =
     let a = c.in_ok-one.ensures in
     let b = c.in_ok-two.ensures in
     let l = (goal.at.returns c).Else-not-within in
-    let w = rw c.form_of.ensures.0 at (c.encode.ensures _ (laid l _ c.lay_root.ensures)) in
+    let w = rw (c.set_counts.ensures, c.form_of.ensures.0) at (c.encode.ensures (paired c.args.frame a.is b.is) (rw c.set_counts.ensures (laid l _ c.lay_root.ensures _))) in
     let p = passes l in
     record {
       bytes_after = w ∙ pair_written _ _ _ _ _ a.read _ b.read p;
