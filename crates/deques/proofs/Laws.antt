@@ -1,2 +1,2 @@
--- What holds of sixteen deques in one array as jobs come and go.
+-- What holds of a deque, and of sixteen of them, as jobs come and go.
 pub mod Deques

@@ -1,46 +1,65 @@
--- The array of the sixteen deques, and how it holds them. Functions that are no entries cite this file.
---   job_at, top_at, len_at == a job of deque w by its place, where the deque begins, how many jobs it has
---   deque_at             == the n jobs from place `top` of deque w on, the bottom one first
---   Dequed deques ds    == the array holds the deques ds, each within its places; a job stands at a place not above its number
---   Pushing, Pushed     == job j goes on the bottom of deque w, whose bottom job is of smaller number; it has gone there
---   TookBottom, TookTop == what taking the bottom job of deque w, and the top of victim v's deque, gives and leaves
-use Rattle.std.specs.Prelude.{ℕ, zero, suc, ◌+◌, ◌*◌, ◌≤◌, ◌<◌, ◌≡◌, Result, Bool, List, [], ◌∷◌, length, get_or, set}
+-- A deque, and the sixteen of a run, and how they hold jobs. Functions that are no entries cite this file.
+--   jobs_from jobs at n   == the n jobs from place `at` on, the bottom one first
+--   Stacked deque d       == a deque holds the jobs d, within its places; a job stands at a place not above its number
+--   Fitting, OnBottom     == job j goes on the bottom of a deque whose bottom job is of smaller number; it has gone there
+--   BottomTaken, TopTaken == what taking the bottom job of a deque, and the top one, gives and leaves
+--   no_deque, deque_in deques w == what stands outside of an array of deques; deque w
+--   Dequed deques ds      == sixteen deques hold the jobs ds
+--   Pushing, Pushed       == job j goes on the bottom of deque w, whose bottom job is of smaller number; it has gone there
+--   TookBottom, TookTop   == what taking the bottom job of deque w, and the top of victim v's deque, gives and leaves
+use Rattle.std.specs.Prelude.{ℕ, zero, suc, ◌+◌, ◌≤◌, ◌<◌, ◌≡◌, Result, Bool, List, [], ◌∷◌, length, get_or, set}
 use Rattle.runs.specs.declared.miss.Miss.{Miss}
 use Rattle.runs.specs.declared.worker.Worker.{Worker}
 use Rattle.runs.specs.Turn.{take_bottom}
 use Rattle.runs.specs.Steal.{drop_top, take_top}
+use Rattle.deques.specs.declared.Deque.{Deque}
 
-abbrev pub job_at : List ℕ → ℕ → ℕ → ℕ
-job_at deques w i = get_or deques (w * 256 + i) 0
+abbrev pub jobs_from : List ℕ → ℕ → ℕ → List ℕ
+jobs_from jobs at zero = []
+jobs_from jobs at (suc n) = get_or jobs (at + n) 0 ∷ jobs_from jobs at n
 
-abbrev pub top_at : List ℕ → ℕ → ℕ
-top_at deques w = get_or deques (4096 + w) 0
+pub record Stacked (deque : Deque) (d : List ℕ) : Type 0 where
+  pub long : length deque.jobs ≡ 256
+  pub holds : jobs_from deque.jobs deque.top deque.len ≡ d
+  pub low : (i : ℕ) → i < deque.len → deque.top + i ≤ get_or deque.jobs (deque.top + i) 0
+  pub room : deque.top + deque.len ≤ 255
 
-abbrev pub len_at : List ℕ → ℕ → ℕ
-len_at deques w = get_or deques (4112 + w) 0
+pub record Fitting (j : ℕ) (deque : Deque) (d : List ℕ) : Type 0 where
+  pub stacked : Stacked deque d
+  pub small : j < 255
+  pub below : (x : ℕ) (e : List ℕ) → d ≡ x ∷ e → x < j
 
-abbrev pub deque_at : List ℕ → ℕ → ℕ → ℕ → List ℕ
-deque_at deques w top zero = []
-deque_at deques w top (suc n) = job_at deques w (top + n) ∷ deque_at deques w top n
+abbrev pub OnBottom : ℕ → Deque → List ℕ → Type 0
+OnBottom j deque d = Stacked deque (j ∷ d)
 
-pub record Dequed (deques : List ℕ) (ds : List (List ℕ)) : Type 0 where
+abbrev pub BottomTaken : Worker → Deque → List ℕ → Type 0
+BottomTaken worker deque d = (worker ≡ (take_bottom d).worker) × Stacked deque (take_bottom d).deque
+
+abbrev pub TopTaken : Bool → Result ℕ Miss → Deque → List ℕ → Type 0
+TopTaken held taken deque d = (taken ≡ take_top d held) × Stacked deque (drop_top d)
+
+abbrev pub no_deque : Deque
+no_deque = record { top = 0; len = 0; jobs = [] }
+
+abbrev pub deque_in : List Deque → ℕ → Deque
+deque_in deques w = get_or deques w no_deque
+
+pub record Dequed (deques : List Deque) (ds : List (List ℕ)) : Type 0 where
   pub sixteen : length ds ≡ 16
-  pub long : length deques ≡ 4128
-  pub holds : (w : ℕ) → w < 16 → deque_at deques w (top_at deques w) (len_at deques w) ≡ get_or ds w []
-  pub low : (w i : ℕ) → w < 16 → i < len_at deques w → top_at deques w + i ≤ job_at deques w (top_at deques w + i)
-  pub room : (w : ℕ) → w < 16 → top_at deques w + len_at deques w ≤ 255
+  pub long : length deques ≡ 16
+  pub holds : (w : ℕ) → w < 16 → Stacked (deque_in deques w) (get_or ds w [])
 
-pub record Pushing (w j : ℕ) (deques : List ℕ) (ds : List (List ℕ)) : Type 0 where
+pub record Pushing (w j : ℕ) (deques : List Deque) (ds : List (List ℕ)) : Type 0 where
   pub dequed : Dequed deques ds
   pub known : w < 16
   pub small : j < 255
   pub below : (x : ℕ) (d : List ℕ) → get_or ds w [] ≡ x ∷ d → x < j
 
-abbrev pub Pushed : ℕ → ℕ → List ℕ → List (List ℕ) → Type 0
+abbrev pub Pushed : ℕ → ℕ → List Deque → List (List ℕ) → Type 0
 Pushed w j deques ds = Dequed deques (set ds w (j ∷ get_or ds w []))
 
-abbrev pub TookBottom : ℕ → Worker → List ℕ → List (List ℕ) → Type 0
+abbrev pub TookBottom : ℕ → Worker → List Deque → List (List ℕ) → Type 0
 TookBottom w worker deques ds = (worker ≡ (take_bottom (get_or ds w [])).worker) × Dequed deques (set ds w (take_bottom (get_or ds w [])).deque)
 
-abbrev pub TookTop : ℕ → Bool → Result ℕ Miss → List ℕ → List (List ℕ) → Type 0
+abbrev pub TookTop : ℕ → Bool → Result ℕ Miss → List Deque → List (List ℕ) → Type 0
 TookTop v held taken deques ds = (taken ≡ take_top (get_or ds v []) held) × Dequed deques (set ds v (drop_top (get_or ds v [])))

@@ -1,2 +1,2 @@
--- How one array holds sixteen deques.
+-- How one deque holds its jobs, and how an array holds sixteen deques.
 pub mod Dequed
