@@ -7,6 +7,7 @@
 --   Met words plan i first row r == the answer r tells whether the span of row i meets that of another, which is given with its first round
 --   Clear more block k span == of the rows before row k, each that meets it ends in that block or in an earlier one
 use Rattle.std.specs.Prelude.{ℕ, ◌+◌, ◌*◌, ◌/◌, ◌%◌, ◌^◌, ◌≤◌, ◌<◌, ◌≡◌, Bool, true, false, List, eqb}
+use Rattle.plan.specs.declared.sheet.Sheet.{Sheet}
 use Rattle.plan.specs.Told.{Told}
 use Rattle.courses.specs.Schedule.{Span}
 use Rattle.checker.specs.Rows.{span_from, span_at}
@@ -26,7 +27,7 @@ key_of more stride a = bucket_of stride (block_of more a.last) a.worker
 abbrev pub Meet : Span → Span → Type 0
 Meet a b = (a.worker ≡ b.worker) × (a.first ≤ b.last) × (b.first ≤ a.last)
 
-abbrev pub Met : (words plan : List ℕ) → (i first row : ℕ) → Bool → Type 0
+abbrev pub Met : List ℕ → Sheet → (i first row : ℕ) → Bool → Type 0
 Met words plan i first row r =
     Told r (Meet (span_at words plan i) (span_from first row)) (Meet (span_at words plan i) (span_from first row) → ⊥)
 

@@ -4,9 +4,10 @@
 --   Words width s n words == the array has those of the first n rows, none with a round of 0
 --   RowsIn rows words     == the array holds the rows: each row's round and worker as one number
 --   span_from first row    == the span of a row that is given with its first round
---   span_at words plan k   == the span of the row at place k, whose cost the plan's array has
+--   span_at words plan k   == the span of the row at place k, whose cost the plan's arrays have
 use Rattle.std.specs.Prelude.{ℕ, suc, ◌+◌, ◌-◌, ◌*◌, ◌/◌, ◌%◌, ◌≤◌, ◌<◌, ◌≡◌, List, length, get_or, take, drop}
 use Rattle.fields.specs.Field.{bits, number}
+use Rattle.plan.specs.declared.sheet.Sheet.{Sheet}
 use Rattle.plan.specs.Sheet.{cost_at}
 use Rattle.courses.specs.Row.{Row, no_row}
 use Rattle.courses.specs.Schedule.{Span}
@@ -30,5 +31,5 @@ pub record RowsIn (rows : List Row) (words : List ℕ) : Type 0 where
 abbrev pub span_from : ℕ → ℕ → Span
 span_from first row = record { first = first; last = row / 16; worker = row % 16 }
 
-abbrev pub span_at : List ℕ → List ℕ → ℕ → Span
+abbrev pub span_at : List ℕ → Sheet → ℕ → Span
 span_at words plan k = span_from (suc (entry words k / 16) - cost_at plan k) (entry words k)

@@ -4,7 +4,7 @@ ghost use Rattle.std.specs.Prelude.{◌≤◌, ◌<◌, ◌≡◌};
 ghost use Rattle.checker.specs.Buckets.{more_of, bucket_of, Met};
 
 use crate::rows::{Rows, row_of};
-use plan::sheet::{Sheet, cost_at};
+use plan::sheet::Sheet;
 
 // How many blocks behind that of its own last round one that clashes with a row may end: one, but in form 1, where an action takes
 // one round and a block is one round, none.
@@ -34,7 +34,7 @@ pub fn meets(rows: &Rows, i: usize, first: usize, row: usize, plan: &Sheet) -> b
     if other / 16 < first {
         return false;
     }
-    if row / 16 + cost_at(plan, i) <= other / 16 {
+    if row / 16 + plan.cost_at(i) <= other / 16 {
         return false;
     }
     true

@@ -9,7 +9,7 @@ ghost use Rattle.checker.specs.Answer.{judged_of};
 use form::read_schedule;
 use plan::reader::read_into;
 use plan::refusal::Refusal;
-use plan::sheet::PLACES;
+use plan::sheet::Sheet;
 use rules::rules_kept;
 
 mod buckets;
@@ -25,14 +25,14 @@ mod senders;
 pub fn check(plan: &[u8], schedule: &[u8]) -> Result<(), Refusal>
     ensures { judged_of result ≡ checked plan.now schedule.now }
 {
-    let mut sheet = [0u16; PLACES];
+    let mut sheet = Sheet::blank();
     let mut entering = [0u8; 2048];
-    let found = read_into(plan, &mut sheet, &mut entering)?;
+    read_into(plan, &mut sheet, &mut entering)?;
     let mut rows = [0u32; 2048];
-    let Some(workers) = read_schedule(found.form, schedule, found.actions, &mut rows) else {
+    let Some(workers) = read_schedule(sheet.form, schedule, sheet.actions, &mut rows) else {
         return Err(Refusal::Schedule);
     };
-    if !rules_kept(found.form, workers, found.actions, &rows, &sheet) {
+    if !rules_kept(workers, &rows, &sheet) {
         return Err(Refusal::Rule);
     }
     Ok(())

@@ -1,4 +1,4 @@
-// The rules of a schedule, over its rows and the plan's array (document 01, "Schedule"; document 02, L5).
+// The rules of a schedule, over its rows and the plan's arrays (document 01, "Schedule"; document 02, L5).
 ghost use Rattle.std.specs.Prelude.{◌<◌, ◌≡◌};
 ghost use Rattle.plan.specs.Contract.{Some, ◌⇒◌};
 ghost use Rattle.courses.specs.Schedule.{keeps};
@@ -11,7 +11,7 @@ use crate::busy::take;
 use crate::chains::Lines;
 use crate::rows::{Rows, row_of};
 use crate::senders::line_up;
-use plan::sheet::{Sheet, cost_at, first_of, parent_of, spawn_of};
+use plan::sheet::Sheet;
 
 // Where the walk over the actions stands: the job, the place where its actions end, and the round that the span of the action at
 // hand must begin after, where that is of the job: the last round of the action before it there, or of the job's spawn, or 0.
@@ -28,7 +28,7 @@ fn spawn_round(rows: &Rows, j: usize, plan: &Sheet) -> usize
     ensures { SpawnGiven j rows.now plan.now
         ⇒ (λ t. result ≡ spawn_round t.plan (span_at rows.now plan.now) j) }
 {
-    let spawn = first_of(plan, parent_of(plan, j)) + (spawn_of(plan, j) - 1);
+    let spawn = plan.first_of(plan.parent_of(j)) + (plan.spawn_of(j) - 1);
     row_of(rows, spawn) / 16
 }
 
@@ -42,7 +42,7 @@ fn stand(rows: &Rows, k: usize, s: Standing, plan: &Sheet) -> Standing
         return s;
     }
     let job = s.job + 1;
-    let end = first_of(plan, job + 1);
+    let end = plan.first_of(job + 1);
     let round = spawn_round(rows, job, plan);
     Standing { job, end, round }
 }
@@ -53,7 +53,7 @@ fn first_round(rows: &Rows, k: usize, workers: usize, plan: &Sheet) -> Option<us
     ensures { FirstTold (span_at rows.now plan.now k) workers result }
 {
     let row = row_of(rows, k);
-    let cost = cost_at(plan, k);
+    let cost = plan.cost_at(k);
     if workers <= row % 16 {
         return None;
     }
@@ -72,23 +72,23 @@ fn first_round(rows: &Rows, k: usize, workers: usize, plan: &Sheet) -> Option<us
 // takes rows of one block, no two with the same last round: at most 16, and in form 1 one, so that no row is compared with more
 // than 48 of each worker. Where every block is below the stride, no two workers share a bucket. In form 2 the chains are walked
 // only where a set of `busy` has a round of the row: else it clashes with no row before it.
-pub fn rules_kept(form: u32, workers: usize, actions: usize, rows: &Rows, plan: &Sheet) -> bool
-    requires { Some (RulesGiven form workers actions rows.now plan.now) }
-    ensures { RulesGiven form workers actions rows.now plan.now ⇒ (λ t. result ≡ keeps t.plan workers t.rows) }
+pub fn rules_kept(workers: usize, rows: &Rows, plan: &Sheet) -> bool
+    requires { Some (RulesGiven workers rows.now plan.now) }
+    ensures { RulesGiven workers rows.now plan.now ⇒ (λ t. result ≡ keeps t.plan workers t.rows) }
 {
-    let senders = line_up(actions, plan);
+    let senders = line_up(plan);
     let mut buckets: Lines<4096> = Lines::new();
     let mut busy = [0u16; 4096];
     let stride = 4096 / workers;
-    let more = more_of(form);
+    let more = more_of(plan.form);
     let shift = 4 * more;
     let mut standing = Standing {
         job: 0,
-        end: first_of(plan, 1),
+        end: plan.first_of(1),
         round: 0,
     };
     let mut kept = true;
-    'actions: for k in 0..actions {
+    'actions: for k in 0..plan.actions {
         let row = row_of(rows, k);
         let Some(first) = first_round(rows, k, workers, plan) else {
             kept = false;

@@ -11,6 +11,7 @@ use native.Mathlib.Omega.{arith}
 use native.Mathlib.Decide.{ℕ_discrete}
 use lib.ListN.{get_or}
 use lib.Dec.{T, eqb, eqb→eq}
+use Rattle.plan.specs.declared.sheet.Sheet.{Sheet}
 use Rattle.plan.specs.Plan.{Plan, total, placed, no_placed}
 use Rattle.plan.specs.Rules.{costs_fit}
 use Rattle.plan.specs.Sheet.{cost_at, Planned}
@@ -24,7 +25,7 @@ use Rattle.checker.specs.Rows.{span_from, span_at}
 use Rattle.checker.specs.Given.{Task, RulesGiven}
 use Rattle.checker.specs.Buckets.{more_of, block_of, bucket_of, key_of, Meet, Clear}
 
-cost_reaches : (form : ℕ) (plan : List ℕ) (p : Plan) → Planned plan p → T (costs_fit form p) → (k : ℕ) → k < total p
+cost_reaches : (form : ℕ) (plan : Sheet) (p : Plan) → Planned plan p → T (costs_fit form p) → (k : ℕ) → k < total p
     → cost_at plan k ≤ suc (16 * more_of form)
 unfolding costs_fit
 cost_reaches form plan p g fits k h =
@@ -45,10 +46,10 @@ module _ (more : ℕ) (most : more ≤ 1) where
   block_near a b h =
       by_cases (ℕ_discrete more 0) (λ e. rw e (omega arith)) (λ d. let e : more ≡ 1 = omega arith in rw e (omega arith))
 
-  pub clear_first : {form workers actions : ℕ} (words plan : List ℕ) (t : Task) → RulesGiven form workers actions words plan t → more ≡ more_of form
-      → (k row : ℕ) → k < actions → row ≡ entry words k → Clear more (block_of more (row / 16) + more) k (span_at words plan)
-  clear_first {form} words plan t g is k row h e i l m =
-      let short = cost_reaches form plan t.plan g.tasked.planned g.fits i (omega (arith, g.count)) in
+  pub clear_first : {workers : ℕ} (words : List ℕ) (plan : Sheet) (t : Task) → RulesGiven workers words plan t → more ≡ more_of plan.form
+      → (k row : ℕ) → k < plan.actions → row ≡ entry words k → Clear more (block_of more (row / 16) + more) k (span_at words plan)
+  clear_first words plan t g is k row h e i l m =
+      let short = cost_reaches plan.form plan t.plan g.tasked.planned g.fits i (omega (arith, g.count)) in
       block_near (span_at words plan i).last (row / 16) (omega (arith, m.1, short, is))
 
   module _ (k : ℕ) (span : ℕ → Span) (stride b w : ℕ) (is : w ≡ (span k).worker) (c : Clear more b k span)
@@ -65,7 +66,7 @@ module _ (more : ℕ) (most : more ≤ 1) where
         none i h m (omega (arith, c i h m, block_rises (span k).first (span i).last m.2, ap (block_of more) begins))
 
 -- the span of row k by what was read of it
-module _ (words plan : List ℕ) (k row first : ℕ) (is : row ≡ entry words k) (begins : first ≡ (span_at words plan k).first) (a : Span) where
+module _ (words : List ℕ) (plan : Sheet) (k row first : ℕ) (is : row ≡ entry words k) (begins : first ≡ (span_at words plan k).first) (a : Span) where
   pub meet_of : Meet a (span_from first row) → Meet a (span_at words plan k)
   meet_of m = (omega (arith, m.0), omega (arith, m.1), omega (arith, m.2))
 

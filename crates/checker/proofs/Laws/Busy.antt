@@ -20,6 +20,7 @@ use lib.ListN.{length, set, replicate, length-set}
 use lib.Pow.{shl_exact, shr_le}
 use lib.Seq.{get_or-set_same, get_or-set_other}
 use lib.Bits.{bit_and, bit_or}
+use Rattle.plan.specs.declared.sheet.Sheet.{Sheet}
 use Rattle.courses.specs.Schedule.{Span}
 use Rattle.plan.specs.Plan.{total}
 use Rattle.plan.proofs.Laws.Placed.{placed_of}
@@ -96,11 +97,11 @@ module _ (more stride : ℕ) (a : Span) (begun : a.first ≤ a.last) (short : a.
   }
 
 -- the rows of a schedule
-module _ {form workers actions : ℕ} (words plan : List ℕ) (t : Task) (g : RulesGiven form workers actions words plan t) where
+module _ {workers : ℕ} (words : List ℕ) (plan : Sheet) (t : Task) (g : RulesGiven workers words plan t) where
   abbrev span : ℕ → Span
   span = span_at words plan
 
-  pub span_short : (k : ℕ) → k < actions → ((span k).first ≤ (span k).last) × ((span k).last < (span k).first + 16)
+  pub span_short : (k : ℕ) → k < plan.actions → ((span k).first ≤ (span k).last) × ((span k).last < (span k).first + 16)
   span_short k h =
       let l : k < total t.plan = omega (arith, g.count) in
       let st = placed_of t.plan k l in
@@ -109,7 +110,7 @@ module _ {form workers actions : ℕ} (words plan : List ℕ) (t : Task) (g : Ru
       (omega (arith, st.cost), omega (arith, st.cost))
 
   -- a round that two spans have
-  pub noted_apart : (more stride k : ℕ) (busy busy' : List ℕ) (r : Bool) → k < actions → Noted more stride k span busy
+  pub noted_apart : (more stride k : ℕ) (busy busy' : List ℕ) (r : Bool) → k < plan.actions → Noted more stride k span busy
       → Taken more stride (span k) busy busy' r → r ≡ true → (i : ℕ) → i < k → Meet (span i) (span k) → ⊥
   noted_apart more stride k busy busy' r h n took e i l m =
       by_cases (dec_lt (span i).first (span k).first)
@@ -120,7 +121,7 @@ module _ {form workers actions : ℕ} (words plan : List ℕ) (t : Task) (g : Ru
       both round d f =
           (took.free e).1 round f (subst (λ (w : ℕ). Busy busy stride w round) m.0 (n.all (took.free e).0 i round l d))
 
-pub taken_read : (words plan : List ℕ) (k row first : ℕ) → row ≡ entry words k → first ≡ (span_at words plan k).first
+pub taken_read : (words : List ℕ) (plan : Sheet) (k row first : ℕ) → row ≡ entry words k → first ≡ (span_at words plan k).first
     → {more stride : ℕ} {busy busy' : List ℕ} {r : Bool} → Taken more stride (span_from first row) busy busy' r
     → Taken more stride (span_at words plan k) busy busy' r
 taken_read words plan k row first is begins {more} {stride} {busy} {busy'} {r} =

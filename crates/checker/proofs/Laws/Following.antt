@@ -8,6 +8,7 @@ use mathlib.Core.Path.{◌≡◌, refl, ap, sym, ◌∙◌}
 use mathlib.Core.List.{List}
 use native.Mathlib.Omega.{arith}
 use lib.ListN.{length, get_or}
+use Rattle.plan.specs.declared.sheet.Sheet.{Sheet}
 use Rattle.plan.specs.Plan.{Plan, Placed, size, total, placed, no_placed, parent, spawn_at}
 use Rattle.plan.specs.Rules.{Accepted}
 use Rattle.plan.proofs.Laws.Placed.{start, placed_at, placed_of, Stands, place_below}
@@ -78,7 +79,7 @@ module _ (p : Plan) (ok : Accepted p) (span : ℕ → Span) (k : ℕ) (h : k < t
         let l = earlier (parent p a.job) (spawn_at p a.job) (omega (arith, older p ok a.job o st.known, st.known)) b (born o first s) f in
         let z : ⊥ = omega arith in z)
 
-module _ (words plan : List ℕ) (t : Task) (g : Tasked words plan t) where
+module _ (words : List ℕ) (plan : Sheet) (t : Task) (g : Tasked words plan t) where
   abbrev p : Plan
   p = t.plan
 

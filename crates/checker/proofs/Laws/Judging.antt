@@ -3,6 +3,7 @@ use Prim.Native.Nat.{ℕ}
 use mathlib.Core.Path.{◌≡◌, sym, ap, ◌∙◌}
 use mathlib.Core.Bool.{Bool, true, false}
 use mathlib.Core.List.{List}
+use Rattle.plan.specs.declared.sheet.Sheet.{Sheet}
 use Rattle.plan.specs.Plan.{Plan}
 use Rattle.plan.specs.Refusal.{refused, accepted}
 use Rattle.plan.specs.Reader.{read_plan}
@@ -17,24 +18,23 @@ module _ (bytes s : List ℕ) where
   unfolding checked judged_by
   judges_plan k e = rw e
 
-  -- the plan that was read into the array
-  module _ {form jobs actions : ℕ} {plan : List ℕ} (p : Plan) (read : read_plan bytes ≡ accepted (record { form = form; plan = p }))
-      (held : PlanIn jobs actions plan p) where
-    by_schedule : checked bytes s ≡ ruled p (read_schedule form s actions)
+  -- the plan that was read into the arrays
+  module _ {plan : Sheet} (p : Plan) (read : read_plan bytes ≡ accepted (record { form = plan.form; plan = p })) (held : PlanIn plan p) where
+    by_schedule : checked bytes s ≡ ruled p (read_schedule plan.form s plan.actions)
     unfolding checked judged_by
     by_schedule = rw (read, held.all)
 
-    pub judges_form : read_schedule form s actions ≡ refused 11 → refused 11 ≡ checked bytes s
+    pub judges_form : read_schedule plan.form s plan.actions ≡ refused 11 → refused 11 ≡ checked bytes s
     unfolding ruled
     judges_form e = sym (by_schedule ∙ ap (ruled p) e)
 
     -- the schedule that was read
-    module _ {workers : ℕ} {words : List ℕ} (w : WellFormed form s actions workers words) where
-      pub rules_given : RulesGiven form workers actions words plan (record { plan = p; rows = w.rows })
+    module _ {workers : ℕ} {words : List ℕ} (w : WellFormed plan.form s plan.actions workers words) where
+      pub rules_given : RulesGiven workers words plan (record { plan = p; rows = w.rows })
       rules_given = record {
         some = w.some;
         count = held.all;
-        fits = accepted_costs bytes (record { form = form; plan = p }) read;
+        fits = accepted_costs bytes (record { form = plan.form; plan = p }) read;
         tasked = record { planned = held.planned; held = w.held; all = w.all ∙ held.all };
       }
 

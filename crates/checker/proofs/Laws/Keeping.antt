@@ -10,6 +10,7 @@ use native.Mathlib.Decide.{ℕ_discrete}
 use native.Mathlib.Nat.{not-suc-le-zero, le_of_suc-le-suc}
 use lib.ListN.{length, get_or}
 use lib.Dec.{T, eqb, leb, ltb, eqb→eq, eqb_refl, leb→le, le→leb, ltb→lt, lt→ltb}
+use Rattle.plan.specs.declared.sheet.Sheet.{Sheet}
 use Rattle.plan.specs.Test.{both, either, all}
 use Rattle.plan.specs.Plan.{Plan, Placed, total, placed, no_placed}
 use Rattle.plan.specs.Sheet.{Planned}
@@ -69,7 +70,7 @@ module _ (a b : Span) where
 span_by : ℕ → ℕ → ℕ → Span
 span_by round worker cost = record { first = suc round - cost; last = round; worker = worker }
 
-module _ (p : Plan) (m : ℕ) (rows : List Row) (words plan : List ℕ) (long : length rows ≡ total p) (at : RowsIn rows words) (g : Planned plan p) where
+module _ (p : Plan) (m : ℕ) (rows : List Row) (words : List ℕ) (plan : Sheet) (long : length rows ≡ total p) (at : RowsIn rows words) (g : Planned plan p) where
   abbrev span : ℕ → Span
   span = span_at words plan
 
@@ -183,7 +184,7 @@ module _ (p : Plan) (m : ℕ) (rows : List Row) (words plan : List ℕ) (long : 
         )
 
 -- what the test of the rules tells
-module _ (m : ℕ) (words plan : List ℕ) (t : Task) (g : Tasked words plan t) where
+module _ (m : ℕ) (words : List ℕ) (plan : Sheet) (t : Task) (g : Tasked words plan t) where
   pub all_keep : (n : ℕ) → n ≡ total t.plan → Seen t.plan m n (span_at words plan) → true ≡ keeps t.plan m t.rows
   all_keep n e s =
       sym (true_of (keeps t.plan m t.rows) (keeps_by t.plan m t.rows words plan g.all g.held g.planned (rw e at s)))

@@ -7,10 +7,10 @@
 use Prim.Native.Nat.{ℕ, zero, suc, ◌+◌, ◌-◌, ◌%◌, ◌≤◌, ◌<◌}
 use mathlib.Core.Path.{◌≡◌, refl, ap, sym, ◌∙◌}
 use mathlib.Core.Logic.{◌≢◌}
-use mathlib.Core.List.{List}
 use native.Mathlib.Omega.{arith}
 use lib.Dec.{T}
 use lib.ListN.{length, get_or}
+use Rattle.plan.specs.declared.sheet.Sheet.{Sheet}
 use Rattle.plan.specs.Plan.{Plan, Placed, total, placed, no_placed, parent, enters}
 use Rattle.plan.specs.Sheet.{job_at, target_at, first_of, parent_of, Planned}
 use Rattle.plan.proofs.Laws.Placed.{start, placed_at, placed_of, Stands, place_below}
@@ -19,7 +19,7 @@ use Rattle.plan.proofs.Laws.Enters.{enters_by, enters_is}
 use Rattle.checker.specs.Senders.{line_of}
 
 -- the line of an action by what the array tells of it
-module _ (plan : List ℕ) (k n : ℕ) (sent : n ≡ target_at plan k) where
+module _ (plan : Sheet) (k n : ℕ) (sent : n ≡ target_at plan k) where
   pub line_none : n ≡ 0 → 2048 ≡ line_of plan k
   line_none z = rw (sym sent ∙ z)
 
@@ -29,7 +29,7 @@ module _ (plan : List ℕ) (k n : ℕ) (sent : n ≡ target_at plan k) where
       let m : target_at plan k ≡ suc (n - 1) = omega arith in
       rw (m, ← e, ← f, ← g)
 
-module _ (plan : List ℕ) (p : Plan) (g : Planned plan p) where
+module _ (plan : Sheet) (p : Plan) (g : Planned plan p) where
   -- the place of a parent's first action
   parent_first : (c : ℕ) → 1 ≤ c → c < length p → first_of plan (parent_of plan c % 256) ≡ start p (parent p c)
   parent_first c o h =

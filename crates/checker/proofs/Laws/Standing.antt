@@ -13,6 +13,7 @@ use native.Mathlib.Numerals.{add-one}
 use native.Mathlib.Omega.{arith}
 use native.Mathlib.Decide.{ℕ_discrete}
 use lib.ListN.{length, get_or}
+use Rattle.plan.specs.declared.sheet.Sheet.{Sheet}
 use Rattle.plan.specs.Plan.{Plan, size, total, placed, no_placed, parent, spawn_at}
 use Rattle.plan.specs.Rules.{Accepted}
 use Rattle.plan.specs.Sheet.{first_of, parent_of, spawn_of}
@@ -91,14 +92,14 @@ module _ (p : Plan) (ok : Accepted p) (span : ℕ → Span) where
           )
 
 -- over the arrays
-module _ (words plan : List ℕ) (t : Task) where
+module _ (words : List ℕ) (plan : Sheet) (t : Task) where
   abbrev p : Plan
   p = t.plan
 
   pub row_within : Tasked words plan t → (x : ℕ) → x < total p → x < 2048
   row_within g x h = omega (arith, total_range p g.planned.rules)
 
-  pub stand_given : (k : ℕ) {form workers actions : ℕ} → RulesGiven form workers actions words plan t → k < actions
+  pub stand_given : (k : ℕ) {workers : ℕ} → RulesGiven workers words plan t → k < plan.actions
       → {at : Standing} → Stood p (span_at words plan) k at → StandGiven k at words plan t
   stand_given k g l at = record { within = omega (arith, g.count); stood = at; tasked = g.tasked }
 

@@ -16,8 +16,8 @@ use Rattle.checker.proofs.rules.rules_kept.Given as goal
 
 abbrev pub invariant-joins : goal.invariant-joins
 invariant-joins l =
-    (l.kept ≡ true) × (plus_one l.sender ≤ l.actions)
-    × Walk l.actions (line_of l.plan) l.k (λ x. Later (span_at l.rows l.plan) x l.k) (plus_one l.sender)
+    (l.kept ≡ true) × (plus_one l.sender ≤ l.plan.actions)
+    × Walk l.plan.actions (line_of l.plan) l.k (λ x. Later (span_at l.rows l.plan) x l.k) (plus_one l.sender)
 
 abbrev pub decreases-joins : goal.decreases-joins
 decreases-joins l = plus_one l.sender
@@ -35,8 +35,8 @@ decreases-clashes l =
 
 abbrev pub invariant-actions : goal.invariant-actions
 invariant-actions l =
-    (l.kept ≡ true) × (l.actions ≤ 2048)
+    (l.kept ≡ true) × (l.plan.actions ≤ 2048)
     × Chains l.k (λ i. key_of l.more l.stride (span_at l.rows l.plan i)) (entry l.buckets.latest) (entry l.buckets.prior)
-    × ((t : Task) → RulesGiven l.form l.workers l.actions l.rows l.plan t → Seen t.plan l.workers l.k (span_at l.rows l.plan))
-    × ((t : Task) → RulesGiven l.form l.workers l.actions l.rows l.plan t → Stood t.plan (span_at l.rows l.plan) l.k l.standing)
+    × ((t : Task) → RulesGiven l.workers l.rows l.plan t → Seen t.plan l.workers l.k (span_at l.rows l.plan))
+    × ((t : Task) → RulesGiven l.workers l.rows l.plan t → Stood t.plan (span_at l.rows l.plan) l.k l.standing)
     × Noted l.more l.stride l.k (span_at l.rows l.plan) l.busy
