@@ -1,12 +1,15 @@
-// The requests at each of sixteen victims in one array: from place 0 on a line for each, four bits a worker, the oldest request lowest;
-// from place 16 on how many stand in each. Any place of a line is read and taken out at once.
+// The requests at each of sixteen victims: a line for each. Any place of a line is read and taken out at once.
 ghost use Rattle.std.specs.Prelude.{◌≡◌, [], ◌∷◌, ◌++◌, ℕ, ◌+◌, ◌-◌, ◌<◌, get_or};
 ghost use Rattle.plan.specs.Contract.{Some, ◌⇒◌};
-ghost use Rattle.crew.specs.Line.{Lined, without, waiting_at, LiningUp, LinedUp, Leaving, Gone, Beside};
+ghost use Rattle.crew.specs.Line.{Lined, without, no_lines, waiting_at, LiningUp, LinedUp, Leaving, Gone, Beside};
 
-pub type Lines = [u64; 32];
-
-const LEN: usize = 16;
+// The line of each victim, four bits a worker, the oldest request lowest, and how many stand in it. The memory is fixed: sixteen
+// workers are all that can stand in a line.
+#[derive(Drop)]
+pub struct Lines {
+    lines: [u64; 16],
+    counts: [u64; 16],
+}
 
 // The line with worker w behind it.
 fn behind(line: u64, len: u64, w: usize) -> u64
@@ -33,32 +36,44 @@ fn closed_up(line: u64, len: u64, i: u64) -> u64
     (((line >> k) / 16) << k) + (line & ((1u64 << k) - 1))
 }
 
-// How many requests wait at victim v.
-pub fn waiting_at(lines: &Lines, v: usize) -> u64
-    requires { v < 16 }
-    ensures { result ≡ waiting_at lines.now v }
-{
-    lines[LEN + v]
-}
+impl Lines {
+    // No request at any victim.
+    pub fn new() -> Lines
+        ensures { result ≡ no_lines }
+    {
+        Lines {
+            lines: [0; 16],
+            counts: [0; 16],
+        }
+    }
 
-// Worker w's request goes behind the others at victim v.
-pub fn line_up(lines: &mut Lines, v: usize, w: usize)
-    requires { Some (LiningUp v w lines.old) }
-    ensures { (LiningUp v w lines.old ⇒ LinedUp v w lines.new) × Beside v lines.old lines.new }
-{
-    let len = waiting_at(lines, v);
-    lines[v] = behind(lines[v], len, w);
-    lines[LEN + v] = len + 1;
-}
+    // How many requests wait at victim v.
+    pub fn waiting_at(&self, v: usize) -> u64
+        requires { v < 16 }
+        ensures { result ≡ waiting_at self.now v }
+    {
+        self.counts[v]
+    }
 
-// The request at place i of the line at victim v leaves it: its worker.
-pub fn leave_line(lines: &mut Lines, v: usize, i: u64) -> usize
-    requires { Some (Leaving v i lines.old) }
-    ensures { (Leaving v i lines.old ⇒ Gone v i result lines.new) × Beside v lines.old lines.new }
-{
-    let line = lines[v];
-    let len = waiting_at(lines, v);
-    lines[v] = closed_up(line, len, i);
-    lines[LEN + v] = len - 1;
-    at(line, i)
+    // Worker w's request goes behind the others at victim v.
+    pub fn line_up(&mut self, v: usize, w: usize)
+        requires { Some (LiningUp v w self.old) }
+        ensures { (LiningUp v w self.old ⇒ LinedUp v w self.new) × Beside v self.old self.new }
+    {
+        let len = self.counts[v];
+        self.lines[v] = behind(self.lines[v], len, w);
+        self.counts[v] = len + 1;
+    }
+
+    // The request at place i of the line at victim v leaves it: its worker.
+    pub fn leave_line(&mut self, v: usize, i: u64) -> usize
+        requires { Some (Leaving v i self.old) }
+        ensures { (Leaving v i self.old ⇒ Gone v i result self.new) × Beside v self.old self.new }
+    {
+        let line = self.lines[v];
+        let len = self.counts[v];
+        self.lines[v] = closed_up(line, len, i);
+        self.counts[v] = len - 1;
+        at(line, i)
+    }
 }
