@@ -1,9 +1,9 @@
 -- What the build of a plan that was read is given, and what it answers. Functions that are no entries cite this file; an entry's
 -- promise speaks of the input's bytes.
---   BuildIn form jobs actions plan entering p == the plan p that the array holds, of so many jobs and actions, can be measured and run, and
---                                           have that form
---   BuiltFrom form n choices r p         == the answer r has the counts of a run of p, or is the refusal
+--   BuildIn plan entering p      == the plan p that the arrays hold can be measured and run, and have their form
+--   BuiltFrom form n choices r p == the answer r has the counts of a run of p, or is the refusal
 use Rattle.std.specs.Prelude.{ℕ, ◌≡◌, List, Result}
+use Rattle.plan.specs.declared.sheet.Sheet.{Sheet}
 use Rattle.plan.specs.declared.refusal.Refusal.{Refusal}
 use Rattle.plan.specs.Refusal.{accepted}
 use Rattle.plan.specs.Plan.{Plan}
@@ -14,9 +14,9 @@ use Rattle.scheduler.specs.RunRead.{RunsIn}
 use Rattle.build.specs.declared.Counts.{Counts}
 use Rattle.build.specs.Build.{counts_of, built_of}
 
-pub record BuildIn (form jobs actions : ℕ) (plan entering : List ℕ) (p : Plan) : Type 0 where
-  pub held : PlanIn jobs actions plan p
-  pub runs : RunsIn form actions plan entering p
+pub record BuildIn (plan : Sheet) (entering : List ℕ) (p : Plan) : Type 0 where
+  pub held : PlanIn plan p
+  pub runs : RunsIn plan entering p
 
 abbrev pub BuiltFrom : ℕ → ℕ → List ℕ → Result Counts Refusal → Plan → Type 0
 BuiltFrom form n choices r p =

@@ -8,7 +8,7 @@ ghost use Rattle.build.specs.Parts.{BuildIn, BuiltFrom};
 
 use plan::reader::read_into;
 use plan::refusal::Refusal;
-use plan::sheet::{PLACES, Sheet};
+use plan::sheet::Sheet;
 use plan_measure::measure_read;
 use scheduler::run::run_read;
 
@@ -29,30 +29,19 @@ pub struct Counts {
     pub idle_victim: u32,
 }
 
-// Runs the plan that the array holds and measures it. `entering` has how many joins enter each action.
+// Runs the plan that the arrays hold and measures it. `entering` has how many joins enter each action.
 fn build_read(
-    form: u32,
-    jobs: usize,
-    actions: usize,
     workers: u32,
     choices: &[u8],
     plan: &Sheet,
     entering: &[u8; 2048],
 ) -> Result<Counts, Refusal>
-    requires { Some (BuildIn form jobs actions plan.now entering.now) }
-    ensures { BuildIn form jobs actions plan.now entering.now ⇒ BuiltFrom form workers choices.now result }
+    requires { Some (BuildIn plan.now entering.now) }
+    ensures { BuildIn plan.now entering.now ⇒ BuiltFrom plan.now.form workers choices.now result }
 {
     let mut schedule = [0u8; 5124];
-    let t = run_read(
-        form,
-        actions,
-        workers,
-        choices,
-        plan,
-        entering,
-        &mut schedule,
-    )?;
-    let m = measure_read(jobs, actions, plan);
+    let t = run_read(workers, choices, plan, entering, &mut schedule)?;
+    let m = measure_read(plan);
     Ok(Counts {
         rounds: t.rounds,
         actions: t.actions,
@@ -73,18 +62,10 @@ fn build_read(
 fn build_plan(workers: u32, choices: &[u8], plan: &[u8]) -> Result<Counts, Refusal>
     ensures { built_of result ≡ ran_with plan.now workers choices.now }
 {
-    let mut sheet = [0u16; PLACES];
+    let mut sheet = Sheet::blank();
     let mut entering = [0u8; 2048];
-    let found = read_into(plan, &mut sheet, &mut entering)?;
-    build_read(
-        found.form,
-        found.jobs,
-        found.actions,
-        workers,
-        choices,
-        &sheet,
-        &entering,
-    )
+    read_into(plan, &mut sheet, &mut entering)?;
+    build_read(workers, choices, &sheet, &entering)
 }
 
 // The counts of the build that the input asks for, or why it is turned down.

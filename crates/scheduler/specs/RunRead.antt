@@ -1,9 +1,10 @@
 -- What the run of a plan that was read is given, and what it leaves. Functions that are no entries cite this file; an
 -- entry's promise speaks of the plan's bytes.
---   RunsIn form actions plan entering p == what it is given: what all rounds are (`rounds` S/Rounds), and a form that the plan can have
+--   RunsIn plan entering p == what it is given: what all rounds are (`rounds` S/Rounds), and a form that the plan can have
 --   Answered form n choices before r after p == the answer r and the schedule `after` are those of a run of p, and the claim of
 --                                     demand 3 holds of them
 use Rattle.std.specs.Prelude.{ℕ, ◌<◌, ◌≡◌, List, T, Result as Returned, Ok}
+use Rattle.plan.specs.declared.sheet.Sheet.{Sheet}
 use Rattle.plan.specs.declared.refusal.Refusal.{Refusal}
 use Rattle.plan.specs.Refusal.{accepted}
 use Rattle.plan.specs.Plan.{Plan}
@@ -15,10 +16,10 @@ use Rattle.plan.specs.Rules.{costs_fit}
 use Rattle.rounds.specs.Rounds.{RunIn}
 use Rattle.scheduler.specs.Entry.{Result, resulted, made, ran_of}
 
-pub record RunsIn (form actions : ℕ) (plan entering : List ℕ) (p : Plan) : Type 0 where
-  pub runs : RunIn actions plan entering p
-  pub byte : form < 256
-  pub costs : T (costs_fit form p)
+pub record RunsIn (plan : Sheet) (entering : List ℕ) (p : Plan) : Type 0 where
+  pub runs : RunIn plan entering p
+  pub byte : plan.form < 256
+  pub costs : T (costs_fit plan.form p)
 
 abbrev pub Answered : ℕ → ℕ → List ℕ → List ℕ → Returned Tally Refusal → List ℕ → Plan → Type 0
 Answered form n choices before r after p =

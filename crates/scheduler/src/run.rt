@@ -10,7 +10,7 @@ use crate::length::schedule_length;
 use crate::write::write_schedule;
 use plan::reader::read_into;
 use plan::refusal::Refusal;
-use plan::sheet::{PLACES, Sheet};
+use plan::sheet::Sheet;
 use rounds::run::run_rounds;
 use runs::tally::Tally;
 
@@ -38,20 +38,18 @@ fn choices_fit(choices: &[u8], n: usize) -> bool
     usize::from(largest(choices)) < n
 }
 
-// Runs the plan that the array holds and writes its schedule in that form: the counts of the run, or why there was none. `entering`
+// Runs the plan that the arrays hold and writes its schedule in its form: the counts of the run, or why there was none. `entering`
 // has how many joins enter each action.
 pub fn run_read(
-    form: u32,
-    actions: usize,
     workers: u32,
     choices: &[u8],
     plan: &Sheet,
     entering: &[u8; 2048],
     schedule: &mut [u8],
 ) -> Result<Tally, Refusal>
-    requires { Some (RunsIn form actions plan.now entering.now) }
-    ensures { RunsIn form actions plan.now entering.now
-        ⇒ Answered form workers choices.now schedule.old result schedule.new }
+    requires { Some (RunsIn plan.now entering.now) }
+    ensures { RunsIn plan.now entering.now
+        ⇒ Answered plan.now.form workers choices.now schedule.old result schedule.new }
 {
     if workers == 0 {
         return Err(Refusal::Workers);
@@ -63,12 +61,12 @@ pub fn run_read(
     if !choices_fit(choices, n) {
         return Err(Refusal::Choices);
     }
-    if schedule.len() < schedule_length(form, actions) {
+    if schedule.len() < schedule_length(plan.form, plan.actions) {
         return Err(Refusal::Short);
     }
     let mut rows = [0u32; 2048];
-    let t = run_rounds(n, actions, choices, plan, entering, &mut rows);
-    write_schedule(schedule, form, n, actions, &rows);
+    let t = run_rounds(n, choices, plan, entering, &mut rows);
+    write_schedule(schedule, plan.form, n, plan.actions, &rows);
     Ok(t)
 }
 
@@ -78,16 +76,8 @@ pub fn run(plan: &[u8], workers: u32, choices: &[u8], schedule: &mut [u8]) -> Re
         ≡ run_into plan.now workers choices.now schedule.old }
     ensures claimed { Claimed plan.now workers choices.now result schedule.new }
 {
-    let mut sheet = [0u16; PLACES];
+    let mut sheet = Sheet::blank();
     let mut entering = [0u8; 2048];
-    let found = read_into(plan, &mut sheet, &mut entering)?;
-    run_read(
-        found.form,
-        found.actions,
-        workers,
-        choices,
-        &sheet,
-        &entering,
-        schedule,
-    )
+    read_into(plan, &mut sheet, &mut entering)?;
+    run_read(workers, choices, &sheet, &entering, schedule)
 }

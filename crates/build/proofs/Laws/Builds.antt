@@ -8,6 +8,7 @@ use native.Mathlib.Omega.{arith}
 use lib.ListN.{length, get_or, take, drop, length-drop}
 use lib.Seq.{take_all}
 use borrow.Author.Tests.{le-leb, lt-ltb, le-ltb}
+use Rattle.plan.specs.declared.sheet.Sheet.{Sheet}
 use Rattle.plan.specs.Refusal.{Outcome, refused, accepted}
 use Rattle.plan.specs.Plan.{Plan, total}
 use Rattle.plan.specs.Rules.{Accepted, costs_fit}
@@ -49,9 +50,8 @@ counted t m =
     }
 
 -- a plan that was read can be built
-pub read_builds : {bytes : List ℕ} {form jobs actions : ℕ} {plan entering : List ℕ} (g : ReadPlan bytes form jobs actions plan entering)
-    → BuildIn form jobs actions plan entering g.is
-read_builds g = record { held = g.held; runs = read_runs _ _ _ _ _ _ g }
+pub read_builds : {bytes : List ℕ} {plan : Sheet} {entering : List ℕ} (g : ReadPlan bytes plan entering) → BuildIn plan entering g.is
+read_builds g = record { held = g.held; runs = read_runs _ _ _ g }
 
 module _ (form : ℕ) (p : Plan) (ok : Accepted p) (byte : form < 256) (costs : T (costs_fit form p)) (n : ℕ) (choices schedule : List ℕ)
     (long : 5124 ≤ length schedule) where

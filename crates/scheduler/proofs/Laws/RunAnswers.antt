@@ -12,6 +12,7 @@ use native.Mathlib.Omega.{arith}
 use lib.ListN.{length, drop}
 use lib.Dec.{leb, leb→le, le→leb}
 use borrow.Author.Tests.{le-leb, lt-leb}
+use Rattle.plan.specs.declared.sheet.Sheet.{Sheet}
 use Rattle.plan.specs.declared.refusal.Refusal.{Refusal}
 use Rattle.plan.specs.Contract.{◌⇒◌}
 use Rattle.plan.specs.Refusal.{refused, accepted, number_of}
@@ -35,12 +36,11 @@ use Rattle.runs.proofs.Laws.Fit.{Fit}
 use Rattle.runs.proofs.Laws.Demand3.{run_bounded}
 use Rattle.scheduler.proofs.Laws.RunBytes.{Fitting, run_fitting, Told, run_told, made_fits, made_words, made_written}
 
-pub read_runs : (bytes : List ℕ) (form jobs actions : ℕ) (plan entering : List ℕ) (g : ReadPlan bytes form jobs actions plan entering)
-    → RunsIn form actions plan entering g.is
-read_runs bytes form jobs actions plan entering g = record {
+pub read_runs : (bytes : List ℕ) (plan : Sheet) (entering : List ℕ) (g : ReadPlan bytes plan entering) → RunsIn plan entering g.is
+read_runs bytes plan entering g = record {
   runs = record { planned = g.held.planned; all = g.held.all; entered = g.entered; whole = g.whole };
-  byte = accepted_form bytes (record { form = form; plan = g.is }) g.read;
-  costs = accepted_costs bytes (record { form = form; plan = g.is }) g.read;
+  byte = accepted_form bytes (record { form = plan.form; plan = g.is }) g.read;
+  costs = accepted_costs bytes (record { form = plan.form; plan = g.is }) g.read;
 }
 
 -- what is answered to the bytes; where there was no run the claim says nothing
@@ -60,20 +60,20 @@ module _ (bytes : List ℕ) (n : ℕ) (choices schedule : List ℕ) where
   answers_read form p r after e (a, claimed) =
       (a ∙ ap (λ o. read_into o n choices schedule) (sym e), λ t q. (record { form = form; plan = p }, e, claimed t q))
 
-module _ {form actions : ℕ} {plan entering : List ℕ} {p : Plan} (given : RunsIn form actions plan entering p) where
-  g : RunIn actions plan entering p
+module _ {plan : Sheet} {entering : List ℕ} {p : Plan} (given : RunsIn plan entering p) where
+  g : RunIn plan entering p
   g = given.runs
 
   abbrev x : Read
-  x = record { form = form; plan = p }
+  x = record { form = plan.form; plan = p }
 
   module _ (n : ℕ) (choices schedule : List ℕ) where
     refuses : (cause : Refusal) → admitted (accepted x) n choices ≡ refused (number_of cause)
-        → Answered form n choices schedule (Err cause) schedule p
+        → Answered plan.form n choices schedule (Err cause) schedule p
     unfolding resulted
     refuses cause e = (rw e, λ t q. cc)
 
-    pub refuses_workers : (1 ≤ n → n ≤ 16 → ⊥) → Answered form n choices schedule (Err Refusal.Workers) schedule p
+    pub refuses_workers : (1 ≤ n → n ≤ 16 → ⊥) → Answered plan.form n choices schedule (Err Refusal.Workers) schedule p
     unfolding admitted workers_fit
     refuses_workers never =
         let e : workers_fit n ≡ false = false_of (workers_fit n) (λ t.
@@ -88,7 +88,7 @@ module _ {form actions : ℕ} {plan entering : List ℕ} {p : Plan} (given : Run
       unfolding workers_fit
       fits = true_of (workers_fit n) (both_intro (leb 1 n) (leb n 16) (le→leb 1 n some) (le→leb n 16 most))
 
-      pub refuses_choices : choices_fit n choices ≡ false → Answered form n choices schedule (Err Refusal.Choices) schedule p
+      pub refuses_choices : choices_fit n choices ≡ false → Answered plan.form n choices schedule (Err Refusal.Choices) schedule p
       unfolding admitted
       refuses_choices e = refuses Refusal.Choices (rw (admitted, fits, e))
 
@@ -100,20 +100,20 @@ module _ {form actions : ℕ} {plan entering : List ℕ} {p : Plan} (given : Run
         unfolding admitted
         ran = rw (admitted, fits, fit)
 
-        fitting : Fitting form n p s.rows
+        fitting : Fitting plan.form n p s.rows
         fitting = run_fitting going given.byte given.costs
 
-        whole : length (schedule_bytes form n s.rows) ≡ schedule_length form actions
-        whole = made_fits fitting ∙ ap (schedule_length form) (sym g.all)
+        whole : length (schedule_bytes plan.form n s.rows) ≡ schedule_length plan.form plan.actions
+        whole = made_fits fitting ∙ ap (schedule_length plan.form) (sym g.all)
 
-        pub refuses_short : length schedule < schedule_length form actions → Answered form n choices schedule (Err Refusal.Short) schedule p
+        pub refuses_short : length schedule < schedule_length plan.form plan.actions → Answered plan.form n choices schedule (Err Refusal.Short) schedule p
         unfolding resulted
         refuses_short h =
-            let l : length schedule < length (schedule_bytes form n s.rows) = omega (arith, whole) in
+            let l : length schedule < length (schedule_bytes plan.form n s.rows) = omega (arith, whole) in
             (rw (ran, resulted, lt-leb _ _ l), λ t q. cc)
 
         -- what all rounds are given
-        pub run_asked : RunGiven n actions choices plan entering p
+        pub run_asked : RunGiven n choices plan entering p
         run_asked =
             record {
               given = g;
@@ -123,8 +123,8 @@ module _ {form actions : ℕ} {plan entering : List ℕ} {p : Plan} (given : Run
             }
 
         -- all rounds leave the rows in words, which are then written
-        module _ (long : schedule_length form actions ≤ length schedule) (t : Tally) (words : List ℕ)
-            (told : RunGiven n actions choices plan entering ⇒ RunLeft n choices t words) where
+        module _ (long : schedule_length plan.form plan.actions ≤ length schedule) (t : Tally) (words : List ℕ)
+            (told : RunGiven n choices plan entering ⇒ RunLeft n choices t words) where
           left : RunLeft n choices t words p
           left = told p run_asked
 
@@ -132,17 +132,17 @@ module _ {form actions : ℕ} {plan entering : List ℕ} {p : Plan} (given : Run
           words_are = run_told going left.rowed
 
           -- what writing the schedule is given
-          pub rows_asked : (form < 256) × (n ≤ 16) × (actions ≤ 2048) × (schedule_length form actions ≤ length schedule)
-              × Words (round_bits form + 4) actions words
+          pub rows_asked : (plan.form < 256) × (n ≤ 16) × (plan.actions ≤ 2048) × (schedule_length plan.form plan.actions ≤ length schedule)
+              × Words (round_bits plan.form + 4) plan.actions words
           rows_asked = (given.byte, most, in_few g, long, rw g.all (made_words fitting words words_are))
 
-          pub run_answers : (out : List ℕ) → ScheduleWritten form n actions words schedule out
-              → Answered form n choices schedule (Ok t) out p
+          pub run_answers : (out : List ℕ) → ScheduleWritten plan.form n plan.actions words schedule out
+              → Answered plan.form n choices schedule (Ok t) out p
           unfolding resulted
           run_answers out w =
-              let bytes = schedule_bytes form n s.rows in
+              let bytes = schedule_bytes plan.form n s.rows in
               let fit : length bytes ≤ length schedule = omega (arith, whole) in
               let is : out ≡ bytes ++ drop (length bytes) schedule = made_written fitting words words_are schedule out (rw g.all at w) in (
                 rw (left.counts, is, ran, resulted, le-leb _ _ fit),
-                λ u v. let same : u ≡ s.tally = cc left.counts in rw (same, is) (run_bounded going form given.byte given.costs (drop (length bytes) schedule)),
+                λ u v. let same : u ≡ s.tally = cc left.counts in rw (same, is) (run_bounded going plan.form given.byte given.costs (drop (length bytes) schedule)),
               )
