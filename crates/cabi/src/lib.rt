@@ -25,6 +25,7 @@ use pool_runner::entry::pool;
 use runs::tally::Tally;
 use scheduler::run::run;
 
+// The structs are C's, each with the refusal in front (include/dorewhanga.h), so that they repeat the library's fields.
 #[repr(C)]
 #[derive(Clone, Copy)]
 pub struct DwCount {

@@ -45,7 +45,8 @@ fn header(form: u32, schedule: &[u8], actions: usize) -> Option<usize>
     Some(workers.value as usize)
 }
 
-// How many bits a row has: its round and, in the last four, its worker.
+// How many bits a row has: its round and, in the last four, its worker. A number for each form, as `more_of` is: one function for both would be
+// told which.
 fn row_width(form: u32) -> usize
     ensures { (result ≡ round_bits form + 4) × (result ≤ 20) }
 {
@@ -65,6 +66,7 @@ fn row_at(width: usize, schedule: &[u8], k: usize) -> u32
     requires { (width ≤ 20) × (k ≤ 2048) × (32 + width * k + width ≤ 8 * length schedule.now) }
     ensures { result ≡ word width schedule.now k }
 {
+    // two bytes are read as they lie: cut out of a window they take longer
     if width == 16 {
         return bytes_at(schedule, k);
     }

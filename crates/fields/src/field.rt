@@ -102,7 +102,8 @@ pub fn cut(s: &[u8], at: usize, width: usize) -> Option<Field>
     })
 }
 
-// What is written of a row of fields: the whole bytes, and the bits that do not fill one yet, at the top of 32.
+// What is written of a row of fields: the whole bytes, and the bits that do not fill one yet, at the top of 32. The buffer is lent beside it and
+// not held in it: callers hand it on, and a contract says what stands in it before and after.
 #[derive(Clone, Copy)]
 pub struct Sink {
     pub bytes: usize,
@@ -126,6 +127,7 @@ fn flush(out: &mut [u8], sink: Sink) -> Sink
     let mut bytes = sink.bytes;
     let mut held = sink.held;
     let mut bits = sink.bits;
+    // a walk over the bits that are held, and no count of turns
     while 8 <= bits {
         out[bytes] = top_byte(held);
         held = held % 16777216 * 256;

@@ -1,4 +1,5 @@
-// The two calls that turn plan bytes into the other form undo one another (document 02, L6).
+// The two calls that turn plan bytes into the other form undo one another (document 02, L6). Each way round is a theorem with a definition
+// of its own (`old_back`, `new_back`), so that they are not one function over the two calls.
 ghost use Rattle.std.specs.Prelude.{◌≡◌};
 ghost use Rattle.plan_writer.specs.Written.{answer_of};
 ghost use Rattle.plan_forms.specs.Forms.{to_form2, to_form1};

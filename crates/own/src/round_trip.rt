@@ -1,4 +1,4 @@
-// The two entries of the open table undo one another (document 01, "Plan"; document 02, L5).
+// The two entries of the open table undo one another (document 01, "Plan"; document 02, L5), each way round a theorem of its own.
 ghost use Rattle.std.specs.Prelude.{◌≡◌};
 ghost use Rattle.plan_writer.specs.Written.{answer_of};
 ghost use Rattle.plan_table.specs.Table.{to_table, to_plan};

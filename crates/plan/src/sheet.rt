@@ -6,7 +6,10 @@ ghost use Rattle.plan.specs.Sheet.{with_action, with_frame, with_first, with_spa
 
 // Of the 2,048 actions the children and the targets, each a number plus 1, or 0 for none, the jobs and the costs; of the 256 jobs the
 // frames, the places of first actions, that of the end with them, the parents, and the positions of the spawns, plus 1, or 0 where
-// none is noted. The arrays have a fixed size, and a new plan is all zeros.
+// none is noted. The arrays have a fixed size (no heap), and a new plan is all zeros.
+// The form is a number and no enum: plans, tables and schedules have it as a number, and `table_to_plan`, `encode`, `schedule_length` and
+// `write_schedule` promise an answer for others than 1 and 2 too. A child, a target and a spawn are numbers plus 1 and no Options: these
+// are the numbers of the open table and of the bytes, and writers, tables and pairs hand them on as they stand.
 #[derive(Drop)]
 pub struct Sheet {
     pub form: u32,
@@ -42,6 +45,7 @@ impl Sheet {
         }
     }
 
+    // One accessor for each array, since each promises its own word of the definitions.
     // The number of the job that the action at place k spawns, plus 1, or 0.
     pub fn child_at(&self, k: usize) -> usize
         requires { k < 2048 }

@@ -43,6 +43,7 @@ fn costs_one(plan: &Sheet) -> bool
     true
 }
 
+// C calls this and the one below; they differ in the test of costs.
 // Writes, in form 2, the plan that bytes of form 1 hold, and tells the number of bytes.
 pub fn to_form_2(plan: &[u8], bytes: &mut [u8]) -> Result<usize, Refusal>
     ensures bytes_after { record { answer = answer_of result; buffer = bytes.new } ≡ to_form2 plan.now bytes.old }

@@ -54,7 +54,8 @@ fn heaviest(plan: &Sheet) -> u32
 }
 
 // The join that the action at place k sends, if it sends one; its job's spawn was done at time `spawned`. `late` tells of
-// each action when the last join into it came.
+// each action when the last join into it came. It and `time` are two arrays and no struct: the sends read one and write the other, and of a
+// struct that is lent to be written each contract would have to say that the times stay.
 fn send_join(
     k: usize,
     base: usize,

@@ -16,7 +16,7 @@ use fields::field::{Sink, finish, put};
 use plan::refusal::Refusal;
 use plan::sheet::Sheet;
 
-// How many bits a number plus 1, or 0, takes.
+// How many bits a number plus 1, or 0, takes. These three are asked apart: the length of a plan is worked out before a field is.
 fn number_bits(x: usize) -> usize
     ensures { (result ≡ length (number_bits x)) × (result ≤ 9) }
 {

@@ -18,7 +18,7 @@ pub returns-in_err-t : goal.returns-in_err-t
 returns-in_err-t c = λ p g.
     let q = err_from_is_err_and c.from_residual.result c.from_residual.ensures.1 in
     rw (q.1, q.2) (build_refused _ p g.held.planned.rules g.runs.byte g.runs.costs _ _ _ (omega arith) _
-        (sym (ap ran_of c.in_err-t.was) ∙ ap (λ (r : Result). r.answer) (c.run_read.ensures p g.runs).0))
+    (sym (ap ran_of c.in_err-t.was) ∙ ap (λ (r : Result). r.answer) (c.run_read.ensures p g.runs).0))
 
 pub returns : goal.returns
 returns c = λ p g.

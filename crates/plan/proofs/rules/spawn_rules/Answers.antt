@@ -9,9 +9,12 @@ use Rattle.plan.proofs.Laws.Recording.{spawns_told}
 use Rattle.plan.proofs.rules.spawn_rules.Goals as goal
 
 pub returns-else-spawns_kept : goal.returns-else-spawns_kept
-returns-else-spawns_kept c = record { same_form = c.spawns_kept.ensures.same_form; told = λ p g.
-    let k = c.spawns_kept in
-    rw c.if-spawns_kept.false (sym (false_of (spawn_rules p) ((k.ensures.told p g).broken (not_passed k.result c.if-spawns_kept.false))), λ x. absurd x) }
+returns-else-spawns_kept c = record {
+  same_form = c.spawns_kept.ensures.same_form;
+  told = λ p g.
+      let k = c.spawns_kept in
+      rw c.if-spawns_kept.false (sym (false_of (spawn_rules p) ((k.ensures.told p g).broken (not_passed k.result c.if-spawns_kept.false))), λ x. absurd x);
+}
 
 pub all_spawned-requires : goal.all_spawned-requires
 all_spawned-requires c =
@@ -21,6 +24,9 @@ all_spawned-requires c =
     omega (arith, r.jobs, jobs_in_range x.0 x.1.laid.range)
 
 pub returns-then-spawns_kept : goal.returns-then-spawns_kept
-returns-then-spawns_kept c = record { same_form = c.spawns_kept.ensures.same_form; told = λ p g.
-    let k = c.spawns_kept in
-    spawns_told p _ ((k.ensures.told p g).kept (passed k.result c.if-spawns_kept.true)) _ c.all_spawned.ensures }
+returns-then-spawns_kept c = record {
+  same_form = c.spawns_kept.ensures.same_form;
+  told = λ p g.
+      let k = c.spawns_kept in
+      spawns_told p _ ((k.ensures.told p g).kept (passed k.result c.if-spawns_kept.true)) _ c.all_spawned.ensures;
+}

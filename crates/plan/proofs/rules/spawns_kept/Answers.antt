@@ -78,16 +78,22 @@ pub returns-then-not-spawn_rule : goal.returns-then-not-spawn_rule
 returns-then-not-spawn_rule c = record {
   same_form = c.spawn_rule.ensures.same_form ∙ c.loop-k.invariant.0;
   told = λ p g.
-    told_no ((c.spawn_rule.ensures.told p (next (goal.at.returns-then-not-spawn_rule c).After-from p g)).broken (not_passed c.spawn_rule.result c.if-not-spawn_rule.true));
+      told_no ((c.spawn_rule.ensures.told p (next (goal.at.returns-then-not-spawn_rule c).After-from p g)).broken (not_passed c.spawn_rule.result c.if-not-spawn_rule.true));
 }
 
 pub loop-k-preserved : goal.loop-k-preserved
-loop-k-preserved c = (c.spawn_rule.ensures.same_form ∙ c.loop-k.invariant.0, λ p g.
-    rw (← upto_more _ _ _ c.from.ensures)
-    ((c.spawn_rule.ensures.told p (next (goal.at.loop-k-preserved c).After-from p g)).kept (passed c.spawn_rule.result c.if-not-spawn_rule.false)))
+loop-k-preserved c = (
+  c.spawn_rule.ensures.same_form ∙ c.loop-k.invariant.0,
+  λ p g.
+      rw (← upto_more _ _ _ c.from.ensures)
+      ((c.spawn_rule.ensures.told p (next (goal.at.loop-k-preserved c).After-from p g)).kept (passed c.spawn_rule.result c.if-not-spawn_rule.false)),
+)
 
 pub returns : goal.returns
-returns c = record { same_form = c.loop-k.invariant.0; told = λ p g.
-    let l = c.note-count in
-    let e : c.loop-k.k-index ≡ l.result = omega (arith, length-take l.result l.new.list, held _ p g _ _ l.ensures) in
-    told_yes (spawns_all _ _ _ p g (heard _ p g _ _ l.ensures) _ (rw (e, upto_take l.new.list l.result l.result (omega arith)) at (c.loop-k.invariant.1 p g))) }
+returns c = record {
+  same_form = c.loop-k.invariant.0;
+  told = λ p g.
+      let l = c.note-count in
+      let e : c.loop-k.k-index ≡ l.result = omega (arith, length-take l.result l.new.list, held _ p g _ _ l.ensures) in
+      told_yes (spawns_all _ _ _ p g (heard _ p g _ _ l.ensures) _ (rw (e, upto_take l.new.list l.result l.result (omega arith)) at (c.loop-k.invariant.1 p g)));
+}
