@@ -1,66 +1,81 @@
-// The pool of a run in one array: a set of the 256 jobs as the bits of words 0 to 3, job j as bit j % 64 of word j / 64; and at word
-// 4 + j how many children of job j live.
+// The pool of a run: which of its jobs are ready, and how many children of each job live.
 #![tactic(auto)]
 
-ghost use Rattle.std.specs.Prelude.{◌≡◌, ◌≢◌, true, false, suc, ◌-◌, ◌<◌, eqb, length};
-ghost use Rattle.pool_set.specs.Pool.{pooled, children_of, Put, First, Counted};
+ghost use Rattle.std.specs.Prelude.{◌≡◌, ◌≢◌, true, false, suc, ◌-◌, ◌<◌, eqb};
+ghost use Rattle.pool_set.specs.Pool.{no_pool, pooled, children_of, Put, First, Counted};
 
 use crew::set::{has, lowest, with, without};
 
-pub type Pool = [u64; 260];
-
-const CHILDREN: usize = 4;
-
-// Job j comes into the set.
-pub fn add(pool: &mut Pool, j: usize)
-    requires { (j < 256) × (length pool.old ≡ 260) }
-    ensures { Put j true pool.old pool.new }
-{
-    pool[j / 64] = with(pool[j / 64], j % 64);
+// The ready jobs as a set, job j as bit j % 64 of word j / 64, and the count of living children of each job. The memory is fixed:
+// there are 256 jobs.
+#[derive(Drop)]
+pub struct Pool {
+    ready: [u64; 4],
+    children: [u16; 256],
 }
 
-// Job j goes out of the set.
-pub fn remove(pool: &mut Pool, j: usize)
-    requires { (j < 256) × (length pool.old ≡ 260) }
-    ensures { Put j false pool.old pool.new }
-{
-    pool[j / 64] = without(pool[j / 64], j % 64);
-}
-
-// Whether job j is in the set.
-pub fn contains(pool: &Pool, j: usize) -> bool
-    requires { j < 256 }
-    ensures { result ≡ pooled pool.now j }
-{
-    has(pool[j / 64], j % 64)
-}
-
-// The lowest job in the set, or none where the set is empty.
-pub fn first(pool: &Pool) -> Option<usize>
-    ensures { First pool.now result }
-{
-    for k in 0..CHILDREN {
-        if pool[k] != 0 {
-            return Some(64 * k + lowest(pool[k]));
+impl Pool {
+    // No job in the set, and no living children.
+    pub fn new() -> Pool
+        ensures { result ≡ no_pool }
+    {
+        Pool {
+            ready: [0; 4],
+            children: [0; 256],
         }
     }
-    None
-}
 
-// One more child of job j lives.
-pub fn gain_child(pool: &mut Pool, j: usize)
-    requires { (j < 256) × (length pool.old ≡ 260) × (children_of pool.old j < 256) }
-    ensures { Counted j (suc (children_of pool.old j)) pool.old pool.new }
-{
-    pool[CHILDREN + j] += 1;
-}
+    // Job j comes into the set.
+    pub fn add(&mut self, j: usize)
+        requires { j < 256 }
+        ensures { Put j true self.old self.new }
+    {
+        self.ready[j / 64] = with(self.ready[j / 64], j % 64);
+    }
 
-// One child of job j lives no more: whether it was the last.
-pub fn lose_child(pool: &mut Pool, j: usize) -> bool
-    requires { (j < 256) × (length pool.old ≡ 260) × (children_of pool.old j ≢ 0) }
-    ensures { Counted j (children_of pool.old j - 1) pool.old pool.new
-        × (result ≡ eqb (children_of pool.old j - 1) 0) }
-{
-    pool[CHILDREN + j] -= 1;
-    pool[CHILDREN + j] == 0
+    // Job j goes out of the set.
+    pub fn remove(&mut self, j: usize)
+        requires { j < 256 }
+        ensures { Put j false self.old self.new }
+    {
+        self.ready[j / 64] = without(self.ready[j / 64], j % 64);
+    }
+
+    // Whether job j is in the set.
+    pub fn contains(&self, j: usize) -> bool
+        requires { j < 256 }
+        ensures { result ≡ pooled self.now j }
+    {
+        has(self.ready[j / 64], j % 64)
+    }
+
+    // The lowest job in the set, or none where the set is empty.
+    pub fn first(&self) -> Option<usize>
+        ensures { First self.now result }
+    {
+        for (k, word) in self.ready.iter().enumerate() {
+            if *word != 0 {
+                return Some(64 * k + lowest(*word));
+            }
+        }
+        None
+    }
+
+    // One more child of job j lives.
+    pub fn gain_child(&mut self, j: usize)
+        requires { (j < 256) × (children_of self.old j < 256) }
+        ensures { Counted j (suc (children_of self.old j)) self.old self.new }
+    {
+        self.children[j] += 1;
+    }
+
+    // One child of job j lives no more: whether it was the last.
+    pub fn lose_child(&mut self, j: usize) -> bool
+        requires { (j < 256) × (children_of self.old j ≢ 0) }
+        ensures { Counted j (children_of self.old j - 1) self.old self.new
+            × (result ≡ eqb (children_of self.old j - 1) 0) }
+    {
+        self.children[j] -= 1;
+        self.children[j] == 0
+    }
 }

@@ -2,7 +2,7 @@
 use Prim.Native.Nat.{ℕ, ◌<◌}
 use mathlib.Core.Path.{◌≡◌}
 use lib.ListN.{get_or}
-use Rattle.pool_set.proofs.first.Given as goal
+use Rattle.pool_set.proofs.Pool.first.Given as goal
 
 abbrev pub invariant-loop-k : goal.invariant-loop-k
-invariant-loop-k l = (u : ℕ) → u < l.k → get_or l.pool u 0 ≡ 0
+invariant-loop-k l = (u : ℕ) → u < l.k → get_or l.self.ready u 0 ≡ 0
