@@ -14,6 +14,7 @@
 use Rattle.std.specs.Prelude.{ℕ, ◌≤◌, ◌<◌, ◌≡◌, true, List, set, T}
 use Rattle.plan.specs.Plan.{Plan, action}
 use Rattle.plan.specs.Rules.{Accepted}
+use Rattle.plan.specs.declared.sheet.Sheet.{Sheet}
 use Rattle.plan.specs.Sheet.{Planned}
 use Rattle.courses.specs.Row.{place}
 use Rattle.courses.specs.Ready.{weight}
@@ -25,8 +26,10 @@ use Rattle.runs.specs.Turn.{finished, turn_of}
 use Rattle.runs.specs.Run.{choices_fit}
 use Rattle.runs.specs.Trace.{Stage, turning, Trace}
 pub use Rattle.runs.specs.Parts.{after_of, fresh_of, above_of}
+use Rattle.deques.specs.declared.Deque.{Deque}
 use Rattle.deques.specs.Dequed.{Dequed}
 use Rattle.turns.specs.declared.turn.Turned.{Turned}
+use Rattle.turns.specs.declared.progress.Progress.{Progress}
 use Rattle.turns.specs.Progress.{Progressed}
 use Rattle.turns.specs.Rows.{Rowed}
 
@@ -46,43 +49,43 @@ pub record Moment : Type 0 where
 abbrev pub At : Stage → Moment → Type 0
 At g m = InRun m.setting m.round m.began g m.state
 
-pub record Held (k j w : ℕ) (plan : List ℕ) (m : Moment) : Type 0 where
+pub record Held (k j w : ℕ) (plan : Sheet) (m : Moment) : Type 0 where
   pub run : At (turning w) m
   pub known : w < m.setting.workers
   pub holding : worker_of m.state w ≡ Holding j
   pub planned : Planned plan m.setting.plan
   pub here : k ≡ place m.setting.plan j (next_of m.state j)
 
-pub record Sending (k j w : ℕ) (plan progress deques : List ℕ) (m : Moment) : Type 0 where
+pub record Sending (k j w : ℕ) (plan : Sheet) (progress : Progress) (deques : List Deque) (m : Moment) : Type 0 where
   pub held : Held k j w plan m
   pub progressed : Progressed m.setting.plan m.state.next (fresh_of m.state j) progress
   pub dequed : Dequed deques m.state.deques
 
-pub record Acting (k j w weighs : ℕ) (plan progress deques : List ℕ) (m : Moment) : Type 0 where
+pub record Acting (k j w weighs : ℕ) (plan : Sheet) (progress : Progress) (deques : List Deque) (m : Moment) : Type 0 where
   pub sending : Sending k j w plan progress deques m
   pub weighed : weighs ≡ weight m.setting.plan m.state.next
 
-pub record Sent (j w : ℕ) (progress deques : List ℕ) (m : Moment) : Type 0 where
+pub record Sent (j w : ℕ) (progress : Progress) (deques : List Deque) (m : Moment) : Type 0 where
   pub progressed : Progressed m.setting.plan (after_of m.state j) (fresh_of m.state j) progress
   pub dequed : Dequed deques (set m.state.deques w (above_of m.setting.plan m.state w j))
 
-pub record Settling (k j w weighs : ℕ) (plan progress deques : List ℕ) (m : Moment) : Type 0 where
+pub record Settling (k j w weighs : ℕ) (plan : Sheet) (progress : Progress) (deques : List Deque) (m : Moment) : Type 0 where
   pub held : Held k j w plan m
   pub weighed : weighs ≡ weight m.setting.plan m.state.next
   pub sent : Sent j w progress deques m
   pub none : (action m.setting.plan j (next_of m.state j)).spawn ≡ 0
 
-pub record After (w : ℕ) (after : Turned) (progress deques : List ℕ) (p : Plan) (t : State) : Type 0 where
+pub record After (w : ℕ) (after : Turned) (progress : Progress) (deques : List Deque) (p : Plan) (t : State) : Type 0 where
   pub worker : after.worker ≡ worker_of t w
   pub weighed : after.weight ≡ weight p t.next
   pub progressed : Progressed p t.next t.spent progress
   pub dequed : Dequed deques t.deques
 
-abbrev pub Acted : ℕ → ℕ → Turned → List ℕ → List ℕ → Moment → Type 0
+abbrev pub Acted : ℕ → ℕ → Turned → Progress → List Deque → Moment → Type 0
 Acted j w after progress deques m =
     After w after progress deques m.setting.plan (finished m.setting.plan m.round w j m.state)
 
-pub record Turning (x : Worker) (r w weighs : ℕ) (plan progress deques rows : List ℕ) (m : Moment) : Type 0 where
+pub record Turning (x : Worker) (r w weighs : ℕ) (plan : Sheet) (progress : Progress) (deques : List Deque) (rows : List ℕ) (m : Moment) : Type 0 where
   pub run : At (turning w) m
   pub now_in : r ≡ m.round
   pub known : w < m.setting.workers
@@ -94,6 +97,6 @@ pub record Turning (x : Worker) (r w weighs : ℕ) (plan progress deques rows : 
   pub dequed : Dequed deques m.state.deques
   pub rowed : Rowed m.setting.plan m.state.next m.state.rows rows
 
-pub record TurnTaken (x : Worker) (w : ℕ) (after : Turned) (progress deques rows : List ℕ) (m : Moment) : Type 0 where
+pub record TurnTaken (x : Worker) (w : ℕ) (after : Turned) (progress : Progress) (deques : List Deque) (rows : List ℕ) (m : Moment) : Type 0 where
   pub left : After w after progress deques m.setting.plan (turn_of m.setting.plan m.round w x m.state)
   pub rowed : let t = turn_of m.setting.plan m.round w x m.state in Rowed m.setting.plan t.next t.rows rows

@@ -2,8 +2,8 @@
 ghost use Rattle.plan.specs.Contract.{Some, ◌⇒◌};
 ghost use Rattle.turns.specs.Finish.{Finishing, Finished};
 
-use crate::progress::{Progress, count_done, done_of, take_join};
-use plan::sheet::{Sheet, first_of, parent_of, target_at};
+use crate::progress::Progress;
+use plan::sheet::Sheet;
 
 // Counts the action at place k, the next one of job j, and sends its join: whether that was the last one missing to the parent's next
 // action.
@@ -11,14 +11,14 @@ pub fn finish(k: usize, j: usize, plan: &Sheet, progress: &mut Progress) -> bool
     requires { Some (Finishing k j plan.now progress.old) }
     ensures { Finishing k j plan.now progress.old ⇒ Finished j result progress.new }
 {
-    count_done(progress, j);
-    let sent = target_at(plan, k);
+    progress.count_done(j);
+    let sent = plan.target_at(k);
     if sent == 0 {
         return false;
     }
-    let q = parent_of(plan, j);
-    if take_join(progress, first_of(plan, q) + (sent - 1)) != 0 {
+    let q = plan.parent_of(j);
+    if progress.take_join(plan.first_of(q) + (sent - 1)) != 0 {
         return false;
     }
-    done_of(progress, q) == sent - 1
+    progress.done_of(q) == sent - 1
 }

@@ -3,10 +3,10 @@ ghost use Rattle.plan.specs.Contract.{Some, ◌⇒◌};
 ghost use Rattle.turns.specs.Moments.{Sending, Acting, Sent, Settling, Acted, Turning, TurnTaken};
 
 use crate::finish::finish;
-use crate::progress::{Progress, done_of, missing_at, spend};
-use crate::rows::{Rows, set_row};
-use deques::{Deques, push, take_bottom};
-use plan::sheet::{Sheet, child_at, first_of, frame_of, parent_of};
+use crate::progress::Progress;
+use crate::rows::{Rows, row};
+use deques::Deques;
+use plan::sheet::Sheet;
 use runs::worker::Worker;
 
 // What a turn leaves of the worker, and the weight of the living frames after it.
@@ -24,7 +24,7 @@ fn send(k: usize, j: usize, w: usize, plan: &Sheet, progress: &mut Progress, deq
         ⇒ Sent j w progress.new deques.new }
 {
     if finish(k, j, plan, progress) {
-        push(deques, w, parent_of(plan, j) as u8);
+        deques[w].push(plan.parent_of(j) as u8);
     }
 }
 
@@ -42,20 +42,20 @@ fn settle(
     ensures { Settling k j w weight plan.now progress.now deques.old
         ⇒ Acted j w result progress.now deques.new }
 {
-    if k + 1 == first_of(plan, j + 1) {
+    if k + 1 == plan.first_of(j + 1) {
         return Turned {
-            worker: take_bottom(deques, w),
-            weight: weight - frame_of(plan, j),
+            worker: deques[w].take_bottom(),
+            weight: weight - plan.frame_of(j),
         };
     }
-    if missing_at(progress, k + 1) == 0 {
+    if progress.missing_at(k + 1) == 0 {
         return Turned {
             worker: Worker::Holding(j as u8),
             weight,
         };
     }
     Turned {
-        worker: take_bottom(deques, w),
+        worker: deques[w].take_bottom(),
         weight,
     }
 }
@@ -75,19 +75,21 @@ fn act(
         ⇒ Acted j w result progress.new deques.new }
 {
     send(k, j, w, plan, progress, deques);
-    let child = child_at(plan, k);
+    let child = plan.child_at(k);
     if child == 0 {
         return settle(k, j, w, weight, plan, progress, deques);
     }
     // 2. The spawner goes on the bottom and the worker holds the child.
-    push(deques, w, j as u8);
+    deques[w].push(j as u8);
     Turned {
         worker: Worker::Holding((child - 1) as u8),
-        weight: weight + frame_of(plan, child - 1),
+        weight: weight + plan.frame_of(child - 1),
     }
 }
 
 // The turn of worker w, which holds a job.
+// Progress, deques and rows stay apart, for one struct of them makes no contract shorter: `finish` takes the progress alone, `settle`
+// only reads it, a run from a pool has no deques, and the rows are lent to the run.
 pub fn turn(
     worker: Worker,
     round: usize,
@@ -107,10 +109,10 @@ pub fn turn(
         return Turned { worker, weight };
     };
     let j = usize::from(held);
-    let k = first_of(plan, j) + done_of(progress, j);
-    if spend(progress, j, k, plan) {
+    let k = plan.first_of(j) + progress.done_of(j);
+    if progress.spend(j, k, plan) {
         return Turned { worker, weight };
     }
-    set_row(rows, k, round, w);
+    rows[k] = row(round, w);
     act(k, j, w, weight, plan, progress, deques)
 }

@@ -1,15 +1,15 @@
 -- What is known where a worker is about to act: the plan, the state, the job and its action.
 --   held_sound, held_act            == the state is sound; the action, as the theory of lines has it
 --   held_job, held_room             == the job has an action left, and its number and place are small
---   held_target, held_spawn, held_cost == what the action sends and spawns, and its cost, from the plan's array
+--   held_target, held_spawn, held_cost == what the action sends and spawns, and its cost, from the plan
 --   held_unpaid                     == it has rounds left, and takes few
 --   held_next                       == how many of its actions are done after it
 use Prim.Native.Nat.{ℕ, suc, ◌≤◌, ◌<◌}
 use mathlib.Core.Path.{◌≡◌}
-use mathlib.Core.List.{List}
 use native.Mathlib.Omega.{arith}
 use lib.ListN.{length, get_or}
 use Rattle.plan.specs.Plan.{Plan, size, action, total, spawn_at, parent}
+use Rattle.plan.specs.declared.sheet.Sheet.{Sheet}
 use Rattle.plan.specs.Sheet.{target_at, child_at, cost_at}
 use Rattle.plan.proofs.Laws.Laid.{laid_target, laid_child, laid_cost}
 use Rattle.plan.proofs.Laws.Placed.{place_below}
@@ -25,7 +25,7 @@ use Rattle.lines.proofs.Laws.Act.{Act}
 use Rattle.turns.proofs.Laws.Running.{run_sound, run_fit}
 use Rattle.plan.proofs.Laws.Spawning.{cost_in_range_lem}
 
-module _ {k j w : ℕ} {plan : List ℕ} {m : Moment} (a : Held k j w plan m) where
+module _ {k j w : ℕ} {plan : Sheet} {m : Moment} (a : Held k j w plan m) where
   abbrev p : Plan
   p = m.setting.plan
 

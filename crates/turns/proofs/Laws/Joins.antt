@@ -9,7 +9,6 @@ use Prim.Native.Nat.{ℕ, suc, ◌+◌, ◌-◌, ◌≤◌, ◌<◌}
 use mathlib.Core.Path.{◌≡◌, refl, ap, ap₂, sym, ◌∙◌}
 use mathlib.Core.Logic.{◌≢◌, by_cases}
 use mathlib.Core.Bool.{false}
-use mathlib.Core.List.{List}
 use native.Mathlib.Omega.{arith}
 use native.Mathlib.Decide.{ℕ_discrete}
 use lib.Dec.{T, eqb, eqb→eq, eqb_refl}
@@ -17,6 +16,7 @@ use lib.ListN.{length, get_or, length-set}
 use lib.Seq.{get_or-set_same, get_or-set_other}
 use Rattle.plan.specs.Plan.{Plan, size, action, total, parent}
 use Rattle.plan.specs.Rules.{Accepted}
+use Rattle.plan.specs.declared.sheet.Sheet.{Sheet}
 use Rattle.plan.specs.Sheet.{first_of, target_at, parent_of}
 use Rattle.plan.proofs.Laws.Counts.{equal_tests}
 use Rattle.plan.proofs.Laws.Laid.{laid_target}
@@ -30,10 +30,11 @@ use Rattle.lines.proofs.Laws.Act.{Wakes}
 use Rattle.runs.specs.Turn.{wakes}
 use Rattle.runs.proofs.Laws.Waking.{woken_is, woken_by}
 use Rattle.turns.specs.Finish.{Deed, done_in, after_in, Finishing, Finished}
-use Rattle.turns.specs.Progress.{done_of, with_done, missing_at, with_missing, missing_to, Progressed, spent_at}
+use Rattle.turns.specs.declared.progress.Progress.{Progress}
+use Rattle.turns.specs.Progress.{done_of, with_done, missing_at, with_missing, missing_to, Sized, Progressed, spent_at}
 use Rattle.turns.proofs.Laws.Missing.{missing_none, missing_no, missing_sent, missing_kept}
 
-module _ {k j : ℕ} {plan progress : List ℕ} {d : Deed} (g : Finishing k j plan progress d) where
+module _ {k j : ℕ} {plan : Sheet} {progress : Progress} {d : Deed} (g : Finishing k j plan progress d) where
   abbrev p : Plan
   p = d.plan
 
@@ -69,23 +70,22 @@ module _ {k j : ℕ} {plan progress : List ℕ} {d : Deed} (g : Finishing k j pl
   kept = missing_kept p ok d.next (after_in d j) j i finish_job.0 finish_job.1 refl g.act.acts g.act.others
 
   -- the action is counted
-  module _ {counted : List ℕ} (is : counted ≡ with_done progress j) where
-    long : length counted ≡ 2560
-    long = rw is (length-set progress j _ ∙ g.progressed.long)
+  module _ {counted : Progress} (is : counted ≡ with_done progress j) where
+    sized : Sized counted
+    sized = let t = g.progressed.sized in rw is (record { done = length-set _ _ _ ∙ t.done; spent = t.spent; missing = t.missing })
 
     done : (h : ℕ) → h < length p → done_of counted h ≡ get_or (after_in d j) h 0
     done h l =
         rw is (by_cases (ℕ_discrete h j)
-        (λ e. rw (e, get_or-set_same progress j (done_of progress j + 1) 0 (omega (arith, g.progressed.long, finish_room)))
+        (λ e. rw (e, get_or-set_same progress.done j (done_of progress j + 1) 0 (omega (arith, g.progressed.sized.done, finish_room)))
         (omega (arith, g.act.acts, g.progressed.counts j finish_job.0)))
-        (λ f. get_or-set_other progress j h _ 0 f ∙ (g.progressed.counts h l ∙ sym (g.act.others h f))))
+        (λ f. get_or-set_other progress.done j h _ 0 f ∙ (g.progressed.counts h l ∙ sym (g.act.others h f))))
 
     spends : (h : ℕ) → h < length p → spent_at counted h ≡ get_or d.spent h 0
-    spends h l = rw is (get_or-set_other progress j (256 + h) _ 0 (λ e. omega (arith, finish_room)) ∙ g.progressed.spends h l)
+    spends h l = rw is (g.progressed.spends h l)
 
     misses : (h x : ℕ) → h < length p → x < size p h → missing_at counted (place p h x) ≡ missing_to p d.next h x
-    misses h x l b =
-        rw is (get_or-set_other progress j (512 + place p h x) _ 0 (λ e. omega (arith, finish_room)) ∙ g.progressed.misses h x l b)
+    misses h x l b = rw is (g.progressed.misses h x l b)
 
     -- the action sends no join
     pub finish_skips : target_at plan k ≡ 0 → Finished j false counted d
@@ -94,7 +94,7 @@ module _ {k j : ℕ} {plan progress : List ℕ} {d : Deed} (g : Finishing k j pl
         let z : (action p j i).join ≡ 0 = sym target_is ∙ e in
         record {
           progressed = record {
-            long = long;
+            sized = sized;
             counts = done;
             spends = spends;
             misses = λ h x l b. misses h x l b ∙ sym (kept h x (λ t. omega (arith, t.1)));
@@ -139,25 +139,22 @@ module _ {k j : ℕ} {plan progress : List ℕ} {d : Deed} (g : Finishing k j pl
           λ z. omega (arith, sent_misses),
         )
 
-        module _ {left : ℕ} {after : List ℕ} (v : (left ≡ missing_at counted at - 1) × (after ≡ with_missing counted at left)) where
+        module _ {left : ℕ} {after : Progress} (v : (left ≡ missing_at counted at - 1) × (after ≡ with_missing counted at left)) where
           sent_progress : Progressed p (after_in d j) d.spent after
           sent_progress = record {
-            long = rw v.1 (length-set counted _ _ ∙ long);
-            counts = λ h l. rw v.1 (get_or-set_other counted (512 + at) h left 0 (λ x. omega (arith, below h l)) ∙ done h l);
-            spends = λ h l. rw v.1 (get_or-set_other counted (512 + at) (256 + h) left 0 (λ x. omega (arith, below h l)) ∙ spends h l);
+            sized = rw v.1 (record { done = sized.done; spent = sized.spent; missing = length-set _ _ _ ∙ sized.missing });
+            counts = λ h l. rw v.1 (done h l);
+            spends = λ h l. rw v.1 (spends h l);
             misses = λ h x l b. rw v.1 (by_cases (ℕ_discrete (place p h x) at) (there h x l b) (λ y.
-                get_or-set_other counted (512 + at) (512 + place p h x) left 0 (λ z. y (omega arith))
+                get_or-set_other counted.missing at (place p h x) left 0 y
                 ∙ (misses h x l b ∙ sym (kept h x (λ c. y (same h x c ∙ sym is_place))))));
           }
             where
-              below : (h : ℕ) → h < length p → h < 256
-              below h l = omega (arith, jobs_range p ok)
-
               there : (h x : ℕ) → h < length p → x < size p h → place p h x ≡ at
                   → missing_at (with_missing counted at left) (place p h x) ≡ missing_to p (after_in d j) h x
               there h x l b y =
                   let (c, z) = place_apart p h x (parent p j) (sent - 1) l b target.3 target.1 (y ∙ is_place) in
-                  rw y (get_or-set_same counted (512 + at) left 0 (omega (arith, long, finish_place.0))
+                  rw y (get_or-set_same counted.missing at left 0 (omega (arith, sized.missing, finish_place.0))
                   ∙ (omega (arith, sent_misses) ∙ sym (ap₂ (missing_to p (after_in d j)) c z)))
 
               same : (h x : ℕ) → (h ≡ parent p j) × ((action p j i).join ≡ suc x) → place p h x ≡ place p (parent p j) (sent - 1)

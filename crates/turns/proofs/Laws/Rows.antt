@@ -6,7 +6,7 @@
 --   turning_room                 == that job's next action stands where the arrays say, within the rows, and has rounds left
 --   turning_goes                 == a round was spent on it, and it goes on
 --   turning_acting, turning_taken == it was its last round; the row is written and the action done
-use Prim.Native.Nat.{ℕ, ◌+◌, ◌*◌, ◌≤◌, ◌<◌, suc}
+use Prim.Native.Nat.{ℕ, ◌+◌, ◌≤◌, ◌<◌, suc}
 use mathlib.Core.Path.{◌≡◌, refl, ap, sym, ◌∙◌}
 use mathlib.Core.Logic.{◌≢◌, ⊎_elim, by_cases}
 use mathlib.Core.Bool.{true, Bool, false}
@@ -18,6 +18,7 @@ use lib.ListN.{length, length-set, set}
 use lib.Seq.{get_or-set_same, get_or-set_other}
 use Rattle.plan.specs.Plan.{Plan, size}
 use Rattle.plan.specs.Rules.{Accepted}
+use Rattle.plan.specs.declared.sheet.Sheet.{Sheet}
 use Rattle.plan.specs.Sheet.{first_of, cost_at}
 use Rattle.courses.specs.Row.{place}
 use Rattle.runs.specs.declared.worker.Worker.{Worker}
@@ -25,8 +26,10 @@ use Rattle.runs.specs.declared.worker.Worker.TheVariants.{Idle, Holding, Waiting
 use Rattle.runs.specs.State.{State, next_of, holds, spent_of, worker_of}
 use Rattle.runs.specs.Turn.{turn_of, worked, finished}
 use Rattle.turns.specs.declared.turn.Turned.{Turned}
+use Rattle.deques.specs.declared.Deque.{Deque}
+use Rattle.turns.specs.declared.progress.Progress.{Progress}
 use Rattle.turns.specs.Progress.{done_of, spent_at, with_spent, Spent, Progressed}
-use Rattle.turns.specs.Rows.{with_row, Rowed}
+use Rattle.turns.specs.Rows.{word, with_row, Rowed}
 use Rattle.turns.specs.Moments.{Moment, Acting, Acted, Turning, TurnTaken, Held}
 use Rattle.courses.proofs.Laws.Course.{Core, next_in, place_apart, Acts, acted}
 use Rattle.runs.proofs.Laws.Coursed.{turn_ends}
@@ -42,11 +45,11 @@ pub acts_rowed : {p : Plan} {r w j : ℕ} {c c' : Core} {rows : List ℕ} → Ac
     → ((h : ℕ) → h < length p → next_in c h ≤ size p h) → place p j (next_in c j) < 2048 → Rowed p c.next c.rows rows
     → Rowed p c'.next c'.rows (with_row rows (place p j (next_in c j)) r w)
 acts_rowed {p} {r} {w} {j} {c} {c'} {rows} a bound within rowed = record {
-  long = length-set rows k (16 * r + w) ∙ rowed.long;
+  long = length-set rows k (word r w) ∙ rowed.long;
   each = λ h i l b.
       ⊎_elim
-      (λ e. rw (e.0, e.1, a.writes) (get_or-set_same rows k (16 * r + w) 0 (omega (arith, rowed.long))))
-      (λ e. rw e.1 (get_or-set_other rows k (place p h i) (16 * r + w) 0 (apart h i l e.0) ∙ rowed.each h i l e.0))
+      (λ e. rw (e.0, e.1, a.writes) (get_or-set_same rows k (word r w) 0 (omega (arith, rowed.long))))
+      (λ e. rw e.1 (get_or-set_other rows k (place p h i) (word r w) 0 (apart h i l e.0) ∙ rowed.each h i l e.0))
       (acted a bound h i l b);
 }
   where
@@ -59,21 +62,17 @@ acts_rowed {p} {r} {w} {j} {c} {c'} {rows} a bound within rowed = record {
         omega (arith, ap (next_in c) q.0, q.1)
 
 -- the progress where so many rounds are spent on job y's next action
-pub spent_progressed : {p : Plan} → Accepted p → {next spent progress : List ℕ} → Progressed p next spent progress → length spent ≡ length p
-    → {y : ℕ} → y < length p → (n : ℕ) → Progressed p next (set spent y n) (with_spent progress y n)
-spent_progressed {p} ok {next} {spent} {progress} g long {y} known n = record {
-  long = length-set progress (256 + y) n ∙ g.long;
-  counts = λ h l. get_or-set_other progress (256 + y) h n 0 (λ q. omega (arith, below h l)) ∙ g.counts h l;
+pub spent_progressed : {p : Plan} {next spent : List ℕ} {progress : Progress} → Accepted p → Progressed p next spent progress
+    → length spent ≡ length p → {y : ℕ} → y < length p → (n : ℕ) → Progressed p next (set spent y n) (with_spent progress y n)
+spent_progressed {p} {next} {spent} {progress} ok g long {y} known n = record {
+  sized = record { done = g.sized.done; spent = length-set progress.spent y n ∙ g.sized.spent; missing = g.sized.missing };
+  counts = g.counts;
   spends = λ h l. by_cases (ℕ_discrete h y)
-      (λ q. rw q (get_or-set_same progress (256 + y) n 0 (omega (arith, g.long, below y known))
+      (λ q. rw q (get_or-set_same progress.spent y n 0 (omega (arith, g.sized.spent, jobs_range p ok))
       ∙ sym (get_or-set_same spent y n 0 (omega arith))))
-      (λ f. get_or-set_other progress (256 + y) (256 + h) n 0 (λ q. f (omega arith))
-      ∙ (g.spends h l ∙ sym (get_or-set_other spent y h n 0 f)));
-  misses = λ h i l b. get_or-set_other progress (256 + y) (512 + place p h i) n 0 (λ q. omega (arith, below y known)) ∙ g.misses h i l b;
+      (λ f. get_or-set_other progress.spent y h n 0 f ∙ (g.spends h l ∙ sym (get_or-set_other spent y h n 0 f)));
+  misses = g.misses;
 }
-  where
-    below : (h : ℕ) → h < length p → h < 256
-    below h l = omega (arith, jobs_range p ok)
 
 -- the tag of a worker that holds a job
 pub held_tag : (x : Worker) → holds x ≡ true → tag_of the_type x ≡ 1
@@ -86,7 +85,7 @@ held_some Idle e none = cc
 held_some (Holding j) e none = none j refl
 held_some (Waiting v l) e none = cc
 
-module _ {x : Worker} {r w weighs : ℕ} {plan progress deques rows : List ℕ} {m : Moment}
+module _ {x : Worker} {r w weighs : ℕ} {plan : Sheet} {progress : Progress} {deques : List Deque} {rows : List ℕ} {m : Moment}
     (t : Turning x r w weighs plan progress deques rows m) where
   pub turning_tag : tag_of the_type x ≡ 1
   turning_tag = held_tag x t.holding
@@ -127,8 +126,8 @@ module _ {x : Worker} {r w weighs : ℕ} {plan progress deques rows : List ℕ} 
       turning_room = omega (arith, held_room held, held_unpaid held, spends)
 
       -- a round was spent on the action, of which `more` tells whether it goes on
-      module _ {more : Bool} {progress' : List ℕ} (spent : Spent y (f + d) plan progress more progress') where
-        -- the array after it, where so many rounds are spent on the job's next action
+      module _ {more : Bool} {progress' : Progress} (spent : Spent y (f + d) plan progress more progress') where
+        -- the progress after it, where so many rounds are spent on the job's next action
         spent_progress : (n : ℕ) → progress' ≡ with_spent progress y n → Progressed p s.next (set s.spent y n) progress'
         spent_progress n eq = rw eq (spent_progressed t.planned.rules t.progressed (held_sound held).spents (held_job held).0 n)
 
@@ -162,7 +161,7 @@ module _ {x : Worker} {r w weighs : ℕ} {plan progress deques rows : List ℕ} 
             weighed = t.weighed;
           }
 
-          pub turning_taken : {after : Turned} {progress'' deques' : List ℕ} → Acted y w after progress'' deques' m
+          pub turning_taken : {after : Turned} {progress'' : Progress} {deques' : List Deque} → Acted y w after progress'' deques' m
               → TurnTaken x w after progress'' deques' (with_row rows (f + d) r w) m
           unfolding turn_of
           turning_taken left =

@@ -12,6 +12,7 @@ use lib.Dec.{T}
 use lib.Seq.{set-get_or}
 use Rattle.plan.specs.Plan.{Plan, parent}
 use Rattle.plan.specs.Rules.{Accepted}
+use Rattle.plan.specs.declared.sheet.Sheet.{Sheet}
 use Rattle.plan.specs.Sheet.{parent_of}
 use Rattle.plan.proofs.Laws.Lists.{of_true}
 use Rattle.plan.proofs.Laws.Valid.{older}
@@ -20,7 +21,9 @@ use Rattle.courses.proofs.Laws.PlanShape.{shape_valid}
 use Rattle.runs.specs.State.{State, next_of, deque_of}
 use Rattle.runs.specs.Turn.{wakes}
 use Rattle.runs.proofs.Laws.TurnSound.{wakes_is, wakes_empty}
+use Rattle.deques.specs.declared.Deque.{Deque}
 use Rattle.deques.specs.Dequed.{Pushing, Pushed}
+use Rattle.turns.specs.declared.progress.Progress.{Progress}
 use Rattle.turns.specs.Finish.{Deed, Finishing, Finished}
 use Rattle.turns.specs.Moments.{Moment, Held, Sending, Sent, after_of, fresh_of}
 use Rattle.turns.proofs.Laws.Held.{held_sound, held_act, held_job, held_room}
@@ -28,7 +31,7 @@ use Rattle.turns.proofs.Laws.Held.{held_sound, held_act, held_job, held_room}
 abbrev pub deed_of : Moment → ℕ → Deed
 deed_of m j = record { plan = m.setting.plan; next = m.state.next; spent = fresh_of m.state j }
 
-module _ {k j w : ℕ} {plan progress deques : List ℕ} {m : Moment} (g : Sending k j w plan progress deques m) where
+module _ {k j w : ℕ} {plan : Sheet} {progress : Progress} {deques : List Deque} {m : Moment} (g : Sending k j w plan progress deques m) where
   abbrev p : Plan
   p = m.setting.plan
 
@@ -49,7 +52,7 @@ module _ {k j w : ℕ} {plan progress deques : List ℕ} {m : Moment} (g : Sendi
     progressed = g.progressed;
   }
 
-  module _ {woken : Bool} {progress' : List ℕ} (d : Finished j woken progress' (deed_of m j)) where
+  module _ {woken : Bool} {progress' : Progress} (d : Finished j woken progress' (deed_of m j)) where
     pub send_still : woken ≡ false → Sent j w progress' deques m
     send_still e =
         let f : wakes p s.next (after_of s j) j (next_of s j) ≡ false = sym d.told ∙ e in
@@ -78,7 +81,7 @@ module _ {k j w : ℕ} {plan progress deques : List ℕ} {m : Moment} (g : Sendi
               below = λ y d c. let z : ◌≡◌ {A = ℕ} 0 1 = cc in absurd (omega arith);
             }
 
-        pub send_wakes : {deques' : List ℕ} → (Pushing w q deques s.deques → Pushed w q deques' s.deques) → Sent j w progress' deques' m
+        pub send_wakes : {deques' : List Deque} → (Pushing w q deques s.deques → Pushed w q deques' s.deques) → Sent j w progress' deques' m
         send_wakes b =
             let c : wakes p s.next (after_of s j) j (next_of s j) ≡ true = sym d.told ∙ e in
             let z : q ≡ parent p j = raised.1 q i in

@@ -16,6 +16,7 @@ use lib.Seq.{get_or-set_same, set-set}
 use Rattle.plan.specs.Test.{both}
 use Rattle.plan.specs.Plan.{Plan, size, action, parent}
 use Rattle.plan.specs.Rules.{Accepted}
+use Rattle.plan.specs.declared.sheet.Sheet.{Sheet}
 use Rattle.plan.specs.Sheet.{frame_of, first_of, child_at}
 use Rattle.plan.proofs.Laws.Lists.{both_intro, both_left, both_right, true_of, false_of}
 use Rattle.plan.proofs.Laws.Laid.{laid_end}
@@ -27,7 +28,9 @@ use Rattle.courses.specs.Row.{place}
 use Rattle.courses.specs.Ready.{ready, weight}
 use Rattle.runs.specs.Turn.{wakes, woken, Seat, take_bottom, finished}
 use Rattle.turns.specs.declared.turn.Turned.{Turned}
+use Rattle.deques.specs.declared.Deque.{Deque}
 use Rattle.deques.specs.Dequed.{Dequed, Pushing, Pushed, TookBottom}
+use Rattle.turns.specs.declared.progress.Progress.{Progress}
 use Rattle.turns.specs.Progress.{missing_at, missing_to, Progressed}
 use Rattle.turns.specs.Moments.{Moment, Held, Acting, Sent, Settling, Acted, after_of, above_of, fresh_of}
 use Rattle.lines.proofs.Laws.Shape.{Chain}
@@ -42,7 +45,7 @@ use Rattle.turns.proofs.Laws.Held.{held_sound, held_act, held_job, held_room, he
 abbrev pub aboves : ℕ → ℕ → Moment → List (List ℕ)
 aboves j w m = set m.state.deques w (above_of m.setting.plan m.state w j)
 
-module _ {k j w : ℕ} {plan : List ℕ} {m : Moment} (a : Held k j w plan m) where
+module _ {k j w : ℕ} {plan : Sheet} {m : Moment} (a : Held k j w plan m) where
   abbrev p : Plan
   p = m.setting.plan
 
@@ -56,7 +59,7 @@ module _ {k j w : ℕ} {plan : List ℕ} {m : Moment} (a : Held k j w plan m) wh
   stored = omega (arith, (held_sound a).deques, held_room a)
 
   -- what was acted, from the seat that the rules leave
-  seated : (seat : Seat) → seat_of p s w j ≡ seat → (x : Turned) {progress deques : List ℕ} → x.worker ≡ seat.worker
+  seated : (seat : Seat) → seat_of p s w j ≡ seat → (x : Turned) {progress : Progress} {deques : List Deque} → x.worker ≡ seat.worker
       → x.weight ≡ weight p (after_of s j) → Progressed p (after_of s j) (fresh_of s j) progress → Dequed deques (set s.deques w seat.deque)
       → Acted j w x progress deques m
   unfolding finished
@@ -89,12 +92,12 @@ module _ {k j w : ℕ} {plan : List ℕ} {m : Moment} (a : Held k j w plan m) wh
       go false y q = found_low x d q
 
 -- the worker is about to act
-module _ {k j w weighs : ℕ} {plan progress deques : List ℕ} {m : Moment} (g : Acting k j w weighs plan progress deques m) where
+module _ {k j w weighs : ℕ} {plan : Sheet} {progress : Progress} {deques : List Deque} {m : Moment} (g : Acting k j w weighs plan progress deques m) where
   abbrev a : Held k j w plan m
   a = g.sending.held
 
   -- rule 3 comes next
-  pub act_settles : {progress' deques' : List ℕ} (x : ℕ) → x ≡ child_at plan k → x ≡ 0 → Sent j w progress' deques' m
+  pub act_settles : {progress' : Progress} {deques' : List Deque} (x : ℕ) → x ≡ child_at plan k → x ≡ 0 → Sent j w progress' deques' m
       → Settling k j w weighs plan progress' deques' m
   act_settles x e z sent = record { held = a; weighed = g.weighed; sent = sent; none = sym (held_spawn a) ∙ (sym e ∙ z) }
 
@@ -109,7 +112,7 @@ module _ {k j w weighs : ℕ} {plan progress deques : List ℕ} {m : Moment} (g 
         omega (arith, jobs_range (p a) (ok a), older (p a) (ok a) c o b)
 
     -- the spawner goes on the bottom
-    pub act_pushing : {progress' deques' : List ℕ} → Sent j w progress' deques' m → Pushing w j deques' (aboves j w m)
+    pub act_pushing : {progress' : Progress} {deques' : List Deque} → Sent j w progress' deques' m → Pushing w j deques' (aboves j w m)
     act_pushing sent = record {
       dequed = sent.dequed;
       known = (held_room a).4;
@@ -123,7 +126,7 @@ module _ {k j w weighs : ℕ} {plan progress deques : List ℕ} {m : Moment} (g 
         let z = act_child.0 in
         omega (arith, g.weighed, weight_small (p a) (ok a) (s a).next, a.planned.laid.frames c z, frame_range (p a) (ok a) c z)
 
-    pub act_spawns : (t : Turned) {progress' deques' deques'' : List ℕ} → t.worker ≡ Holding c → t.weight ≡ weighs + frame_of plan c
+    pub act_spawns : (t : Turned) {progress' : Progress} {deques' deques'' : List Deque} → t.worker ≡ Holding c → t.weight ≡ weighs + frame_of plan c
         → Sent j w progress' deques' m → Pushed w j deques'' (aboves j w m) → Acted j w t progress' deques'' m
     act_spawns t h z sent d =
         let above = above_of (p a) (s a) w j in
@@ -133,7 +136,7 @@ module _ {k j w weighs : ℕ} {plan progress deques : List ℕ} {m : Moment} (g 
         sent.progressed (rw (set-set, get_or-set_same (s a).deques w above [] (stored a)) at d)
 
 -- 3. it spawns none
-module _ {k j w weighs : ℕ} {plan progress deques : List ℕ} {m : Moment} (g : Settling k j w weighs plan progress deques m) where
+module _ {k j w weighs : ℕ} {plan : Sheet} {progress : Progress} {deques : List Deque} {m : Moment} (g : Settling k j w weighs plan progress deques m) where
   abbrev p' : Plan
   p' = m.setting.plan
 
@@ -153,7 +156,7 @@ module _ {k j w weighs : ℕ} {plan progress deques : List ℕ} {m : Moment} (g 
   stays : seat_of p' s' w j ≡ stay goes j (above_of p' s' w j)
   stays = seat_none p' (after_of s' j) j (next_of s' j) (above_of p' s' w j) g.none
 
-  takes : (T goes → ⊥) → (x : Turned) {deques' : List ℕ}
+  takes : (T goes → ⊥) → (x : Turned) {deques' : List Deque}
       → x.weight ≡ weight p' (after_of s' j) → TookBottom w x.worker deques' (aboves j w m) → Acted j w x progress deques' m
   takes f x z (v, d) =
       let e = get_or-set_same s'.deques w (above_of p' s' w j) [] (stored g.held) in
@@ -172,7 +175,7 @@ module _ {k j w weighs : ℕ} {plan progress deques : List ℕ} {m : Moment} (g 
     pub settle_lighter : frame_of plan j ≤ weighs
     settle_lighter = omega (arith, lighter)
 
-    pub settle_ends : (x : Turned) {deques' : List ℕ} → x.weight ≡ weighs - frame_of plan j
+    pub settle_ends : (x : Turned) {deques' : List Deque} → x.weight ≡ weighs - frame_of plan j
         → TookBottom w x.worker deques' (aboves j w m) → Acted j w x progress deques' m
     settle_ends x z =
         takes (λ t. omega (arith, last, ltb→lt (suc (next_of s' j)) (size p' j) (both_left (ltb (suc (next_of s' j)) (size p' j)) _ t))) x
@@ -206,7 +209,7 @@ module _ {k j w weighs : ℕ} {plan progress deques : List ℕ} {m : Moment} (g 
         (stays ∙ ap (λ c. stay c j (above_of p' s' w j)) (true_of goes t)) x v (z ∙ same_weight) g.sent.progressed g.sent.dequed
 
     -- or not
-    pub settle_stalls : missing_at progress (k + 1) ≢ 0 → (x : Turned) {deques' : List ℕ} → x.weight ≡ weighs
+    pub settle_stalls : missing_at progress (k + 1) ≢ 0 → (x : Turned) {deques' : List Deque} → x.weight ≡ weighs
         → TookBottom w x.worker deques' (aboves j w m) → Acted j w x progress deques' m
     settle_stalls e x z =
         takes (λ t. e (misses ∙ rw (held_next g.held) at (ready_missing p' g.held.planned.rules (after_of s' j) j

@@ -3,6 +3,7 @@ use mathlib.Core.Path.{refl, sym, ◌∙◌}
 use native.Mathlib.Omega.{arith}
 use Rattle.turns.proofs.Laws.Held.{held_room}
 use Rattle.turns.proofs.Laws.Settling.{settle_lighter, settle_ends, settle_room, settle_goes, settle_stalls}
+use Rattle.deques.proofs.Laws.Deques.{bottom_in}
 use Rattle.turns.proofs.turn.settle.Goals as goal
 
 pub overflow_add-k : goal.overflow_add-k
@@ -24,7 +25,7 @@ overflow_sub-result c =
 pub returns-then-k-first_of : goal.returns-then-k-first_of
 returns-then-k-first_of c m g =
     settle_ends g (c.if-k-first_of.true ∙ c.first_of.ensures.0) _ (omega (arith, c.frame_of.ensures))
-    (c.take_bottom.ensures _ g.sent.dequed)
+    (bottom_in g.sent.dequed (held_room g.held).4 (c.take_bottom.ensures _ (g.sent.dequed.holds _ (held_room g.held).4)))
 
 pub overflow_add-k-2 : goal.overflow_add-k-2
 overflow_add-k-2 c = omega (arith, held_room c.requires.1.held)
@@ -43,4 +44,4 @@ returns-then-missing_at-eq0 c m g =
 pub returns : goal.returns
 returns c m g =
     settle_stalls g (omega (arith, c.first_of.ensures)) (omega (arith, c.missing_at.ensures)) _ refl
-    (c.take_bottom-2.ensures _ g.sent.dequed)
+    (bottom_in g.sent.dequed (held_room g.held).4 (c.take_bottom-2.ensures _ (g.sent.dequed.holds _ (held_room g.held).4)))

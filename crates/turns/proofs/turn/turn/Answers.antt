@@ -14,12 +14,13 @@ returns-then-spend c m t =
     turning_goes t c.in-Holding.is c.from-j.ensures c.first_of.ensures.0
     c.done_of.ensures.0 c.spend.ensures c.if-spend.true _ (sym c.in-Holding.is) refl
 
-pub set_row-requires : goal.set_row-requires
-set_row-requires c =
-    let t = c.requires.1 in
-    let room = turning_room t c.in-Holding.is c.from-j.ensures c.first_of.ensures.0
-    c.done_of.ensures.0 in
-    omega (arith, turning_small t)
+pub row-requires : goal.row-requires
+row-requires c = omega (arith, turning_small c.requires.1)
+
+pub bounds-rows-k : goal.bounds-rows-k
+bounds-rows-k c =
+    let room = turning_room c.requires.1 c.in-Holding.is c.from-j.ensures c.first_of.ensures.0 c.done_of.ensures.0 in
+    room.1
 
 pub act-requires : goal.act-requires
 act-requires c = (
@@ -35,4 +36,4 @@ returns c m t =
     let at = c.first_of.ensures.0 in
     let so = c.done_of.ensures.0 in
     let act = c.act.ensures m (turning_acting t is job at so c.spend.ensures c.if-spend.false) in
-    rw c.set_row.ensures (turning_taken t is job at so c.spend.ensures c.if-spend.false act)
+    rw c.row.ensures (turning_taken t is job at so c.spend.ensures c.if-spend.false act)
