@@ -1,4 +1,4 @@
--- What holds of a turn over the runner's arrays, in named modules.
+-- What holds of a turn over the runner's objects, in named modules.
 pub mod Heirs
 pub mod Running
 pub mod Sending

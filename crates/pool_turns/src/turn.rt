@@ -5,12 +5,12 @@ ghost use Rattle.plan.specs.Plan.{action};
 ghost use Rattle.pool_turns.specs.Moments.{Acting, Sent, Weighed, Ending, Buried, Settling, Acted, Turning, TurnTaken};
 ghost use Rattle.pool_turns.specs.Moments.{Having, Leaving, cost_of};
 
-use plan::sheet::{Sheet, child_at, cost_at, first_of, frame_of, parent_of};
-use pool_set::{Pool, add, contains, gain_child, lose_child, remove};
+use plan::sheet::Sheet;
+use pool_set::Pool;
 use runs::worker::Worker;
 use turns::finish::finish;
-use turns::progress::{Progress, done_of, missing_at};
-use turns::rows::{Rows, set_row};
+use turns::progress::Progress;
+use turns::rows::{Rows, row};
 use turns::turn::Turned;
 
 // The action at place k, the next one of job j, is done and sends its join; a stalled parent that it wakes is ready in the pool.
@@ -19,7 +19,7 @@ fn send(k: usize, j: usize, plan: &Sheet, progress: &mut Progress, pool: &mut Po
     ensures { Acting k j plan.now progress.old pool.old ⇒ Sent j progress.new pool.new }
 {
     if finish(k, j, plan, progress) {
-        add(pool, parent_of(plan, j));
+        pool.add(plan.parent_of(j));
     }
 }
 
@@ -32,14 +32,14 @@ fn bury(j: usize, plan: &Sheet, pool: &mut Pool) -> Worker
     if j == 0 {
         return Worker::Idle;
     }
-    let q = parent_of(plan, j);
-    if !lose_child(pool, q) {
+    let q = plan.parent_of(j);
+    if !pool.lose_child(q) {
         return Worker::Idle;
     }
-    if !contains(pool, q) {
+    if !pool.contains(q) {
         return Worker::Idle;
     }
-    remove(pool, q);
+    pool.remove(q);
     Worker::Holding(q as u8)
 }
 
@@ -56,13 +56,13 @@ fn settle(
     ensures { Settling k j weight plan.now progress.now pool.old
         ⇒ Acted j result progress.now pool.new }
 {
-    if k + 1 == first_of(plan, j + 1) {
+    if k + 1 == plan.first_of(j + 1) {
         return Turned {
             worker: bury(j, plan, pool),
-            weight: weight - frame_of(plan, j),
+            weight: weight - plan.frame_of(j),
         };
     }
-    if missing_at(progress, k + 1) == 0 {
+    if progress.missing_at(k + 1) == 0 {
         return Turned {
             worker: Worker::Holding(j as u8),
             weight,
@@ -88,20 +88,22 @@ fn act(
         ⇒ Acted j result progress.new pool.new }
 {
     send(k, j, plan, progress, pool);
-    let child = child_at(plan, k);
+    let child = plan.child_at(k);
     if child == 0 {
         return settle(k, j, weight, plan, progress, pool);
     }
     // The spawner goes to the pool and its worker keeps the child.
-    add(pool, j);
-    gain_child(pool, j);
+    pool.add(j);
+    pool.gain_child(j);
     Turned {
         worker: Worker::Holding((child - 1) as u8),
-        weight: weight + frame_of(plan, child - 1),
+        weight: weight + plan.frame_of(child - 1),
     }
 }
 
 // The turn of worker w, which holds a job, in the last round of its action.
+// Progress, pool and rows stay apart, as in crate `turns`: `finish` takes the progress alone and `bury` the pool, `settle` only reads the
+// progress, and the rows are lent to the run, so that one struct of them makes no contract shorter.
 pub fn turn(
     worker: Worker,
     round: usize,
@@ -121,8 +123,8 @@ pub fn turn(
         return Turned { worker, weight };
     };
     let j = usize::from(held);
-    let k = first_of(plan, j) + done_of(progress, j);
-    set_row(rows, k, round, w);
+    let k = plan.first_of(j) + progress.done_of(j);
+    rows[k] = row(round, w);
     act(k, j, weight, plan, progress, pool)
 }
 
@@ -132,7 +134,7 @@ pub fn next_cost(j: usize, plan: &Sheet, progress: &Progress) -> usize
     ensures { Having j plan.now progress.now
         ⇒ (λ d. result ≡ (action d.plan j (get_or d.next j 0)).cost) }
 {
-    cost_at(plan, first_of(plan, j) + done_of(progress, j))
+    plan.cost_at(plan.first_of(j) + progress.done_of(j))
 }
 
 // How many rounds the next action of the job that a worker has takes, or 0 where it has none.

@@ -16,6 +16,7 @@ use borrow.Author.Tests.{eqb-true, eqb-false}
 use lib.Dec.{T, eqb}
 use lib.ListN.{length, get_or, set}
 use Rattle.plan.specs.Plan.{parent}
+use Rattle.plan.specs.declared.sheet.Sheet.{Sheet}
 use Rattle.plan.specs.Sheet.{parent_of}
 use Rattle.plan.proofs.Laws.Lists.{true_of, of_true}
 use Rattle.plan.proofs.Laws.Valid.{jobs_range, older}
@@ -29,6 +30,7 @@ use Rattle.pools.specs.Take.{waits}
 use Rattle.pools.specs.Turn.{heirless}
 use Rattle.pools.proofs.Laws.Passing.{hand_raised, hand_dead, heirless_is, heirless_by}
 use Rattle.pools.proofs.Laws.Tests.{Free, lone_is, lone_by, waits_is, waits_by}
+use Rattle.pool_set.specs.declared.Pool.{Pool}
 use Rattle.pool_set.specs.Pool.{pooled, children_of, Put, Counted}
 use Rattle.pool_turns.specs.Pooled.{heirs, Counts}
 use Rattle.pool_turns.specs.Moments.{Moment, Held, Ending, Buried}
@@ -36,7 +38,7 @@ use Rattle.pool_turns.proofs.Laws.Heirs.{heirs_lone, lone_heirs, heirs_end, heir
 use Rattle.pool_turns.proofs.Laws.Handing.{p, s, ws, i, after, ok, act, handed_self, handed_other, handed_none, held_none, between_pooled}
 use Rattle.pool_turns.proofs.Laws.Sending.{put_here, put_other}
 
-module _ {j : ℕ} {plan pool : List ℕ} {m : Moment} (g : Ending j plan pool m) where
+module _ {j : ℕ} {plan : Sheet} {pool : Pool} {m : Moment} (g : Ending j plan pool m) where
   abbrev a : Held g.place j plan m
   a = g.held
 
@@ -51,16 +53,16 @@ module _ {j : ℕ} {plan pool : List ℕ} {m : Moment} (g : Ending j plan pool m
   gone ws f = omega (arith, f.living.left, (act a).acts, g.last)
 
   -- the worker is idle
-  left : (T (heirless (p a) (after a) (ws a) j) → ⊥) → {pool' : List ℕ} → length pool' ≡ 260
+  left : (T (heirless (p a) (after a) (ws a) j) → ⊥) → {pool' : Pool}
       → ((x : ℕ) → x < 256 → pooled pool' x ≡ pooled pool x) → Counts (p a) (after a) pool' → Buried j Idle pool' m
-  left f long same counts = record {
+  left f same counts = record {
     worker = sym (hand_dead (p a) (after a) (ws a) j (i a) g.none g.last f);
-    pooled = between_pooled a g.between g.none Idle (λ x e. absurd (omega arith)) (handed_none a Idle (gone _)) long same counts;
+    pooled = between_pooled a g.between g.none Idle (λ x e. absurd (omega arith)) (handed_none a Idle (gone _)) same counts;
   }
 
   pub bury_root : j ≡ 0 → Buried j Idle pool m
   bury_root e =
-      left (λ t. omega (arith, (heirless_is (p a) (after a) (ws a) j (i a) t).0)) g.between.long (λ x h. refl)
+      left (λ t. omega (arith, (heirless_is (p a) (after a) (ws a) j (i a) t).0)) (λ x h. refl)
       (λ q h. g.between.counts q h
       ∙ sym (heirs_end_other (ok a) (s a).next (act a) g.none g.last q (λ o. absurd (omega arith))))
 
@@ -86,11 +88,11 @@ module _ {j : ℕ} {plan pool : List ℕ} {m : Moment} (g : Ending j plan pool m
     had : children_of pool q ≡ suc (heirs (p a) (after a) (parent (p a) j))
     had = ap (children_of pool) is_parent ∙ g.between.counts (parent (p a) j) parent_known ∙ ended
 
-    pub bury_room : (length pool ≡ 260) × (children_of pool q ≢ 0)
-    bury_room = (g.between.long, λ e. omega (arith, had))
+    pub bury_room : children_of pool q ≢ 0
+    bury_room e = omega (arith, had)
 
     -- the count is one less
-    module _ {pool₁ : List ℕ} (n : Counted q (children_of pool q - 1) pool pool₁) where
+    module _ {pool₁ : Pool} (n : Counted q (children_of pool q - 1) pool pool₁) where
       counts : Counts (p a) (after a) pool₁
       counts x h = by_cases (ℕ_discrete x q)
           (λ z. rw z (n.here ∙ omega (arith, had) ∙ sym (ap (heirs (p a) (after a)) is_parent)))
@@ -108,7 +110,7 @@ module _ {j : ℕ} {plan pool : List ℕ} {m : Moment} (g : Ending j plan pool m
           let l = (heirless_is (p a) (after a) (ws a) j (i a) t).1 in
           eqb-false (children_of pool q - 1) 0 e
           (omega (arith, had, lone_heirs (p a) (after a) (parent (p a) j) (lone_by (p a) (after a) (parent (p a) j) l))))
-          n.long n.same counts
+          n.same counts
 
       -- whether the parent waits
       set_is : pooled pool₁ q ≡ waits (p a) (after a) (ws a) (parent (p a) j)
@@ -118,7 +120,7 @@ module _ {j : ℕ} {plan pool : List ℕ} {m : Moment} (g : Ending j plan pool m
 
       module _ (lost : eqb (children_of pool q - 1) 0 ≡ true) where
         pub bury_held : pooled pool₁ q ≡ false → Buried j Idle pool₁ m
-        bury_held e = left heir n.long n.same counts
+        bury_held e = left heir n.same counts
           where
             heir : T (heirless (p a) (after a) (ws a) j) → ⊥
             heir t =
@@ -130,13 +132,12 @@ module _ {j : ℕ} {plan pool : List ℕ} {m : Moment} (g : Ending j plan pool m
                 }) in
                 true≢false (sym (true_of _ free) ∙ sym set_is ∙ e)
 
-        pub bury_raised : pooled pool₁ q ≡ true → {pool₂ : List ℕ} → Put q false pool₁ pool₂ → {x : ℕ} → x ≡ q → Buried j (Holding x) pool₂ m
+        pub bury_raised : pooled pool₁ q ≡ true → {pool₂ : Pool} → Put q false pool₁ pool₂ → {x : ℕ} → x ≡ q → Buried j (Holding x) pool₂ m
         bury_raised e {pool₂} put {x} v =
             let z : x ≡ parent (p a) j = v ∙ is_parent in
             rw z (record {
               worker = sym (hand_raised (p a) (after a) (ws a) j (i a) g.none g.last heir);
               pooled = record {
-                long = put.long;
                 waiting = λ x h. by_cases (ℕ_discrete x q)
                     (λ z. rw z (put_here put bury_parent ∙ sym (ap (waits (p a) (after a) (set (ws a) m.worker raised)) is_parent
                     ∙ handed_self a raised (parent (p a) j) parent_known refl)))

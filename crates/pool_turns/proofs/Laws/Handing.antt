@@ -22,6 +22,7 @@ use lib.ListN.{length, get_or, set}
 use lib.Seq.{get_or-set_same, get_or-set_other}
 use Rattle.plan.specs.Plan.{Plan, size, action}
 use Rattle.plan.specs.Rules.{Accepted}
+use Rattle.plan.specs.declared.sheet.Sheet.{Sheet}
 use Rattle.plan.specs.Sheet.{frame_of, first_of, child_at}
 use Rattle.plan.proofs.Laws.Lists.{true_of, false_of}
 use Rattle.plan.proofs.Laws.Counts.{equal_tests}
@@ -40,8 +41,10 @@ use Rattle.pools.specs.Take.{waits}
 use Rattle.pools.specs.Turn.{hand_after, finished}
 use Rattle.pools.proofs.Laws.Passing.{hand_spawn, hand_goes, hand_stalls}
 use Rattle.pools.proofs.Laws.Tests.{Free, waits_is, waits_by}
+use Rattle.pool_set.specs.declared.Pool.{Pool}
 use Rattle.pool_set.specs.Pool.{pooled, children_of, Put, Counted}
 use Rattle.turns.specs.declared.turn.Turned.{Turned}
+use Rattle.turns.specs.declared.progress.Progress.{Progress}
 use Rattle.turns.specs.Progress.{missing_at, missing_to, Progressed}
 use Rattle.turns.proofs.Laws.Missing.{missing_ready, ready_missing}
 use Rattle.turns.proofs.Laws.Weights.{weight_small, weight_spawn, weight_end, weight_same}
@@ -51,7 +54,7 @@ use Rattle.pool_turns.proofs.Laws.Heirs.{heirs_most, heirs_spawn, heirs_spawn_ot
 use Rattle.pool_turns.proofs.Laws.Running.{run_manned, held_hand, held_act, held_seat}
 use Rattle.pool_turns.proofs.Laws.Sending.{put_here, put_other}
 
-module _ {k j : ℕ} {plan : List ℕ} {m : Moment} (a : Held k j plan m) where
+module _ {k j : ℕ} {plan : Sheet} {m : Moment} (a : Held k j plan m) where
   abbrev pub p : Plan
   p = m.plan
 
@@ -115,7 +118,7 @@ module _ {k j : ℕ} {plan : List ℕ} {m : Moment} (a : Held k j plan m) where
   held_none = false_of _ (λ t. (waits_is p ok after ws j act.lives.below t).unheld m.worker (held_hand a))
 
   -- what was acted, from what the worker is left as
-  pub acted : (x : Turned) → x.worker ≡ hand_after p after ws j i → x.weight ≡ weight p after → {progress pool : List ℕ}
+  pub acted : (x : Turned) → x.worker ≡ hand_after p after ws j i → x.weight ≡ weight p after → {progress : Progress} {pool : Pool}
       → Progressed p after (unspent p) progress → Pooled p after (set ws m.worker x.worker) pool → Acted j x progress pool m
   unfolding finished
   acted x e w g q = record {
@@ -126,12 +129,11 @@ module _ {k j : ℕ} {plan : List ℕ} {m : Moment} (a : Held k j plan m) where
   }
 
   -- the pool where the action spawned none and the worker is y, which has no other job than j
-  pub between_pooled : {pool : List ℕ} → Between j pool m → (action p j i).spawn ≡ 0 → (y : Worker)
-      → ((x : ℕ) → hands_in y ≡ suc x → x ≡ j) → waits p after (set ws m.worker y) j ≡ false → {pool' : List ℕ}
-      → length pool' ≡ 260 → ((x : ℕ) → x < 256 → pooled pool' x ≡ pooled pool x) → Counts p after pool'
+  pub between_pooled : {pool : Pool} → Between j pool m → (action p j i).spawn ≡ 0 → (y : Worker)
+      → ((x : ℕ) → hands_in y ≡ suc x → x ≡ j) → waits p after (set ws m.worker y) j ≡ false → {pool' : Pool}
+      → ((x : ℕ) → x < 256 → pooled pool' x ≡ pooled pool x) → Counts p after pool'
       → Pooled p after (set ws m.worker y) pool'
-  between_pooled g none y own out long same counts = record {
-    long = long;
+  between_pooled g none y own out same counts = record {
     waiting = λ x h. same x (omega (arith, jobs_range p ok)) ∙ g.waiting x h (λ e. omega arith) ∙ by_cases (ℕ_discrete x j)
         (λ z. rw z (held_none ∙ sym out)) (λ z. sym (handed_other y x h z (λ e. z (own x e))));
     past = λ x h l. same x l ∙ g.past x h l;
@@ -139,14 +141,14 @@ module _ {k j : ℕ} {plan : List ℕ} {m : Moment} (a : Held k j plan m) where
   }
 
 -- the action is done
-module _ {k j weighs : ℕ} {plan progress pool : List ℕ} {m : Moment} (g : Weighed k j weighs plan progress pool m) where
+module _ {k j weighs : ℕ} {plan : Sheet} {progress : Progress} {pool : Pool} {m : Moment} (g : Weighed k j weighs plan progress pool m) where
   abbrev b : Held k j plan m
   b = g.acting.held
 
   child_is : child_at plan k ≡ (action (p b) j (i b)).spawn
   child_is = rw b.here (laid_child plan (p b) b.planned.laid j (act b).lives.below (i b) (act b).lives.left)
 
-  pub act_settles : {progress' pool' : List ℕ} (x : ℕ) → x ≡ child_at plan k → x ≡ 0 → Sent j progress' pool' m
+  pub act_settles : {progress' : Progress} {pool' : Pool} (x : ℕ) → x ≡ child_at plan k → x ≡ 0 → Sent j progress' pool' m
       → Settling k j weighs plan progress' pool' m
   act_settles x e z sent = record { held = b; weighed = g.weighed; sent = sent; none = sym child_is ∙ (sym e ∙ z) }
 
@@ -180,31 +182,28 @@ module _ {k j weighs : ℕ} {plan progress pool : List ℕ} {m : Moment} (g : We
           weight_small (p b) (ok b) (s b).next,
         )
 
-    module _ {progress' pool₁ pool₂ : List ℕ} (sent : Sent j progress' pool₁ m) (put : Put j true pool₁ pool₂) where
+    module _ {progress' : Progress} {pool₁ pool₂ : Pool} (sent : Sent j progress' pool₁ m) (put : Put j true pool₁ pool₂) where
       counted : children_of pool₂ j ≡ heirs (p b) (s b).next j
       counted = put.same j ∙ sent.between.counts j (act b).lives.below
 
-      pub act_room : (length pool₂ ≡ 260) × (children_of pool₂ j < 256)
-      act_room = (
-        put.long,
-        omega (
-          arith,
-          counted,
-          heirs_spawn (ok b) (s b).next (act b) c spawns more,
-          heirs_most (p b) (after b) j,
-          jobs_range (p b) (ok b),
-        ),
-      )
+      pub act_room : children_of pool₂ j < 256
+      act_room =
+          omega (
+            arith,
+            counted,
+            heirs_spawn (ok b) (s b).next (act b) c spawns more,
+            heirs_most (p b) (after b) j,
+            jobs_range (p b) (ok b),
+          )
 
       -- the spawner waits, and its worker has the child
-      pub act_spawns : {pool₃ : List ℕ} → Counted j (suc (children_of pool₂ j)) pool₂ pool₃ → (t : Turned) → t.worker ≡ Holding c
+      pub act_spawns : {pool₃ : Pool} → Counted j (suc (children_of pool₂ j)) pool₂ pool₃ → (t : Turned) → t.worker ≡ Holding c
           → t.weight ≡ weighs + frame_of plan c → Acted j t progress' pool₃ m
       act_spawns {pool₃} n t is w =
           let few = jobs_range (p b) (ok b) in
           acted b t (is ∙ sym (hand_spawn (p b) (after b) (ws b) j (i b) c spawns))
           (w ∙ omega (arith, g.weighed, b.planned.laid.frames c act_child.0, weight_spawn (ok b) (s b).next (act b) c spawns))
           sent.progressed (rw is (record {
-            long = n.long;
             waiting = λ x h. n.same x (omega arith) ∙ by_cases (ℕ_discrete x j)
                 (λ z. rw z (put_here put act_small ∙ sym waits_on))
                 (λ z. put_other put x (omega arith) z ∙ by_cases (ℕ_discrete x c)
@@ -230,7 +229,7 @@ module _ {k j weighs : ℕ} {plan progress pool : List ℕ} {m : Moment} (g : We
               }))
 
 -- it spawns none
-module _ {k j weighs : ℕ} {plan progress pool : List ℕ} {m : Moment} (g : Settling k j weighs plan progress pool m) where
+module _ {k j weighs : ℕ} {plan : Sheet} {progress : Progress} {pool : Pool} {m : Moment} (g : Settling k j weighs plan progress pool m) where
   abbrev a' : Held k j plan m
   a' = g.held
 
@@ -259,7 +258,7 @@ module _ {k j weighs : ℕ} {plan progress pool : List ℕ} {m : Moment} (g : Se
     pub settle_ending : Ending j plan pool m
     settle_ending = record { place = k; held = a'; between = g.sent.between; none = g.none; last = omega (arith, last) }
 
-    pub settle_ends : (x : Turned) {pool' : List ℕ} → x.weight ≡ weighs - frame_of plan j → Buried j x.worker pool' m
+    pub settle_ends : (x : Turned) {pool' : Pool} → x.weight ≡ weighs - frame_of plan j → Buried j x.worker pool' m
         → Acted j x progress pool' m
     settle_ends x w d = acted a' x d.worker (omega (arith, lighter)) g.sent.progressed d.pooled
 
@@ -288,7 +287,7 @@ module _ {k j weighs : ℕ} {plan progress pool : List ℕ} {m : Moment} (g : Se
         → Acted j x progress pool m
     left x e w own out =
         acted a' x e (w ∙ same_weight) g.sent.progressed
-        (between_pooled a' g.sent.between g.none x.worker own out g.sent.between.long (λ y h. refl) counts)
+        (between_pooled a' g.sent.between g.none x.worker own out (λ y h. refl) counts)
 
     -- which is ready
     pub settle_goes : missing_at progress (k + 1) ≡ 0 → (x : Turned) → x.worker ≡ Holding j → x.weight ≡ weighs

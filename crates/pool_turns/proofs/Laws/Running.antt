@@ -6,11 +6,11 @@
 --   held_seat                      == the worker is in the list
 use Prim.Native.Nat.{ℕ, suc, ◌≤◌, ◌<◌}
 use mathlib.Core.Path.{◌≡◌, ap}
-use mathlib.Core.List.{List}
 use native.Mathlib.Omega.{arith}
 use lib.ListN.{length, get_or}
 use lib.Seq.{get_or-set_same, get_or-set_other}
 use Rattle.plan.specs.Plan.{Plan}
+use Rattle.plan.specs.declared.sheet.Sheet.{Sheet}
 use Rattle.courses.proofs.Laws.Pool.{Manned}
 use Rattle.courses.proofs.Laws.PlanShape.{shape}
 use Rattle.lines.proofs.Laws.Act.{Act}
@@ -19,6 +19,7 @@ use Rattle.pools.specs.State.{State, next_of}
 use Rattle.pools.proofs.Laws.Coursed.{Fit, Sized, trace_sized, trace_manned}
 use Rattle.pools.proofs.Laws.Taking.{core}
 use Rattle.pools.proofs.Laws.Whole.{counts_small}
+use Rattle.turns.specs.declared.progress.Progress.{Progress}
 use Rattle.turns.specs.Finish.{Deed, Finishing}
 use Rattle.turns.specs.Progress.{Progressed}
 use Rattle.pool_turns.specs.Moments.{Moment, At, after_of, unspent, Held}
@@ -39,7 +40,7 @@ module _ {m : Moment} (run : At m) where
 abbrev pub deed_of : Moment → ℕ → Deed
 deed_of m j = record { plan = m.plan; next = m.state.next; spent = unspent m.plan }
 
-module _ {k j : ℕ} {plan : List ℕ} {m : Moment} (a : Held k j plan m) where
+module _ {k j : ℕ} {plan : Sheet} {m : Moment} (a : Held k j plan m) where
   abbrev p : Plan
   p = m.plan
 
@@ -61,7 +62,7 @@ module _ {k j : ℕ} {plan : List ℕ} {m : Moment} (a : Held k j plan m) where
         others = λ h f. get_or-set_other s.next j h (suc (next_of s j)) 0 f;
       }
 
-  pub held_finishing : {progress : List ℕ} → Progressed p s.next (unspent p) progress → Finishing k j plan progress (deed_of m j)
+  pub held_finishing : {progress : Progress} → Progressed p s.next (unspent p) progress → Finishing k j plan progress (deed_of m j)
   held_finishing g = record { planned = a.planned; act = held_act; here = a.here; progressed = g }
 
   pub held_seat : m.worker < length s.workers

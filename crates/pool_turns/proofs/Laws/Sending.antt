@@ -16,6 +16,7 @@ use lib.ListN.{length, get_or}
 use Rattle.crew.specs.Crew.{whether}
 use Rattle.plan.specs.Plan.{Plan, action, parent}
 use Rattle.plan.specs.Rules.{Accepted}
+use Rattle.plan.specs.declared.sheet.Sheet.{Sheet}
 use Rattle.plan.specs.Sheet.{parent_of}
 use Rattle.plan.proofs.Laws.Lists.{true_of, false_of, of_true}
 use Rattle.plan.proofs.Laws.Counts.{equal_tests}
@@ -28,19 +29,21 @@ use Rattle.runs.proofs.Laws.Waking.{woken_is, woken_by}
 use Rattle.pools.specs.State.{State, next_of}
 use Rattle.pools.specs.Take.{waits}
 use Rattle.pools.proofs.Laws.Tests.{waits_is, waits_by}
+use Rattle.pool_set.specs.declared.Pool.{Pool}
 use Rattle.pool_set.specs.Pool.{pooled, Put}
+use Rattle.turns.specs.declared.progress.Progress.{Progress}
 use Rattle.turns.specs.Finish.{Finished}
 use Rattle.pool_turns.specs.Moments.{Moment, Acting, Sent, after_of}
 use Rattle.pool_turns.proofs.Laws.Running.{deed_of, run_manned, held_hand, held_act}
 
-module _ {j : ℕ} {b : Bool} {pool pool' : List ℕ} (g : Put j b pool pool') where
+module _ {j : ℕ} {b : Bool} {pool pool' : Pool} (g : Put j b pool pool') where
   pub put_here : j < 256 → pooled pool' j ≡ b
   put_here h = g.each j h ∙ ap (λ t. whether t b (pooled pool j)) (eq-eqb j j refl)
 
   pub put_other : (x : ℕ) → x < 256 → x ≢ j → pooled pool' x ≡ pooled pool x
   put_other x h f = g.each x h ∙ ap (λ t. whether t b (pooled pool x)) (ne_eqb x j f)
 
-module _ {k j : ℕ} {plan progress pool : List ℕ} {m : Moment} (g : Acting k j plan progress pool m) where
+module _ {k j : ℕ} {plan : Sheet} {progress : Progress} {pool : Pool} {m : Moment} (g : Acting k j plan progress pool m) where
   abbrev p : Plan
   p = m.plan
 
@@ -101,13 +104,12 @@ module _ {k j : ℕ} {plan progress pool : List ℕ} {m : Moment} (g : Acting k 
             ∙ false_of _ (λ t. not_born act (shape_valid p ok) x e (waits_is p ok s.next ws x b t).living),
       )
 
-  module _ {woken : Bool} {progress' : List ℕ} (d : Finished j woken progress' (deed_of m j)) where
+  module _ {woken : Bool} {progress' : Progress} (d : Finished j woken progress' (deed_of m j)) where
     pub send_still : woken ≡ false → Sent j progress' pool m
     unfolding Woken
     send_still e = record {
       progressed = d.progressed;
       between = record {
-        long = g.pooled.long;
         waiting = λ x h none. g.pooled.waiting x h ∙ sym (same_waits x h none (λ y. absurd (calm y)));
         past = g.pooled.past;
         unborn = λ x z. (unborn x z).2;
@@ -145,12 +147,11 @@ module _ {k j : ℕ} {plan progress pool : List ℕ} {m : Moment} (g : Acting k 
           unheld = λ w f. stalled act wakes_it ((run_manned g.held.run).ready w (parent p j) f);
         })
 
-        pub send_added : {pool' : List ℕ} → Put q true pool pool' → Sent j progress' pool' m
+        pub send_added : {pool' : Pool} → Put q true pool pool' → Sent j progress' pool' m
         unfolding Woken
         send_added {pool'} put = record {
           progressed = d.progressed;
           between = record {
-            long = put.long;
             waiting = λ x h none. by_cases (ℕ_discrete x q)
                 (λ z. rw z (put_here put send_parent ∙ sym (ap (waits p after ws) is_parent ∙ true_of _ comes)))
                 (λ z. put_other put x (omega (arith, jobs_range p ok)) z ∙ g.pooled.waiting x h

@@ -1,6 +1,6 @@
--- What a turn makes of the rows, and what is known of the arrays before it.
+-- What a turn makes of the rows, and what is known of the objects before it.
 --   turning_small                 == round and worker are small
---   turning_room                  == that job's next action stands where the arrays say, within the rows
+--   turning_room                  == that job's next action stands where plan and progress say, within the rows
 --   turning_acting, turning_taken == the row is written and the action done
 --   having_small, having_place, having_cost == where the next action of a job stands, and its cost
 use Prim.Native.Nat.{ℕ, ◌+◌, ◌<◌}
@@ -9,6 +9,7 @@ use mathlib.Core.List.{List}
 use native.Mathlib.Omega.{arith}
 use lib.ListN.{length, get_or}
 use Rattle.plan.specs.Plan.{Plan, action}
+use Rattle.plan.specs.declared.sheet.Sheet.{Sheet}
 use Rattle.plan.specs.Sheet.{first_of, cost_at}
 use Rattle.plan.proofs.Laws.Laid.{laid_cost}
 use Rattle.plan.proofs.Laws.Placed.{place_below}
@@ -21,6 +22,8 @@ use Rattle.pools.specs.State.{State, next_of, worker_of}
 use Rattle.pools.specs.Turn.{turn_of, finished}
 use Rattle.pools.proofs.Laws.Passing.{turn_finished}
 use Rattle.pools.proofs.Laws.Taking.{core}
+use Rattle.pool_set.specs.declared.Pool.{Pool}
+use Rattle.turns.specs.declared.progress.Progress.{Progress}
 use Rattle.turns.specs.declared.turn.Turned.{Turned}
 use Rattle.turns.specs.Finish.{Deed}
 use Rattle.turns.specs.Progress.{done_of}
@@ -29,7 +32,7 @@ use Rattle.turns.proofs.Laws.Rows.{acts_rowed}
 use Rattle.pool_turns.specs.Moments.{Moment, Held, Weighed, Acted, Turning, TurnTaken, Having}
 use Rattle.pool_turns.proofs.Laws.Running.{run_sized, run_manned, run_small, held_act}
 
-module _ {x : Worker} {r w weighs : ℕ} {plan progress pool rows : List ℕ} {m : Moment}
+module _ {x : Worker} {r w weighs : ℕ} {plan : Sheet} {progress : Progress} {pool : Pool} {rows : List ℕ} {m : Moment}
     (t : Turning x r w weighs plan progress pool rows m) where
   pub turning_small : (r < 65536) × (w < 16)
   turning_small = let k = t.run.known in omega (arith, run_small t.run, t.now_in, t.whose, t.run.most)
@@ -73,7 +76,7 @@ module _ {x : Worker} {r w weighs : ℕ} {plan progress pool rows : List ℕ} {m
       pub turning_acting : Weighed (f + d) y weighs plan progress pool m
       turning_acting = record { acting = record { held = held; progressed = t.progressed; pooled = t.pooled }; weighed = t.weighed }
 
-      pub turning_taken : {after : Turned} {progress' pool' : List ℕ} → Acted y after progress' pool' m
+      pub turning_taken : {after : Turned} {progress' : Progress} {pool' : Pool} → Acted y after progress' pool' m
           → TurnTaken x after progress' pool' (with_row rows (f + d) r w) m
       unfolding turn_of finished
       turning_taken left =
@@ -90,7 +93,7 @@ module _ {x : Worker} {r w weighs : ℕ} {plan progress pool rows : List ℕ} {m
           }
 
 -- the next action of a job that a worker has
-module _ {j : ℕ} {plan progress : List ℕ} {d : Deed} (g : Having j plan progress d) where
+module _ {j : ℕ} {plan : Sheet} {progress : Progress} {d : Deed} (g : Having j plan progress d) where
   module _ {f n : ℕ} (first : f ≡ first_of plan j) (done : n ≡ done_of progress j) where
     at : f + n ≡ place d.plan j (get_or d.next j 0)
     at = omega (arith, g.known, g.planned.laid.firsts j (omega (arith, g.known)), g.progressed.counts j g.known)

@@ -18,15 +18,12 @@ returns-then-child-eq0 c m g =
     c.settle.ensures m (act_settles g _ c.child_at-child.ensures.0 c.if-child-eq0.true sent)
 
 pub add-requires : goal.add-requires
-add-requires c =
-    let (m, g) = c.requires in
-    (act_small g, (c.send.ensures m g.acting).between.long)
+add-requires c = act_small c.requires.1
 
 pub gain_child-requires : goal.gain_child-requires
 gain_child-requires c =
     let (m, g) = c.requires in
-    let room = act_room g _ _ c.child_at-child.ensures.0 c.if-child-eq0.false refl (c.send.ensures m g.acting) c.add.ensures in
-    (act_small g, room.0, room.1)
+    (act_small g, act_room g _ _ c.child_at-child.ensures.0 c.if-child-eq0.false refl (c.send.ensures m g.acting) c.add.ensures)
 
 pub overflow_cast-result : goal.overflow_cast-result
 overflow_cast-result c =

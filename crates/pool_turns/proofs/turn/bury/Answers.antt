@@ -13,8 +13,7 @@ parent_of-q-requires c = bury_small c.requires.1
 pub lose_child-requires : goal.lose_child-requires
 lose_child-requires c =
     let g = c.requires.1 in
-    let room = bury_room g c.if-j-eq0.false c.parent_of-q.ensures.0 in
-    (bury_parent g c.if-j-eq0.false c.parent_of-q.ensures.0, room.0, room.1)
+    (bury_parent g c.if-j-eq0.false c.parent_of-q.ensures.0, bury_room g c.if-j-eq0.false c.parent_of-q.ensures.0)
 
 pub returns-then-not-lose_child : goal.returns-then-not-lose_child
 returns-then-not-lose_child c m g =
@@ -32,7 +31,7 @@ returns-then-not-contains c m g =
 
 pub remove-requires : goal.remove-requires
 remove-requires c =
-    (bury_parent c.requires.1 c.if-j-eq0.false c.parent_of-q.ensures.0, c.lose_child.ensures.0.long)
+    bury_parent c.requires.1 c.if-j-eq0.false c.parent_of-q.ensures.0
 
 pub overflow_cast-result : goal.overflow_cast-result
 overflow_cast-result c =

@@ -11,10 +11,8 @@ parent_of-requires c = send_small c.requires.1
 
 pub add-requires : goal.add-requires
 add-requires c =
-    let g = c.requires.1 in (
-      send_parent g (c.finish.ensures _ (held_finishing g.held g.progressed)) c.if-finish.true c.parent_of.ensures.0,
-      g.pooled.long,
-    )
+    let g = c.requires.1 in
+    send_parent g (c.finish.ensures _ (held_finishing g.held g.progressed)) c.if-finish.true c.parent_of.ensures.0
 
 pub returns-then-finish : goal.returns-then-finish
 returns-then-finish c m g =
