@@ -66,7 +66,7 @@ fn row_at(width: usize, schedule: &[u8], k: usize) -> u32
     requires { (width ≤ 20) × (k ≤ 2048) × (32 + width * k + width ≤ 8 * length schedule.now) }
     ensures { result ≡ word width schedule.now k }
 {
-    // two bytes are read as they lie: cut out of a window they take longer
+    // rows of two bytes are read as they lie, and need no window
     if width == 16 {
         return bytes_at(schedule, k);
     }
