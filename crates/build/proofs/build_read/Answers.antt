@@ -6,14 +6,6 @@ use Rattle.scheduler.specs.Entry.{Result, ran_of}
 use Rattle.build.proofs.Laws.Builds.{build_refused, build_counted}
 use Rattle.build.proofs.build_read.Goals as goal
 
-pub run_read-requires : goal.run_read-requires
-run_read-requires c = let (p, g) = c.requires in (p, g.runs)
-
-pub measure_read-m-requires : goal.measure_read-m-requires
-measure_read-m-requires c =
-    let (p, g) = c.requires in
-    (p, g.held)
-
 pub returns-in_err-t : goal.returns-in_err-t
 returns-in_err-t c = λ p g.
     let q = err_from_is_err_and c.from_residual.result c.from_residual.ensures.1 in

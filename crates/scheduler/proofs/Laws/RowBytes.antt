@@ -1,5 +1,4 @@
 -- Words written as bytes, two each, the high one first.
---   none_written == no word is written yet
 --   rows_step    == one more is written by storing its two bytes
 --   doubled_written == so written, they are the bits of the words
 use Prim.Native.Nat.{ℕ, zero, suc, ◌+◌, ◌*◌, ◌/◌, ◌%◌, ◌^◌, ◌≤◌, ◌<◌}
@@ -15,9 +14,6 @@ use Rattle.fields.specs.Field.{Bytes, bits_of, bits, pack}
 use Rattle.fields.proofs.Laws.Bits.{append_binary, bits_of_binary, number_append, number_injective, number_bits_of, pack_bits}
 use Rattle.turns.specs.Rows.{row_at}
 use Rattle.scheduler.specs.Written.{words_bits, rows_length, Words, RowsWritten, Doubled}
-
-pub none_written : {rows l : List ℕ} → Doubled 0 rows l l
-none_written = record { long = refl; high = λ i h. absurd (omega arith); down = λ i h. absurd (omega arith); kept = refl }
 
 module _ {rows l m : List ℕ} {k : ℕ} (w : Doubled k rows l m) (room : 2 * k + 2 ≤ length l) where
   abbrev stored : List ℕ

@@ -9,7 +9,7 @@ use mathlib.Core.List.{List, [], ◌∷◌, ◌++◌, append_assoc, append-nil}
 use native.Mathlib.Omega.{arith}
 use native.Mathlib.Nat.{add-zero, mul-zero, mul-suc}
 use lib.Pow.{pow-add}
-use lib.ListN.{length, get_or, take, drop, length-append, length-drop, take-append-drop}
+use lib.ListN.{length, get_or, take, drop, length-append, take-append-drop}
 use Rattle.fields.specs.declared.field.Sink.{Sink}
 use Rattle.fields.specs.Field.{Bytes, bits_of, bits, number, pack}
 use Rattle.fields.specs.Sink.{sink_bits, Put, Done}
@@ -17,7 +17,7 @@ use Rattle.courses.specs.Row.{Row, no_row}
 use Rattle.courses.specs.Schedule.{round_bits, rows_bits, schedule_bits, schedule_length, schedule_bytes}
 use Rattle.turns.specs.Rows.{row_at}
 use Rattle.scheduler.specs.Written.{header_bytes, words_bits, rows_length, RowsWritten}
-use Rattle.fields.proofs.Laws.Bits.{append_binary, bits_of_binary, bits_of_length, number_append, number_injective, number_bits_of, pack_length, pack_front}
+use Rattle.fields.proofs.Laws.Bits.{append_binary, bits_of_binary, bits_of_length, number_append, number_injective, number_bits_of, pack_front}
 use Rattle.fields.proofs.Laws.Puts.{sink_length, empty, drop_later}
 
 -- a number of b bits and one of 4 are one of b + 4
@@ -58,14 +58,6 @@ words_length w words i zero = sym (mul-zero w)
 words_length w words i (suc k) =
     length-append (bits_of w (row_at words i)) (words_bits w words (suc i) k)
     ∙ omega (arith, bits_of_length w (row_at words i), words_length w words (suc i) k, mul-suc w k)
-
--- what was so written is as long as what was there
-pub written_length : (w k : ℕ) (words before after : List ℕ) → rows_length w k ≤ length before → RowsWritten w k words before after
-    → length after ≡ length before
-written_length w k words before after room is =
-    let m = rows_length w k in
-    ap length is ∙ (length-append (pack m (words_bits w words 0 k)) (drop m before)
-    ∙ omega (arith, pack_length m (words_bits w words 0 k), length-drop m before))
 
 -- words put one behind the other, and the last byte filled
 pub wide_written : (w k : ℕ) (words out₀ out out' : List ℕ) (s : Sink) (n : ℕ) → Put out₀ empty (words_bits w words 0 k) out s

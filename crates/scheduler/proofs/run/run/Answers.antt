@@ -1,14 +1,12 @@
 -- `run::run` meets its contract: each answer by what reading the bytes and the run tell.
-use mathlib.Core.Path.{refl, ◌∙◌}
 use Rattle.std.proofs.lemmas.Result.{err_from_is_err_and}
 use Rattle.scheduler.proofs.Laws.RunAnswers.{read_runs, refuses_plan, answers_read}
 use Rattle.scheduler.proofs.run.run.Goals as goal
 
-pub returns-in_err-read_into : goal.returns-in_err-read_into
-returns-in_err-read_into c =
+pub returns-in_err-read_into-clause-schedule_after : goal.returns-in_err-read_into-clause-schedule_after
+returns-in_err-read_into-clause-schedule_after c =
     let p = err_from_is_err_and c.from_residual.result c.from_residual.ensures.1 in
-    let r = refuses_plan c.args.plan.now c.args.workers c.args.choices.now c.args.schedule.now _ c.in_err-read_into.ensures in
-    rw (p.1, p.2) (record { schedule_after = r.0; claimed = r.1 })
+    rw (p.1, p.2) (refuses_plan c.args.plan.now c.args.workers c.args.choices.now c.args.schedule.now _ c.in_err-read_into.ensures).0
 
 pub run_read-requires : goal.run_read-requires
 run_read-requires c =

@@ -1,11 +1,11 @@
 -- `run::run_read` meets its contract: each answer by the tests before the run, by the run and by what was written.
 use Prim.Native.Nat.{◌≤◌}
-use mathlib.Core.Path.{◌≡◌, refl, sym, ◌∙◌}
+use mathlib.Core.Path.{◌≡◌, sym, ◌∙◌}
 use mathlib.Core.Bool.{true}
 use native.Mathlib.Omega.{arith}
 use Rattle.runs.specs.Run.{choices_fit}
 use Rattle.rounds.proofs.Laws.Beginning.{in_few}
-use Rattle.scheduler.proofs.Laws.RunAnswers.{refuses_workers, refuses_choices, refuses_short, run_asked, rows_asked, run_answers}
+use Rattle.scheduler.proofs.Laws.RunAnswers.{refuses_workers, refuses_choices, refuses_short, rows_asked, run_answers}
 use borrow.Author.Rules.{rules}
 use Rattle.scheduler.proofs.run.run_read.Goals as goal
 use Rattle.scheduler.proofs.run.run_read.Goals.{Else-not-choices_fit}
@@ -34,12 +34,6 @@ returns-then-schedule-schedule_length c = λ p g.
     let fits : c.choices_fit.result ≡ true = search rules in
     refuses_short g _ _ _ (omega arith) (omega arith) (sym c.choices_fit.ensures ∙ fits)
     (omega (arith, c.schedule_length.ensures.0, c.if-schedule-schedule_length.true))
-
-pub run_rounds-t-requires : goal.run_rounds-t-requires
-run_rounds-t-requires c =
-    let (p, g) = c.requires in
-    let asked = run_asked g c.args.workers c.args.choices.now c.args.schedule.now (manned (goal.at.run_rounds-t-requires c).Else-not-choices_fit).0 (manned (goal.at.run_rounds-t-requires c).Else-not-choices_fit).1 (fit (goal.at.run_rounds-t-requires c).Else-not-choices_fit) in
-    ((p, asked), refl)
 
 pub write_schedule-requires : goal.write_schedule-requires
 write_schedule-requires c =

@@ -16,9 +16,6 @@ long c =
     headed_long c.args.form c.args.n c.args.actions c.args.schedule.now c.requires.3
     c.write_header.new.schedule c.write_header.ensures
 
-pub slice_bounds-write_rows-count : goal.slice_bounds-write_rows-count
-slice_bounds-write_rows-count c = long (goal.at.slice_bounds-write_rows-count c).After-write_header
-
 pub write_rows-requires : goal.write_rows-requires
 write_rows-requires c =
     let a = c.args in (
