@@ -3,11 +3,12 @@
 --   Stacked deque d       == a deque holds the jobs d, within its places; a job stands at a place not above its number
 --   Fitting, OnBottom     == job j goes on the bottom of a deque whose bottom job is of smaller number; it has gone there
 --   BottomTaken, TopTaken == what taking the bottom job of a deque, and the top one, gives and leaves
+--   empty                 == a deque without a job, as it is made
 --   no_deque, deque_in deques w == what stands outside of an array of deques; deque w
 --   Dequed deques ds      == sixteen deques hold the jobs ds
 --   Pushing, Pushed       == job j goes on the bottom of deque w, whose bottom job is of smaller number; it has gone there
 --   TookBottom, TookTop   == what taking the bottom job of deque w, and the top of victim v's deque, gives and leaves
-use Rattle.std.specs.Prelude.{ℕ, zero, suc, ◌+◌, ◌≤◌, ◌<◌, ◌≡◌, Result, Bool, List, [], ◌∷◌, length, get_or, set}
+use Rattle.std.specs.Prelude.{ℕ, zero, suc, ◌+◌, ◌≤◌, ◌<◌, ◌≡◌, Result, Bool, List, [], ◌∷◌, length, get_or, set, replicate}
 use Rattle.runs.specs.declared.miss.Miss.{Miss}
 use Rattle.runs.specs.declared.worker.Worker.{Worker}
 use Rattle.runs.specs.Turn.{take_bottom}
@@ -37,6 +38,9 @@ BottomTaken worker deque d = (worker ≡ (take_bottom d).worker) × Stacked dequ
 
 abbrev pub TopTaken : Bool → Result ℕ Miss → Deque → List ℕ → Type 0
 TopTaken held taken deque d = (taken ≡ take_top d held) × Stacked deque (drop_top d)
+
+abbrev pub empty : Deque
+empty = record { top = 0; len = 0; jobs = replicate 256 0 }
 
 abbrev pub no_deque : Deque
 no_deque = record { top = 0; len = 0; jobs = [] }

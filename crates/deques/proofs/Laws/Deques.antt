@@ -2,6 +2,7 @@
 --   restarted    == a deque without a job may start at its first place again
 --   on_bottom    == a job that may go on the bottom goes there, to a place not above its number
 --   top_leaves   == the top job leaves
+--   all_empty    == sixteen deques as they are made hold no job
 --   fitting_in   == of sixteen deques the one at w can take a job
 --   pushed_in, bottom_in, top_in == such a job has gone on the bottom of one, or the bottom or the top job of one is taken
 use Prim.Native.Nat.{ℕ, zero, suc, ◌+◌, ◌-◌, ◌≤◌, ◌<◌}
@@ -12,14 +13,14 @@ use mathlib.Core.List.{List, []}
 use native.Mathlib.Numerals.{add-one}
 use native.Mathlib.Omega.{arith}
 use native.Mathlib.Decide.{ℕ_discrete}
-use lib.ListN.{get_or, set, length-set}
+use lib.ListN.{get_or, set, replicate, length-set, length-replicate, get_or-replicate}
 use lib.Seq.{get_or-set_same, get_or-set_other}
 use Rattle.std.specs.Prelude.{Result, Ok}
 use Rattle.runs.specs.declared.miss.Miss.{Miss}
 use Rattle.runs.specs.declared.worker.Worker.{Worker}
 use Rattle.runs.specs.Steal.{drop_top, top_of}
 use Rattle.deques.specs.declared.Deque.{Deque}
-use Rattle.deques.specs.Dequed.{jobs_from, Stacked, Fitting, OnBottom, BottomTaken, TopTaken, no_deque, deque_in, Dequed}
+use Rattle.deques.specs.Dequed.{jobs_from, Stacked, Fitting, OnBottom, BottomTaken, TopTaken, empty, no_deque, deque_in, Dequed}
 use Rattle.deques.specs.Dequed.{Pushing, Pushed, TookBottom, TookTop}
 
 -- jobs are as their places are
@@ -89,6 +90,18 @@ top_leaves {q} s (suc m) e f held =
         room = omega (arith, s.room);
       },
     )
+
+pub all_empty : Dequed (replicate 16 empty) (replicate 16 [])
+all_empty = record {
+  sixteen = refl;
+  long = refl;
+  holds = λ w h. rw (get_or-replicate 16 w empty no_deque h, get_or-replicate {A = List ℕ} 16 w [] [] h) (record {
+    long = length-replicate {A = ℕ} 256 0;
+    holds = refl;
+    low = λ i k. absurd (omega arith);
+    room = omega arith;
+  });
+}
 
 module _ {ds : List (List ℕ)} {deques : List Deque} where
   pub fitting_in : {w j : ℕ} → Pushing w j deques ds → Fitting j (deque_in deques w) (get_or ds w [])
