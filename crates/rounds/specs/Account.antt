@@ -8,6 +8,7 @@
 --   Serving a v lines q == .. of the oldest request of the line q at victim v
 use Rattle.std.specs.Prelude.{ℕ, ◌-◌, ◌^◌, ◌≤◌, ◌<◌, ◌≡◌, Result, Bool, true, false, List, ltb, get_or}
 use Rattle.crew.specs.Crew.{member, Marked}
+use Rattle.crew.specs.declared.line.Lines.{Lines}
 use Rattle.crew.specs.Line.{Leaving}
 use Rattle.runs.specs.declared.miss.Miss.{Miss}
 use Rattle.runs.specs.declared.worker.Worker.{Worker}
@@ -70,7 +71,7 @@ pub record Servable (a : Account) (v w : ℕ) : Type 0 where
   pub waits : (member a.holders w ≡ false) × (member a.idlers w ≡ false)
   pub victims : member a.victims v ≡ true
 
-pub record Serving (a : Account) (v : ℕ) (lines q : List ℕ) : Type 0 where
+pub record Serving (a : Account) (v : ℕ) (lines : Lines) (q : List ℕ) : Type 0 where
   pub leaving : Leaving v 0 lines q
   pub servable : Servable a v (get_or q 0 0)
 

@@ -5,5 +5,4 @@
 
 mod account;
 pub mod run;
-pub mod start;
 mod steal;

@@ -1,16 +1,17 @@
 // All rounds of a run (document 01, "Worker and round").
-ghost use Rattle.std.specs.Prelude.{◌≡◌, ℕ, suc, ◌%◌, ◌≤◌, ◌<◌, length};
+ghost use Rattle.std.specs.Prelude.{◌≡◌, ℕ, suc, ◌%◌, ◌≤◌, ◌<◌};
 ghost use Rattle.plan.specs.Contract.{Some, ◌⇒◌};
 ghost use Rattle.rounds.specs.Rounds.{RunGiven, RunLeft};
 
 use crate::account::{opened, rested, turned};
-use crate::start::start_progress;
 use crate::steal::{Served, lay, serve, thief};
+use crew::line::Lines;
 use crew::set::{lowest, rest};
-use plan::sheet::{Sheet, first_of, frame_of};
+use deques::Deque;
+use plan::sheet::Sheet;
 use runs::tally::Tally;
 use runs::worker::Worker;
-use turns::progress::done_of;
+use turns::progress::Progress;
 use turns::rows::Rows;
 use turns::turn::turn;
 
@@ -26,25 +27,23 @@ fn onward(at: usize, count: usize) -> usize
 // the actions. The sixteen workers are a local of this function, so that none is copied but the one whose turn it is.
 pub fn run_rounds(
     n: usize,
-    actions: usize,
     choices: &[u8],
     plan: &Sheet,
     entering: &[u8; 2048],
     rows: &mut Rows,
 ) -> Tally
-    requires { Some (RunGiven n actions choices.now plan.now entering.now) × (length rows.old ≡ 2048) }
-    ensures { RunGiven n actions choices.now plan.now entering.now
+    requires { Some (RunGiven n choices.now plan.now entering.now) }
+    ensures { RunGiven n choices.now plan.now entering.now
         ⇒ RunLeft n choices.now result rows.new }
 {
     let mut workers = [Worker::Idle; 16];
     workers[0] = Worker::Holding(0);
-    let mut progress = [0u8; 2560];
-    start_progress(actions, entering, &mut progress);
-    let mut deques = [0u8; 4128];
-    let mut lines = [0u64; 32];
+    let mut progress = Progress::start(entering);
+    let mut deques = [Deque::EMPTY; 16];
+    let mut lines = Lines::new();
     let mut cursor = 0;
     let mut r = 0;
-    let mut a = opened(n, frame_of(plan, 0));
+    let mut a = opened(n, plan.frame_of(0));
     // `r` counts the rounds to no end that is known beforehand, so that no `for` is plainer; the walks below go over a set's bits and
     // count no index.
     loop {
@@ -64,7 +63,7 @@ pub fn run_rounds(
         }
         a = rested(a, r, n - past);
         // Job 0's actions stand below the first place of job 1: it has ended where so many are done.
-        if done_of(&progress, 0) == first_of(plan, 1) {
+        if progress.done_of(0) == plan.first_of(1) {
             return a.tally;
         }
         // Second half: those who were idle as the round began lay requests.

@@ -9,9 +9,9 @@ ghost use Rattle.turns.specs.Count.{Countable};
 ghost use Rattle.rounds.specs.Account.{LayNoted, Serving, ServiceNoted};
 
 use crate::account::{Account, laid, served};
-use crew::line::{Lines, leave_line, line_up, waiting_at};
+use crew::line::Lines;
 use crew::set::has;
-use deques::{Deques, take_top};
+use deques::Deques;
 use runs::miss::Miss;
 use runs::worker::Worker;
 
@@ -21,7 +21,7 @@ pub fn lay(account: Account, w: usize, v: usize, lines: &mut Lines) -> Account
     ensures { (LiningUp v w lines.old ⇒ LinedUp v w lines.new) × Beside v lines.old lines.new
         × LayNoted account w v result }
 {
-    line_up(lines, v, w);
+    lines.line_up(v, w);
     laid(account, w, v)
 }
 
@@ -40,9 +40,9 @@ pub fn serve(account: Account, v: usize, lines: &mut Lines, deques: &mut Deques)
         × (Dequed deques.old ⇒ TookTop v (member account.holders v) result.taken deques.new)
         × ServiceNoted account v (waiting_at lines.new v) result.who result.taken result.account }
 {
-    let who = leave_line(lines, v, 0);
-    let taken = take_top(deques, v, has(account.holders, v));
-    let account = served(account, v, waiting_at(lines, v), who, taken);
+    let who = lines.leave_line(v, 0);
+    let taken = deques[v].take_top(has(account.holders, v));
+    let account = served(account, v, lines.waiting_at(v), who, taken);
     Served {
         who,
         taken,

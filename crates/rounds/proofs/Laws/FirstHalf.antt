@@ -43,6 +43,10 @@ use Rattle.turns.specs.Count.{Restable}
 use Rattle.turns.specs.Progress.{done_of}
 use Rattle.turns.specs.Moments.{InRun, Moment, Turning, TurnTaken}
 use Rattle.turns.proofs.Laws.Running.{run_fit, run_sound, run_counts, run_countable, run_restable, run_turns}
+use Rattle.plan.specs.declared.sheet.Sheet.{Sheet}
+use Rattle.crew.specs.declared.line.Lines.{Lines}
+use Rattle.deques.specs.declared.Deque.{Deque}
+use Rattle.turns.specs.declared.progress.Progress.{Progress}
 use Rattle.rounds.specs.declared.account.Account.{Account}
 use Rattle.rounds.specs.Account.{is_idle, rested, Turnable, TurnNoted}
 use Rattle.rounds.specs.Rounds.{RunLeft}
@@ -52,7 +56,7 @@ use Rattle.rounds.proofs.Laws.Idling.{Idled, turns_gap, turns_rest}
 use Rattle.rounds.proofs.Laws.Queues.{turns_queued}
 use Rattle.rounds.proofs.Laws.Manning.{held_busy, manned_turned, manned_rested}
 
-module _ {S : Setting} {plan : List ℕ} (g : Fitted S plan) where
+module _ {S : Setting} {plan : Sheet} (g : Fitted S plan) where
   abbrev n : ℕ
   n = S.workers
 
@@ -77,7 +81,7 @@ module _ {S : Setting} {plan : List ℕ} (g : Fitted S plan) where
           rounds_on S k s b.on ∙ ap (rounds k S) (round_last S r s (rounds_known fit b.trace) over)
           ∙ rounds_stop S k (after_turns S r n s) over
 
-  pub turns_begin : {r : ℕ} {a : Account} {workers : List Worker} {cursor : ℕ} {lines progress deques rows : List ℕ}
+  pub turns_begin : {r : ℕ} {a : Account} {workers : List Worker} {cursor : ℕ} {lines : Lines} {progress : Progress} {deques : List Deque} {rows : List ℕ}
       → Between S r a workers cursor lines progress deques rows
       → InTurns S (r + 1) a.idlers a.holders 0 a workers cursor lines progress deques rows
   unfolding turns
@@ -95,11 +99,11 @@ module _ {S : Setting} {plan : List ℕ} (g : Fitted S plan) where
         dequed = z.dequed;
       })
 
-  pub between_early : {r : ℕ} {a : Account} {workers : List Worker} {cursor : ℕ} {lines progress deques rows : List ℕ}
+  pub between_early : {r : ℕ} {a : Account} {workers : List Worker} {cursor : ℕ} {lines : Lines} {progress : Progress} {deques : List Deque} {rows : List ℕ}
       → Between S r a workers cursor lines progress deques rows → r < 30720
   between_early z = (run_counts (begun_run z.begun)).0
 
-  module _ {r idle left past : ℕ} {a : Account} {workers : List Worker} {cursor : ℕ} {lines progress deques rows : List ℕ}
+  module _ {r idle left past : ℕ} {a : Account} {workers : List Worker} {cursor : ℕ} {lines : Lines} {progress : Progress} {deques : List Deque} {rows : List ℕ}
       (z : InTurns S r idle left past a workers cursor lines progress deques rows) where
     pub turns_early : r ≤ 30720
     turns_early = (run_counts (begun_run z.begun)).0
@@ -172,7 +176,7 @@ module _ {S : Setting} {plan : List ℕ} (g : Fitted S plan) where
             busy = z.manned.idlers.each w k ∙ ap is_idle e ∙ held_busy (get_or workers w Idle) held;
           }
 
-      pub turns_next : {after : Turned} {progress' deques' rows' : List ℕ}
+      pub turns_next : {after : Turned} {progress' : Progress} {deques' : List Deque} {rows' : List ℕ}
           → TurnTaken (get_or workers w Idle) w after progress' deques' rows' turns_moment
           → {a' : Account} → TurnNoted a r w (w - past) after.worker after.weight a' → {left' : ℕ} → Rest left left'
           → InTurns S r idle left' (w + 1) a' (set workers w after.worker) cursor lines progress' deques' rows'
@@ -253,8 +257,8 @@ module _ {S : Setting} {plan : List ℕ} (g : Fitted S plan) where
             dequed = rw rest.deques z.dequed;
           }
 
-pub turns_worker : {m actions r idle left past cursor w : ℕ} {choices plan entering lines progress deques rows : List ℕ} {a : Account}
+pub turns_worker : {m r idle left past cursor w : ℕ} {choices : List ℕ} {plan : Sheet} {entering : List ℕ} {lines : Lines} {progress : Progress} {deques : List Deque} {rows : List ℕ} {a : Account}
     {workers : List Worker}
-    → Throughout m actions choices plan entering (λ S. InTurns S r idle left past a workers cursor lines progress deques rows)
+    → Throughout m choices plan entering (λ S. InTurns S r idle left past a workers cursor lines progress deques rows)
     → Lowest left w → w < 16
 turns_worker t low = let (p, f, z) = one_of t in (turns_known f z low).2

@@ -19,13 +19,14 @@ use Rattle.runs.specs.Turn.{turns}
 use Rattle.runs.specs.Steal.{laid, lay, lays, serves}
 use Rattle.runs.specs.Parts.{pick_of}
 use Rattle.runs.proofs.Laws.Rests.{Rests, lay_rests, serve_rests, turn_took}
+use Rattle.turns.specs.declared.progress.Progress.{Progress}
 use Rattle.rounds.specs.Account.{is_idle}
 use Rattle.rounds.proofs.Laws.Standing.{Done}
 
 abbrev pub Kept : State → State → Type 0
 Kept s t = (t.next ≡ s.next) × (t.spent ≡ s.spent) × (t.rows ≡ s.rows)
 
-pub done_kept : {p : Plan} {progress rows : List ℕ} {s t : State} → Done p progress rows s → Kept s t → Done p progress rows t
+pub done_kept : {p : Plan} {progress : Progress} {rows : List ℕ} {s t : State} → Done p progress rows s → Kept s t → Done p progress rows t
 done_kept d (e, g, f) = record { progressed = rw (e, g) d.progressed; rowed = rw (e, f) d.rowed }
 
 kept_on : (s : State) {t u : State} → Kept s t → Rests t u → Kept s u

@@ -20,6 +20,8 @@ use Rattle.crew.proofs.Laws.Crews.{crewed_mark}
 use Rattle.turns.specs.declared.turn.Turned.{Turned}
 use Rattle.turns.specs.Count.{with_idles}
 use Rattle.turns.specs.Moments.{After}
+use Rattle.deques.specs.declared.Deque.{Deque}
+use Rattle.turns.specs.declared.progress.Progress.{Progress}
 use Rattle.rounds.specs.declared.account.Account.{Account}
 use Rattle.rounds.specs.Account.{is_idle, rested, TurnNoted}
 use Rattle.rounds.proofs.Laws.Standing.{Manned}
@@ -53,7 +55,7 @@ module _ {p : Plan} {n gap : ℕ} {s t : State} (q : Idled gap s t) {a : Account
     abbrev u : State
     u = turn_of p r w x t
 
-    pub manned_turned : {after : Turned} {progress deques : List ℕ} → After w after progress deques p u
+    pub manned_turned : {after : Turned} {progress : Progress} {deques : List Deque} → After w after progress deques p u
         → {a' : Account} → TurnNoted a r w gap after.worker after.weight a' → Manned n a' (set workers w after.worker) p u
     manned_turned {after} l {a'} d = record {
       seated = rw m.seated seats;

@@ -30,6 +30,7 @@ use Rattle.runs.proofs.Laws.Whole.{turns_trace}
 use Rattle.runs.proofs.Laws.Least.{rank, Best, oldest_best}
 use Rattle.crew.specs.Line.{waiting_at, LineAt, LinedUp, Gone, Beside}
 use Rattle.crew.proofs.Laws.Lines.{line_beside}
+use Rattle.crew.specs.declared.line.Lines.{Lines}
 use Rattle.rounds.proofs.Laws.Standing.{Ranked, Queue, Queued}
 
 -- how many wait of sixteen
@@ -108,7 +109,7 @@ front_of [] = 0
 front_of (w ∷ q) = suc w
 
 -- a victim's line
-module _ {v : ℕ} {ws : List Worker} {hi : ℕ} {lines : List ℕ} (queue : Queue v ws hi lines) where
+module _ {v : ℕ} {ws : List Worker} {hi : ℕ} {lines : Lines} (queue : Queue v ws hi lines) where
   queue_waits : (u : ℕ) → u ∈ queue.line → (l : ℕ) × (u < 16) × (get_or ws u Idle ≡ Waiting v l)
   queue_waits u s = let (l, b, e, h) = ranked_waits v ws 0 hi queue.line queue.ranked u s in (l, b, e)
 
@@ -135,7 +136,7 @@ module _ {v : ℕ} {ws : List Worker} {hi : ℕ} {lines : List ℕ} (queue : Que
     stored x u m i e = sym (get_or-set_same ws w x Idle (omega arith)) ∙ ap (λ k. get_or (set ws w x) k Idle) (sym i) ∙ e
 
     -- a worker that does not wait on v changes to another that does not
-    stays : (x : Worker) → (w ∈ queue.line → ⊥) → ((l : ℕ) → x ≡ Waiting v l → ⊥) → {lines' : List ℕ} → LineAt v lines' queue.line
+    stays : (x : Worker) → (w ∈ queue.line → ⊥) → ((l : ℕ) → x ≡ Waiting v l → ⊥) → {lines' : Lines} → LineAt v lines' queue.line
         → Queue v (set ws w x) hi lines'
     stays x f g t = record {
       line = queue.line;
@@ -145,7 +146,7 @@ module _ {v : ℕ} {ws : List Worker} {hi : ℕ} {lines : List ℕ} (queue : Que
     }
 
     -- a request that is laid at v
-    queue_push : (l : ℕ) → waits (get_or ws w Idle) ≡ 0 → hi ≤ rank l w → {lines' : List ℕ} → LinedUp v w lines' queue.line
+    queue_push : (l : ℕ) → waits (get_or ws w Idle) ≡ 0 → hi ≤ rank l w → {lines' : Lines} → LinedUp v w lines' queue.line
         → Queue v (set ws w (Waiting v l)) (suc (rank l w)) lines'
     queue_push l c h t = record {
       line = queue.line ++ (w ∷ []);
@@ -159,7 +160,7 @@ module _ {v : ℕ} {ws : List Worker} {hi : ℕ} {lines : List ℕ} (queue : Que
     }
 
     -- the first request of v is served
-    queue_pop : (x : Worker) → waits x ≡ 0 → 0 < length queue.line → {lines' : List ℕ} → Gone v 0 w lines' queue.line
+    queue_pop : (x : Worker) → waits x ≡ 0 → 0 < length queue.line → {lines' : Lines} → Gone v 0 w lines' queue.line
         → Queue v (set ws w x) hi lines'
     queue_pop x c some {lines'} gone = go queue.line some gone queue.ranked queue.whole
       where
@@ -184,7 +185,7 @@ module _ {v : ℕ} {ws : List Worker} {hi : ℕ} {lines : List ℕ} (queue : Que
                 by_cases (ℕ_discrete u w) (λ n. absurd (omega (arith, ap waits (stored x u m n j))))
                 (λ d. ⊎_elim (λ n. absurd (d (n ∙ here))) (λ s. s) (f u m (sym (get_or-set_other ws w u x Idle d) ∙ j)))
 
-    module _ {a : ℕ} (d : a ≢ v) {lines' : List ℕ} (t : LineAt v lines' queue.line) where
+    module _ {a : ℕ} (d : a ≢ v) {lines' : Lines} (t : LineAt v lines' queue.line) where
       -- a request that is laid at another victim
       queue_beside : (l : ℕ) → waits (get_or ws w Idle) ≡ 0 → Queue v (set ws w (Waiting a l)) hi lines'
       queue_beside l c = stays (Waiting a l) (calm_out w c) (λ m i. d (cc)) t
@@ -228,7 +229,7 @@ module _ {v : ℕ} {ws : List Worker} {hi : ℕ} {lines : List ℕ} (queue : Que
         go (w ∷ q) h = absurd (omega arith)
 
 -- the lines of all victims
-module _ {hi : ℕ} {ws : List Worker} {lines : List ℕ} (queued : Queued hi ws lines) where
+module _ {hi : ℕ} {ws : List Worker} {lines : Lines} (queued : Queued hi ws lines) where
   pub queued_later : (hi' : ℕ) → hi ≤ hi' → Queued hi' ws lines
   queued_later hi' h v k = queue_later (queued v k) hi' h
 
@@ -238,7 +239,7 @@ module _ {hi : ℕ} {ws : List Worker} {lines : List ℕ} (queued : Queued hi ws
     queued_calm x c d v k =
         stays (queued v k) sixteen w b x (calm_out (queued v k) w c) (λ l e. omega (arith, ap waits e)) (queued v k).lined
 
-    module _ {v : ℕ} (k : v < 16) {lines' : List ℕ} (beside : Beside v lines lines') where
+    module _ {v : ℕ} (k : v < 16) {lines' : Lines} (beside : Beside v lines lines') where
       kept : (u : ℕ) (m : u < 16) → u ≢ v → LineAt u lines' (queued u m).line
       kept u m d = line_beside (queued u m).lined beside d
 
@@ -263,7 +264,7 @@ module _ {hi : ℕ} {ws : List Worker} {lines : List ℕ} (queued : Queued hi ws
 
 -- nobody that waits has a turn
 module _ {S : Setting} (fit : Fit S) {r : ℕ} {b : List Worker} {s : State} (t : Trace S r b (turning 0) s) where
-  pub turns_queued : {hi : ℕ} {lines : List ℕ} → Queued hi s.workers lines → (k : ℕ) → k ≤ S.workers
+  pub turns_queued : {hi : ℕ} {lines : Lines} → Queued hi s.workers lines → (k : ℕ) → k ≤ S.workers
       → Queued hi (turns S.plan r k b s).workers lines
   unfolding turns count_in
   turns_queued q zero h = q

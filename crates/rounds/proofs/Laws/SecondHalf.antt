@@ -43,6 +43,10 @@ use Rattle.turns.specs.Count.{Countable}
 use Rattle.turns.specs.Moments.{InRun}
 use Rattle.turns.proofs.Laws.Running.{run_fit, run_sound, run_counts, run_countable, run_choices, run_few, run_chosen}
 use Rattle.turns.proofs.Laws.Running.{run_at, run_turns, run_lays, run_serves}
+use Rattle.plan.specs.declared.sheet.Sheet.{Sheet}
+use Rattle.crew.specs.declared.line.Lines.{Lines}
+use Rattle.deques.specs.declared.Deque.{Deque}
+use Rattle.turns.specs.declared.progress.Progress.{Progress}
 use Rattle.rounds.specs.declared.account.Account.{Account}
 use Rattle.rounds.specs.Account.{is_idle, LayNoted, Serving, ServiceNoted}
 use Rattle.rounds.proofs.Laws.Standing.{Fitted, idle_in, asked_in, Asking, Begun, half, after_lays, after_serves}
@@ -53,7 +57,7 @@ use Rattle.rounds.proofs.Laws.FirstHalf.{begun_run}
 use Rattle.rounds.proofs.Laws.Stealing.{idle_is, laid_manned, asked_marked}
 use Rattle.rounds.proofs.Laws.Stealing.{given_manned}
 
-module _ {S : Setting} {plan : List ℕ} (g : Fitted S plan) where
+module _ {S : Setting} {plan : Sheet} (g : Fitted S plan) where
   -- the run at the stages of its second half
   module _ {r : ℕ} {s : State} (b : Begun S r s) (on : ended S.plan (half S r s) ≡ false) where
     run_begun : InRun S r s.workers (turning 0) s
@@ -86,7 +90,7 @@ module _ {S : Setting} {plan : List ℕ} (g : Fitted S plan) where
           enough = omega arith;
         }
 
-  module _ {r left : ℕ} {a : Account} {workers : List Worker} {cursor : ℕ} {lines progress deques rows : List ℕ}
+  module _ {r left : ℕ} {a : Account} {workers : List Worker} {cursor : ℕ} {lines : Lines} {progress : Progress} {deques : List Deque} {rows : List ℕ}
       (z : InLays S r left a workers cursor lines progress deques rows) where
     -- the state before the request
     abbrev now_laid : State
@@ -165,7 +169,7 @@ module _ {S : Setting} {plan : List ℕ} (g : Fitted S plan) where
         named : v ≡ victim_of S now_laid
         named = chosen ∙ ap (λ i. get_or S.choices i 0) z.asking.pointed
 
-        laid_asking : {lines' : List ℕ} → LinedUp v w lines' lays_line → Beside v lines lines' → {a' : Account} → LayNoted a w v a'
+        laid_asking : {lines' : Lines} → LinedUp v w lines' lays_line → Beside v lines lines' → {a' : Account} → LayNoted a w v a'
             → {cursor' : ℕ} → ((k : ℕ) → cursor ≡ k % length S.choices → cursor' ≡ suc k % length S.choices)
             → Asking S.workers (r * 16 + suc w) a'.victims S.choices cursor' lines' (laid S r w now_laid)
         unfolding laid lays_line
@@ -176,11 +180,11 @@ module _ {S : Setting} {plan : List ℕ} (g : Fitted S plan) where
               (queued_push z.asking.queued lays_sixteen lays_known.0 there_16 b r (ap waits is_idle_lem)
               (omega (arith, left_ahead z.walk low)) j)
               (r * 16 + suc w) (omega arith));
-          crewed = asked_marked (z.asking.queued v there_16).lined.long b z.asking.crewed there e.victims
+          crewed = asked_marked b z.asking.crewed there e.victims
               (lt-ltb 0 (waiting_at lines' v) (omega (arith, j.lined.count, length-append lays_line (w ∷ []))));
         }
 
-        pub lays_next : {lines' : List ℕ} → LinedUp v w lines' lays_line → Beside v lines lines' → {a' : Account} → LayNoted a w v a'
+        pub lays_next : {lines' : Lines} → LinedUp v w lines' lays_line → Beside v lines lines' → {a' : Account} → LayNoted a w v a'
             → {cursor' : ℕ} → ((k : ℕ) → cursor ≡ k % length S.choices → cursor' ≡ suc k % length S.choices)
             → {left' : ℕ} → Rest left left'
             → InLays S r left' a' (set workers w (Waiting v r)) cursor' lines' progress deques rows
@@ -222,7 +226,7 @@ module _ {S : Setting} {plan : List ℕ} (g : Fitted S plan) where
       dequed = rw (none_served e, lays_deques S r z.state.workers (half S r z.state) z.past) z.dequed;
     }
 
-  module _ {r left : ℕ} {a : Account} {workers : List Worker} {cursor : ℕ} {lines progress deques rows : List ℕ}
+  module _ {r left : ℕ} {a : Account} {workers : List Worker} {cursor : ℕ} {lines : Lines} {progress : Progress} {deques : List Deque} {rows : List ℕ}
       (z : InServes S r left a workers cursor lines progress deques rows) where
     -- the state before the service
     abbrev now_served : State
@@ -301,7 +305,7 @@ module _ {S : Setting} {plan : List ℕ} (g : Fitted S plan) where
             };
           }
 
-      module _ {w : ℕ} {lines' : List ℕ} (gone : Gone v 0 w lines' serves_line) (beside : Beside v lines lines') where
+      module _ {w : ℕ} {lines' : Lines} (gone : Gone v 0 w lines' serves_line) (beside : Beside v lines lines') where
         picked : (oldest v S.workers now_served.workers).who ≡ suc w
         picked = picked_first ∙ ap suc (sym gone.who)
 
@@ -323,11 +327,11 @@ module _ {S : Setting} {plan : List ℕ} (g : Fitted S plan) where
           pointed = rw (serve_requests v (suc w) now_served) z.asking.pointed;
           queued = queued_pop z.asking.queued serves_sixteen gone.known serves_known beside (thief top) (served_calm top)
               serves_leaving.there gone;
-          crewed = asked_marked (z.asking.queued v serves_known).lined.long beside z.asking.crewed serves_here
+          crewed = asked_marked beside z.asking.crewed serves_here
               e.victims (ap (ltb 0) (sym m));
         }
 
-        pub serves_next : {x : Result ℕ Miss} {deques' : List ℕ}
+        pub serves_next : {x : Result ℕ Miss} {deques' : List Deque}
             → TookTop v (member a.holders v) x deques' (after_serves S r v z.state).deques
             → {more : ℕ} → more ≡ waiting_at lines' v → {a' : Account} → ServiceNoted a v more w x a' → {left' : ℕ} → Rest left left'
             → InServes S r left' a' (set workers w (thief x)) cursor lines' progress deques' rows
@@ -342,7 +346,7 @@ module _ {S : Setting} {plan : List ℕ} (g : Fitted S plan) where
               past = suc v;
               ahead = serves_here;
               walk = left_next z.walk low l;
-              same = λ u h k. beside.lens u k (λ i. omega arith) ∙ z.same u (omega (arith, left_ahead z.walk low)) k;
+              same = λ u h k. beside.lens u (λ i. omega arith) ∙ z.same u (omega (arith, left_ahead z.walk low)) k;
               manned = rw (served, is)
                   (given_manned z.manned serves_sixteen waits_on.0 g.most v _ top (rw is at e));
               asking = rw served (served_asking m e);

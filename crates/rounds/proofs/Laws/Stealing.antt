@@ -3,15 +3,13 @@
 --   laid_manned   == the account and the workers after a request
 --   given_manned  == the account and the workers after a service
 --   asked_marked  == the set of the victims that have a request, where the line of one has changed
-use Prim.Native.Nat.{ℕ, ◌+◌, ◌≤◌, ◌<◌}
+use Prim.Native.Nat.{ℕ, ◌≤◌, ◌<◌}
 use mathlib.Core.Path.{◌≡◌, refl, sym, ap, ◌∙◌}
 use mathlib.Core.Bool.{Bool, true, true≢false}
-use mathlib.Core.Logic.{◌≢◌, by_cases}
 use mathlib.Core.List.{List}
 use native.Mathlib.Omega.{arith}
-use native.Mathlib.Decide.{dec_lt}
 use lib.Dec.{ltb}
-use lib.ListN.{length, set, get_or-eq_default}
+use lib.ListN.{length, set}
 use Rattle.plan.specs.Plan.{Plan}
 use Rattle.std.specs.Prelude.{Result}
 use Rattle.runs.specs.declared.miss.Miss.{Miss}
@@ -27,6 +25,7 @@ use Rattle.crew.specs.Crew.{Marked}
 use Rattle.crew.specs.Line.{waiting_at, Beside}
 use Rattle.crew.proofs.Laws.Walks.{Crewed}
 use Rattle.crew.proofs.Laws.Crews.{crewed_at, crewed_mark, crewed_same}
+use Rattle.crew.specs.declared.line.Lines.{Lines}
 use Rattle.rounds.specs.declared.account.Account.{Account}
 use Rattle.rounds.specs.Account.{is_idle, LayNoted, ServiceNoted}
 use Rattle.rounds.proofs.Laws.Standing.{asked_in, Manned}
@@ -64,13 +63,7 @@ module _ {n : ℕ} {p : Plan} {s : State} {a : Account} {workers : List Worker} 
   }
 
 -- the line of v alone has changed
-module _ {v : ℕ} {lines lines' : List ℕ} (long : length lines ≡ 32) (beside : Beside v lines lines') where
-  lens_kept : (u : ℕ) → u ≢ v → waiting_at lines' u ≡ waiting_at lines u
-  lens_kept u d =
-      by_cases (dec_lt u 16) (λ h. beside.lens u h d)
-      (λ f. get_or-eq_default lines' 0 {n = 16 + u} (omega (arith, f, beside.long))
-      ∙ sym (get_or-eq_default lines 0 {n = 16 + u} (omega (arith, f))))
-
-  pub asked_marked : {n victims victims' : ℕ} {b : Bool} → Crewed (asked_in lines) n victims → v < n → Marked v b victims victims'
-      → ltb 0 (waiting_at lines' v) ≡ b → Crewed (asked_in lines') n victims'
-  asked_marked q h m e = crewed_at q m h e (λ u d. ap (ltb 0) (lens_kept u d))
+pub asked_marked : {v : ℕ} {lines lines' : Lines} → Beside v lines lines' → {n victims victims' : ℕ} {b : Bool}
+    → Crewed (asked_in lines) n victims → v < n → Marked v b victims victims' → ltb 0 (waiting_at lines' v) ≡ b
+    → Crewed (asked_in lines') n victims'
+asked_marked beside q h m e = crewed_at q m h e (λ u d. ap (ltb 0) (beside.lens u d))

@@ -4,22 +4,18 @@
 use mathlib.Core.Path.{refl, sym, ◌∙◌}
 use native.Mathlib.Omega.{arith}
 use Rattle.rounds.proofs.Laws.Standing.{fitted, one_of, go_on}
-use Rattle.rounds.proofs.Laws.Beginning.{in_few, first_between}
+use Rattle.rounds.proofs.Laws.Beginning.{first_between}
 use Rattle.rounds.proofs.Laws.FirstHalf.{between_early, turns_begin, turns_early, turns_worker}
 use Rattle.rounds.proofs.Laws.FirstHalf.{turns_turning, turns_notable, turns_next, turns_restable, turns_over, turns_lays}
 use Rattle.rounds.proofs.Laws.SecondHalf.{lays_known, lays_lining, lays_countable, lays_next, lays_serves}
 use Rattle.rounds.proofs.Laws.SecondHalf.{serves_serving, serves_dequed, serves_next, serves_round}
 use Rattle.rounds.proofs.run.run_rounds.Goals as goal
 
-pub start_progress-requires : goal.start_progress-requires
-start_progress-requires c = let (p, g) = c.requires.0 in (in_few g.given, g.given.whole, refl)
-
 pub loop-w-init : goal.loop-w-init
 loop-w-init c =
     record {
-      given = c.requires.0;
-      all = λ p g. rw c.opened-a.ensures
-          (first_between g c.requires.1 c.start_progress.ensures c.frame_of.ensures.0);
+      given = c.requires;
+      all = λ p g. rw (c.opened-a.ensures, c.start-progress.ensures, c.new-lines.ensures) (first_between g c.told-rows c.frame_of.ensures.0);
     }
 
 pub overflow_add-r : goal.overflow_add-r
