@@ -4,7 +4,7 @@ ghost use Rattle.courses.specs.Schedule.{round_bits, schedule_length};
 ghost use Rattle.scheduler.specs.Written.{header_bytes, rows_length, Words, RowsWritten, ScheduleWritten};
 
 use fields::field::{Sink, finish, put};
-use turns::rows::{Rows, row_at};
+use turns::rows::Rows;
 
 // The schedule's first four bytes.
 fn write_header(schedule: &mut [u8], form: u32, n: usize, actions: usize)
@@ -23,7 +23,7 @@ fn write_narrow(out: &mut [u8], actions: usize, rows: &Rows)
     ensures { RowsWritten 16 actions rows.now out.old out.new }
 {
     for k in 0..actions {
-        let x = row_at(rows, k);
+        let x = rows[k];
         out[2 * k] = (x / 256) as u8;
         out[2 * k + 1] = (x % 256) as u8;
     }
@@ -40,7 +40,7 @@ fn write_wide(out: &mut [u8], actions: usize, rows: &Rows)
         bits: 0,
     };
     for k in 0..actions {
-        sink = put(out, sink, u64::from(row_at(rows, k)), 20);
+        sink = put(out, sink, u64::from(rows[k]), 20);
     }
     finish(out, sink);
 }

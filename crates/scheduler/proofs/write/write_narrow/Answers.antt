@@ -6,7 +6,7 @@ use Rattle.scheduler.proofs.write.write_narrow.Goals as goal
 
 pub loop-k-preserved : goal.loop-k-preserved
 loop-k-preserved c =
-    rw c.row_at-x.ensures (rows_step c.loop-k.invariant (omega arith))
+    rows_step c.loop-k.invariant (omega arith)
 
 pub returns : goal.returns
 returns c =

@@ -1,6 +1,6 @@
 -- `write::write_wide` meets its contract. The loop's invariant: the bits of the words passed are put.
 use Prim.Native.Nat.{suc, ◌+◌, ◌*◌, ◌<◌, ◌^◌}
-use mathlib.Core.Path.{◌≡◌, ◌∙◌}
+use mathlib.Core.Path.{◌≡◌}
 use native.Mathlib.Omega.{arith}
 use native.Mathlib.Nat.{zero-add}
 use native.Mathlib.Numerals.{add-one}
@@ -20,14 +20,14 @@ reach l = omega (arith, put_length (empty_sound _) l.loop-k.invariant, words_len
 
 pub put-sink-requires-clause-width_bound : goal.put-sink-requires-clause-width_bound
 put-sink-requires-clause-width_bound c =
-    let word : c.from.result < 2 ^ 20 = rw (c.from.ensures ∙ c.row_at.ensures) (c.requires.2 c.loop-k.k c.loop-k-test.true) in
+    let word : c.from.result < 2 ^ 20 = rw c.from.ensures (c.requires.2 c.loop-k.k c.loop-k-test.true) in
     (omega arith, word, omega (arith, reach (goal.at.put-sink-requires-clause-width_bound c).At-loop-k))
 
 pub loop-k-preserved : goal.loop-k-preserved
 loop-k-preserved c =
     let rows = c.args.rows.now in
     let e : words_bits 20 rows 0 (suc c.loop-k.k) ≡ _ = words_more 20 rows 0 c.loop-k.k in
-    rw (add-one, e, zero-add, ← c.row_at.ensures, ← c.from.ensures) (put_both c.loop-k.invariant c.put-sink.ensures)
+    rw (add-one, e, zero-add, ← c.from.ensures) (put_both c.loop-k.invariant c.put-sink.ensures)
 
 pub finish-requires-clause-bits_bound : goal.finish-requires-clause-bits_bound
 finish-requires-clause-bits_bound c = omega (arith, reach (goal.at.finish-requires-clause-bits_bound c).At-loop-k)
