@@ -1,7 +1,7 @@
 -- What all rounds of a run from a pool are given, and what they leave; the same of a run of a plan that was read. Functions that are no
 -- entries cite this file.
---   PoolGiven n actions plan entering p == the array `plan` holds the plan p, of so many actions, which keeps all rules, `entering` has how
---                       many joins enter each action, and n workers can run it
+--   PoolGiven n plan entering p == the plan that was read is the plan p, which keeps all rules, `entering` has how many joins enter each of
+--                       its actions, and n workers can run it
 --   PoolLeft n t rows p == the counts are those of the run of p, and the rows those of its schedule
 --   Noted round cost w ends ends' == in the calendar ends' worker w works on an action of that cost from the round after `round` on
 --   Marks round marks ends == d is a member of the set of marks where actions end in the d-th round after that one, by the calendar; none
@@ -14,6 +14,7 @@ use Rattle.plan.specs.declared.refusal.Refusal.{Refusal}
 use Rattle.plan.specs.Refusal.{accepted}
 use Rattle.plan.specs.Plan.{Plan, total}
 use Rattle.plan.specs.Reader.{read_plan}
+use Rattle.plan.specs.declared.sheet.Sheet.{Sheet}
 use Rattle.courses.specs.Schedule.{schedule_length, checked}
 use Rattle.crew.specs.Crew.{member}
 use Rattle.plan.specs.Test.{either}
@@ -25,8 +26,8 @@ use Rattle.pools.specs.Run.{pool, admitted}
 use Rattle.pools.specs.Claim.{Bounded}
 use Rattle.pool_runner.specs.Entry.{made_of}
 
-pub record PoolGiven (n actions : ℕ) (plan entering : List ℕ) (p : Plan) : Type 0 where
-  pub given : RunIn actions plan entering p
+pub record PoolGiven (n : ℕ) (plan : Sheet) (entering : List ℕ) (p : Plan) : Type 0 where
+  pub given : RunIn plan entering p
   pub some : 1 ≤ n
   pub most : n ≤ 16
 

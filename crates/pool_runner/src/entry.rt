@@ -9,24 +9,22 @@ ghost use Rattle.pool_runner.specs.Rounds.{Answered};
 use crate::run::run_pool;
 use plan::reader::read_into;
 use plan::refusal::Refusal;
-use plan::sheet::{PLACES, Sheet};
+use plan::sheet::Sheet;
 use runs::tally::Tally;
 use scheduler::length::schedule_length;
 use scheduler::write::write_schedule;
 
-// Runs the plan that the array holds from a pool and writes its schedule in that form: the counts of the run, or why there was none.
+// Runs the plan that was read from a pool and writes its schedule in its form: the counts of the run, or why there was none.
 // `entering` has how many joins enter each action.
 fn pool_read(
-    form: u32,
-    actions: usize,
     workers: u32,
     plan: &Sheet,
     entering: &[u8; 2048],
     schedule: &mut [u8],
 ) -> Result<Tally, Refusal>
-    requires { Some (RunsIn form actions plan.now entering.now) }
-    ensures { RunsIn form actions plan.now entering.now
-        ⇒ Answered form workers schedule.old result schedule.new }
+    requires { Some (RunsIn plan.now entering.now) }
+    ensures { RunsIn plan.now entering.now
+        ⇒ Answered plan.now.form workers schedule.old result schedule.new }
 {
     if workers == 0 {
         return Err(Refusal::Workers);
@@ -35,12 +33,12 @@ fn pool_read(
         return Err(Refusal::Workers);
     }
     let n = workers as usize;
-    if schedule.len() < schedule_length(form, actions) {
+    if schedule.len() < schedule_length(plan.form, plan.actions) {
         return Err(Refusal::Short);
     }
     let mut rows = [0u32; 2048];
-    let t = run_pool(n, actions, plan, entering, &mut rows);
-    write_schedule(schedule, form, n, actions, &rows);
+    let t = run_pool(n, plan, entering, &mut rows);
+    write_schedule(schedule, plan.form, n, plan.actions, &rows);
     Ok(t)
 }
 
@@ -50,15 +48,8 @@ pub fn pool(plan: &[u8], workers: u32, schedule: &mut [u8]) -> Result<Tally, Ref
         ≡ pool_into plan.now workers schedule.old }
     ensures claimed { Claimed plan.now workers result schedule.new }
 {
-    let mut sheet = [0u16; PLACES];
+    let mut sheet = Sheet::blank();
     let mut entering = [0u8; 2048];
-    let found = read_into(plan, &mut sheet, &mut entering)?;
-    pool_read(
-        found.form,
-        found.actions,
-        workers,
-        &sheet,
-        &entering,
-        schedule,
-    )
+    read_into(plan, &mut sheet, &mut entering)?;
+    pool_read(workers, &sheet, &entering, schedule)
 }

@@ -1,19 +1,18 @@
 // All rounds of a run from a pool (document 02, L1).
-ghost use Rattle.std.specs.Prelude.{◌≡◌, false, ◌*◌, ◌≤◌, ◌<◌, length};
+ghost use Rattle.std.specs.Prelude.{◌≡◌, false, ◌*◌, ◌≤◌, ◌<◌};
 ghost use Rattle.plan.specs.Contract.{Some, ◌⇒◌};
 ghost use Rattle.crew.specs.Crew.{member, Marked};
 ghost use Rattle.rounds.specs.Account.{is_idle};
 ghost use Rattle.pool_runner.specs.Rounds.{PoolGiven, PoolLeft, Noted, Marks, tally_of};
 
 use crew::set::{lowest, others, rest, with, without};
-use plan::sheet::{Sheet, cost_at, first_of, frame_of};
+use plan::sheet::Sheet;
 use plan_measure::work;
-use pool_set::{first, remove};
+use pool_set::Pool;
 use pool_turns::turn::{next_cost, rounds_of, turn};
-use rounds::start::start_progress;
 use runs::tally::Tally;
 use runs::worker::Worker;
-use turns::progress::done_of;
+use turns::progress::Progress;
 use turns::rows::Rows;
 
 // Whose actions end in which round: the set of those of round r stands at r % 16, for no action takes more than 15.
@@ -22,7 +21,7 @@ type Calendar = [u64; 16];
 // Worker w works on an action of that cost from the round after `round` on, or on none where the cost is 0. Of the set of marks, d is a
 // member where actions end d rounds after that one.
 fn note(marks: u64, ends: &mut Calendar, round: usize, cost: usize, w: usize) -> u64
-    requires { (round < 65536) × (cost ≤ 15) × (w < 16) × (length ends.old ≡ 16) }
+    requires { (round < 65536) × (cost ≤ 15) × (w < 16) }
     ensures { Noted round cost w ends.old ends.new × (Marks round marks ends.old → Marks round result ends.new) }
 {
     if cost == 0 {
@@ -61,24 +60,17 @@ fn counted(n: usize, rounds: usize, worked: u32, peak: u32) -> Tally
 // Runs the plan by n workers: the counts. The rows of its schedule are then in `rows`; `entering` has how many joins enter each of
 // the actions. It begins behind the first taking, in which worker 0 takes job 0. Rounds in which no action ends are passed over: in
 // them nobody takes a job or lets one go.
-pub fn run_pool(
-    n: usize,
-    actions: usize,
-    plan: &Sheet,
-    entering: &[u8; 2048],
-    rows: &mut Rows,
-) -> Tally
-    requires { Some (PoolGiven n actions plan.now entering.now) × (length rows.old ≡ 2048) }
-    ensures { PoolGiven n actions plan.now entering.now ⇒ PoolLeft n result rows.new }
+pub fn run_pool(n: usize, plan: &Sheet, entering: &[u8; 2048], rows: &mut Rows) -> Tally
+    requires { Some (PoolGiven n plan.now entering.now) }
+    ensures { PoolGiven n plan.now entering.now ⇒ PoolLeft n result rows.new }
 {
     let mut workers = [Worker::Idle; 16];
     workers[0] = Worker::Holding(0);
-    let mut progress = [0u8; 2560];
-    start_progress(actions, entering, &mut progress);
-    let mut pool = [0u64; 260];
+    let mut progress = Progress::start(entering);
+    let mut pool = Pool::new();
     let mut ends = [0u64; 16];
-    let mut marks = note(0, &mut ends, 0, cost_at(plan, 0), 0);
-    let mut weight = frame_of(plan, 0);
+    let mut marks = note(0, &mut ends, 0, plan.cost_at(0), 0);
+    let mut weight = plan.frame_of(0);
     let mut peak = weight;
     let mut idlers = others(n);
     let mut r = 0;
@@ -102,17 +94,17 @@ pub fn run_pool(
             left = rest(left);
         }
         // Job 0's actions stand below the first place of job 1: it has ended where so many are done.
-        if done_of(&progress, 0) == first_of(plan, 1) {
-            return counted(n, r, work(actions, plan), peak);
+        if progress.done_of(0) == plan.first_of(1) {
+            return counted(n, r, work(plan), peak);
         }
         // Before the next round those who are idle take ready jobs, as long as there are any.
         left = idlers;
         while left != 0 {
-            let Some(j) = first(&pool) else {
+            let Some(j) = pool.first() else {
                 break;
             };
             let w = lowest(left);
-            remove(&mut pool, j);
+            pool.remove(j);
             workers[w] = Worker::Holding(j as u8);
             idlers = without(idlers, w);
             marks = note(marks, &mut ends, r, next_cost(j, plan, &progress), w);

@@ -10,6 +10,7 @@ use native.Mathlib.Omega.{arith}
 use lib.ListN.{length, take, drop}
 use lib.Dec.{leb, leb→le, le→leb}
 use borrow.Author.Tests.{le-leb, lt-leb}
+use Rattle.plan.specs.declared.sheet.Sheet.{Sheet}
 use Rattle.plan.specs.declared.refusal.Refusal.{Refusal}
 use Rattle.plan.specs.Contract.{◌⇒◌}
 use Rattle.plan.specs.Refusal.{refused, accepted, number_of}
@@ -52,15 +53,15 @@ module _ (bytes : List ℕ) (n : ℕ) (schedule : List ℕ) where
     λ t q. let (bounded, accepts) = claimed t q in (record { form = form; plan = p }, e, bounded, accepts bytes e),
   )
 
-module _ {form actions : ℕ} {plan entering : List ℕ} {p : Plan} (given : RunsIn form actions plan entering p) where
-  g : RunIn actions plan entering p
+module _ {plan : Sheet} {entering : List ℕ} {p : Plan} (given : RunsIn plan entering p) where
+  g : RunIn plan entering p
   g = given.runs
 
   abbrev x : Read
-  x = record { form = form; plan = p }
+  x = record { form = plan.form; plan = p }
 
   module _ (n : ℕ) (schedule : List ℕ) where
-    pub refuses_workers : (1 ≤ n → n ≤ 16 → ⊥) → Answered form n schedule (Err Refusal.Workers) schedule p
+    pub refuses_workers : (1 ≤ n → n ≤ 16 → ⊥) → Answered plan.form n schedule (Err Refusal.Workers) schedule p
     unfolding admitted workers_fit resulted
     refuses_workers never =
         let e : workers_fit n ≡ false = false_of (workers_fit n) (λ t.
@@ -78,7 +79,7 @@ module _ {form actions : ℕ} {plan entering : List ℕ} {p : Plan} (given : Run
           let e : workers_fit n ≡ true = true_of (workers_fit n) (both_intro (leb 1 n) (leb n 16) (le→leb 1 n some) (le→leb n 16 most)) in
           rw (admitted, e)
 
-      fitting : Fitting form n p (pool_of p n).rows
+      fitting : Fitting plan.form n p (pool_of p n).rows
       fitting = record {
         byte = given.byte;
         few = most;
@@ -87,25 +88,25 @@ module _ {form actions : ℕ} {plan entering : List ℕ} {p : Plan} (given : Run
         narrow = λ k h.
             let b = pool_bounds fit in
             let d = b.done k h in
-            (omega (arith, d.1, b.most_rounds, work_fits form p g.planned.rules given.costs), omega (arith, d.2));
+            (omega (arith, d.1, b.most_rounds, work_fits plan.form p g.planned.rules given.costs), omega (arith, d.2));
       }
 
-      whole : length (schedule_bytes form n (pool_of p n).rows) ≡ schedule_length form actions
-      whole = made_fits fitting ∙ ap (schedule_length form) (sym g.all)
+      whole : length (schedule_bytes plan.form n (pool_of p n).rows) ≡ schedule_length plan.form plan.actions
+      whole = made_fits fitting ∙ ap (schedule_length plan.form) (sym g.all)
 
-      pub refuses_short : length schedule < schedule_length form actions → Answered form n schedule (Err Refusal.Short) schedule p
+      pub refuses_short : length schedule < schedule_length plan.form plan.actions → Answered plan.form n schedule (Err Refusal.Short) schedule p
       unfolding resulted
       refuses_short h =
-          let l : length schedule < length (schedule_bytes form n (pool_of p n).rows) = omega (arith, whole) in
+          let l : length schedule < length (schedule_bytes plan.form n (pool_of p n).rows) = omega (arith, whole) in
           (rw (ran, resulted, lt-leb _ _ l), λ t q. cc)
 
       -- what all rounds are given
-      pub pool_asked : PoolGiven n actions plan entering p
+      pub pool_asked : PoolGiven n plan entering p
       pool_asked = record { given = g; some = some; most = most }
 
       -- all rounds leave the rows in words, which are then written
-      module _ (long : schedule_length form actions ≤ length schedule) (t : Tally) (words : List ℕ)
-          (told : PoolGiven n actions plan entering ⇒ PoolLeft n t words) where
+      module _ (long : schedule_length plan.form plan.actions ≤ length schedule) (t : Tally) (words : List ℕ)
+          (told : PoolGiven n plan entering ⇒ PoolLeft n t words) where
         left : PoolLeft n t words p
         left = told p pool_asked
 
@@ -113,23 +114,23 @@ module _ {form actions : ℕ} {plan entering : List ℕ} {p : Plan} (given : Run
         words_are = rowed_told left.rowed (pool_done fit)
 
         -- what writing the schedule is given
-        pub rows_asked : (form < 256) × (n ≤ 16) × (actions ≤ 2048) × (schedule_length form actions ≤ length schedule)
-            × Words (round_bits form + 4) actions words
+        pub rows_asked : (plan.form < 256) × (n ≤ 16) × (plan.actions ≤ 2048) × (schedule_length plan.form plan.actions ≤ length schedule)
+            × Words (round_bits plan.form + 4) plan.actions words
         rows_asked = (given.byte, most, in_few g, long, rw g.all (made_words fitting words words_are))
 
-        pub pool_answers : (out : List ℕ) → ScheduleWritten form n actions words schedule out → Answered form n schedule (Ok t) out p
+        pub pool_answers : (out : List ℕ) → ScheduleWritten plan.form n plan.actions words schedule out → Answered plan.form n schedule (Ok t) out p
         unfolding resulted
         pool_answers out w =
-            let bytes = schedule_bytes form n (pool_of p n).rows in
+            let bytes = schedule_bytes plan.form n (pool_of p n).rows in
             let room : length bytes ≤ length schedule = omega (arith, whole) in
             let rest = drop (length bytes) schedule in
             let is : out ≡ bytes ++ rest = made_written fitting words words_are schedule out (rw g.all at w) in (
               rw (left.counts, is, ran, resulted, le-leb _ _ room),
               λ u v. let same : u ≡ (pool_of p n).tally = cc left.counts in (
-                rw (same, is) (pool_bounded fit form given.byte given.costs rest),
+                rw (same, is) (pool_bounded fit plan.form given.byte given.costs rest),
                 λ source e.
-                    ap (λ l. checked source (take (schedule_length form (total p)) l)) is
-                    ∙ ap (checked source) (pool_front fit form given.byte given.costs rest)
-                    ∙ pool_checked fit form given.byte given.costs source e,
+                    ap (λ l. checked source (take (schedule_length plan.form (total p)) l)) is
+                    ∙ ap (checked source) (pool_front fit plan.form given.byte given.costs rest)
+                    ∙ pool_checked fit plan.form given.byte given.costs source e,
               ),
             )

@@ -16,6 +16,7 @@ use lib.ListN.{length, get_or, set, replicate}
 use borrow.Author.Tests.{lt-leb, lt-ltb}
 use Rattle.plan.specs.Plan.{Plan, size, action}
 use Rattle.plan.specs.Rules.{Accepted}
+use Rattle.plan.specs.declared.sheet.Sheet.{Sheet}
 use Rattle.plan.specs.Sheet.{frame_of, cost_at}
 use Rattle.plan.specs.Test.{both, either}
 use Rattle.plan.proofs.Laws.Lists.{false_of, zeros_at}
@@ -39,9 +40,10 @@ use Rattle.pools.proofs.Laws.Whole.{takes_trace, round_is, rounds_on, round_most
 use Rattle.crew.specs.Crew.{member}
 use Rattle.crew.proofs.Laws.Crews.{crewed_others}
 use Rattle.crew.proofs.Laws.Members.{member_none}
+use Rattle.pool_set.specs.Pool.{no_pool}
 use Rattle.pool_set.proofs.Laws.Start.{none_pooled, none_children}
+use Rattle.turns.specs.Progress.{started}
 use Rattle.rounds.specs.Account.{is_idle}
-use Rattle.rounds.specs.Rounds.{Started}
 use Rattle.rounds.proofs.Laws.Beginning.{first_progressed}
 use Rattle.pool_turns.specs.Pooled.{Pooled}
 use Rattle.pool_runner.specs.Rounds.{PoolGiven, Noted}
@@ -136,17 +138,16 @@ module _ {p : Plan} {n : ℕ} (fit : Fit p n) where
         enough = omega arith;
       }
 
-  first_pooled : Pooled p s.next first.workers (replicate 260 0)
+  first_pooled : Pooled p s.next first.workers no_pool
   unfolding given
   first_pooled = record {
-    long = refl;
-    waiting = λ x h. none_pooled refl x (omega (arith, jobs_range p ok)) ∙ sym (none_waits x h);
-    past = λ x h b. none_pooled refl x b;
-    counts = λ q h. none_children refl q ∙ sym (heirs_none p s.next (none_done p) q);
+    waiting = λ x h. none_pooled x ∙ sym (none_waits x h);
+    past = λ x h b. none_pooled x;
+    counts = λ q h. none_children q ∙ sym (heirs_none p s.next (none_done p) q);
   }
 
 -- as a run begins; `weighs` is job 0's frame, and `ends` has when its first action ends
-module _ {n actions : ℕ} {plan entering : List ℕ} {p : Plan} (g : PoolGiven n actions plan entering p) where
+module _ {n : ℕ} {plan : Sheet} {entering : List ℕ} {p : Plan} (g : PoolGiven n plan entering p) where
   fit : Fit p n
   fit = begun_fit (fitted g)
 
@@ -159,12 +160,12 @@ module _ {n actions : ℕ} {plan entering : List ℕ} {p : Plan} (g : PoolGiven 
       let range = cost_in_range_lem p fit.plan.range 0 root.0 0 root.1 in
       (is, omega arith, omega arith)
 
-  pub first_between : {rows : List ℕ} → length rows ≡ 2048 → {progress : List ℕ} → Started actions entering progress
-      → {cost : ℕ} → cost ≡ cost_at plan 0 → {ends : List ℕ} → Noted 0 cost 0 (replicate 16 0) ends → {weighs : ℕ} → weighs ≡ frame_of plan 0
+  pub first_between : {rows : List ℕ} → length rows ≡ 2048 → {cost : ℕ} → cost ≡ cost_at plan 0
+      → {ends : List ℕ} → Noted 0 cost 0 (replicate 16 0) ends → {weighs : ℕ} → weighs ≡ frame_of plan 0
       → {idlers : ℕ} → idlers ≡ 2 ^ n - 2
-      → Between p n 0 weighs weighs idlers (set (replicate 16 Idle) 0 (Holding 0)) ends progress (replicate 260 0) rows
+      → Between p n 0 weighs weighs idlers (set (replicate 16 Idle) 0 (Holding 0)) ends (started entering) no_pool rows
   unfolding start given
-  first_between long s {cost} c {ends} noted e f =
+  first_between long {cost} c {ends} noted e f =
       let frame = e ∙ g.given.planned.laid.frames 0 root.0 in
       record {
         state = given 0 0 (start p);
@@ -184,7 +185,7 @@ module _ {n actions : ℕ} {plan entering : List ℕ} {p : Plan} (g : PoolGiven 
           idle = rw f (crewed_others g.some refl (λ u h. ap is_idle (others fit (suc u) (λ z. omega arith))));
         };
         done = record {
-          progressed = first_progressed g.given s;
+          progressed = first_progressed g.given;
           rowed = record { long = long; each = λ j i h k. absurd (omega (arith, none_done p j)) };
           pooled = first_pooled fit;
         };

@@ -20,6 +20,9 @@ use Rattle.plan.specs.Test.{both}
 use Rattle.courses.proofs.Laws.Pool.{pool_busy}
 use Rattle.runs.specs.declared.worker.Worker.{Worker}
 use Rattle.runs.proofs.Laws.Coursed.{hands_is}
+use Rattle.plan.specs.declared.sheet.Sheet.{Sheet}
+use Rattle.pool_set.specs.declared.Pool.{Pool}
+use Rattle.turns.specs.declared.progress.Progress.{Progress}
 use Rattle.pools.specs.State.{worker_of}
 use Rattle.pools.proofs.Laws.Coursed.{Fit, trace_manned}
 use Rattle.crew.specs.Crew.{member, whether, Lowest, Rest}
@@ -78,7 +81,8 @@ module _ (round : ℕ) {marks : ℕ} (ends : List ℕ) (s : Marks round marks en
           (let z : (round + by + d) % 16 ≡ (round + ((by + d) - 16)) % 16 = omega (arith, marks_range) in z)
           ∙ ap (λ y. not (eqb y 0)) (none_before ((by + d) - 16) (omega arith))))
 
-module _ {p : Plan} {n : ℕ} {plan : List ℕ} (g : Fitted p n plan) {r weighs peak idlers : ℕ} {workers : List Worker} {ends progress pool rows : List ℕ}
+module _ {p : Plan} {n : ℕ} {plan : Sheet} (g : Fitted p n plan) {r weighs peak idlers : ℕ}
+    {workers : List Worker} {ends : List ℕ} {progress : Progress} {pool : Pool} {rows : List ℕ}
     (z : Between p n r weighs peak idlers workers ends progress pool rows) {marks : ℕ} (s : Marks r marks ends) where
   -- somebody works
   pub marks_some : 0 < marks

@@ -22,6 +22,7 @@ use lib.Dec.{eqb, ltb}
 use lib.ListN.{length, get_or, set}
 use lib.Seq.{get_or-set_same, set-get_or}
 use Rattle.plan.specs.Plan.{Plan, size, action}
+use Rattle.plan.specs.declared.sheet.Sheet.{Sheet}
 use Rattle.plan.specs.Sheet.{first_of}
 use Rattle.plan.specs.Test.{both, either}
 use Rattle.plan.proofs.Laws.Laid.{laid_end}
@@ -48,6 +49,8 @@ use Rattle.crew.specs.Crew.{Lowest, Rest, Marked, member}
 use Rattle.crew.proofs.Laws.Crews.{crewed_mark}
 use Rattle.crew.proofs.Laws.Members.{member_none}
 use Rattle.crew.proofs.Laws.Walks.{Left, left_start, left_known, left_ahead, left_test, left_none, left_next, left_over}
+use Rattle.pool_set.specs.declared.Pool.{Pool}
+use Rattle.turns.specs.declared.progress.Progress.{Progress}
 use Rattle.turns.specs.declared.turn.Turned.{Turned}
 use Rattle.turns.specs.Finish.{Deed}
 use Rattle.turns.specs.Progress.{done_of}
@@ -65,7 +68,7 @@ pub either_false : (b : Bool) → either b false ≡ b
 either_false true = refl
 either_false false = refl
 
-calm_done : {p : Plan} {progress pool rows : List ℕ} {s t : State} → Calm s t → Done p progress pool rows s → Done p progress pool rows t
+calm_done : {p : Plan} {progress : Progress} {pool : Pool} {rows : List ℕ} {s t : State} → Calm s t → Done p progress pool rows s → Done p progress pool rows t
 calm_done q d = record {
   progressed = rw q.next d.progressed;
   rowed = rw (q.next, q.rows) d.rowed;
@@ -81,7 +84,7 @@ calm_manned {p} q m = record {
   idle = rw q.workers m.idle;
 }
 
-module _ {p : Plan} {n : ℕ} {plan : List ℕ} (g : Fitted p n plan) where
+module _ {p : Plan} {n : ℕ} {plan : Sheet} (g : Fitted p n plan) where
   pub begun_fit : Fit p n
   begun_fit = record { plan = g.planned.rules; some = g.some; most = g.most }
 
@@ -167,11 +170,11 @@ module _ {p : Plan} {n : ℕ} {plan : List ℕ} (g : Fitted p n plan) where
         enough = omega (arith, b.enough);
       }
 
-  pub waits_begin : {r weighs peak idlers : ℕ} {workers : List Worker} {ends progress pool rows : List ℕ}
+  pub waits_begin : {r weighs peak idlers : ℕ} {workers : List Worker} {ends : List ℕ} {progress : Progress} {pool : Pool} {rows : List ℕ}
       → Between p n r weighs peak idlers workers ends progress pool rows → Waits p n (r + 1) weighs peak idlers workers ends progress pool rows
   waits_begin {r} z = record { past = r; is = add-one r; stands = z }
 
-  module _ {r weighs peak idlers : ℕ} {workers : List Worker} {ends progress pool rows : List ℕ}
+  module _ {r weighs peak idlers : ℕ} {workers : List Worker} {ends : List ℕ} {progress : Progress} {pool : Pool} {rows : List ℕ}
       (z : Waits p n r weighs peak idlers workers ends progress pool rows) where
     abbrev q : ℕ
     q = z.past
@@ -239,7 +242,7 @@ module _ {p : Plan} {n : ℕ} {plan : List ℕ} (g : Fitted p n plan) where
           done = y.done;
         })
 
-  module _ {r left weighs peak idlers : ℕ} {workers : List Worker} {ends progress pool rows : List ℕ}
+  module _ {r left weighs peak idlers : ℕ} {workers : List Worker} {ends : List ℕ} {progress : Progress} {pool : Pool} {rows : List ℕ}
       (z : InTurns p n r left weighs peak idlers workers ends progress pool rows) where
     abbrev s₀ : State
     s₀ = z.state
@@ -366,7 +369,7 @@ module _ {p : Plan} {n : ℕ} {plan : List ℕ} (g : Fitted p n plan) where
       )
 
       -- the turn was taken
-      module _ {after : Turned} {progress' pool' rows' : List ℕ} (t : TurnTaken (get_or workers w Idle) after progress' pool' rows' turns_moment) where
+      module _ {after : Turned} {progress' : Progress} {pool' : Pool} {rows' : List ℕ} (t : TurnTaken (get_or workers w Idle) after progress' pool' rows' turns_moment) where
         left_as : After w after progress' pool' p (to (suc w))
         left_as = rw turns_more t.left
 
@@ -382,9 +385,9 @@ module _ {p : Plan} {n : ℕ} {plan : List ℕ} (g : Fitted p n plan) where
           cost_is : cost ≡ rest_of p (to (suc w)) w
           cost_is = is ∙ ap (cost_of p (to (suc w)).next) left_as.worker ∙ sym rest_is
 
-          pub turns_note : (r < 65536) × (cost ≤ 15) × (w < 16) × (length ends ≡ 16)
+          pub turns_note : (r < 65536) × (cost ≤ 15) × (w < 16)
           turns_note =
-              (omega (arith, turns_early), omega (arith, cost_is, rest_most begun_fit trace_next w), turns_known.1, passed.2.long)
+              (omega (arith, turns_early), omega (arith, cost_is, rest_most begun_fit trace_next w), turns_known.1)
 
           pub turns_next : {ends' : List ℕ} → Noted r cost w ends ends' → {idlers' : ℕ} → Marked w (is_idle after.worker) idlers idlers'
               → {peak' : ℕ} → peak' ≡ max peak after.weight → {left' : ℕ} → Rest left left'

@@ -1,6 +1,6 @@
 -- How the runner's objects stand for a run from a pool, at the head of each of the three loops of `run_pool`, and before a round that
 -- may be passed over.
---   Fitted p n plan    == the array holds the plan p, and n workers can run it; fitted == so it is of what a run is given
+--   Fitted p n plan    == the plan that was read is the plan p, and n workers can run it; fitted == so it is of what a run is given
 --   rest_in, rest_of     == how many rounds the action that a worker works on still takes, or 0 where it has none
 --   slot r m c         == an action that takes m more rounds after round r ends in a round that stands at place c of the calendar
 --   Timed p n r ends s == the calendar has whose actions end when, where r rounds are done
@@ -22,6 +22,7 @@ use lib.Dec.{eqb, ltb}
 use lib.ListN.{length, get_or}
 use Rattle.plan.specs.Contract.{Some, ◌⇒◌}
 use Rattle.plan.specs.Plan.{Plan, size, action}
+use Rattle.plan.specs.declared.sheet.Sheet.{Sheet}
 use Rattle.plan.specs.Sheet.{Planned}
 use Rattle.plan.specs.Test.{both}
 use Rattle.plan_measure.specs.Measure.{work}
@@ -38,6 +39,8 @@ use Rattle.pools.specs.Trace.{turning, Trace}
 use Rattle.pools.proofs.Laws.Tests.{Free}
 use Rattle.crew.specs.Crew.{member}
 use Rattle.crew.proofs.Laws.Walks.{Crewed, Left}
+use Rattle.pool_set.specs.declared.Pool.{Pool}
+use Rattle.turns.specs.declared.progress.Progress.{Progress}
 use Rattle.turns.specs.Progress.{Progressed}
 use Rattle.turns.specs.Rows.{Rowed}
 use Rattle.rounds.specs.Account.{is_idle}
@@ -46,7 +49,7 @@ use Rattle.pool_turns.specs.Moments.{unspent}
 use Rattle.pool_turns.specs.Pooled.{Pooled}
 use Rattle.pool_runner.specs.Rounds.{PoolGiven}
 
-pub record Fitted (p : Plan) (n : ℕ) (plan : List ℕ) : Type 0 where
+pub record Fitted (p : Plan) (n : ℕ) (plan : Sheet) : Type 0 where
   pub planned : Planned plan p
   pub some : 1 ≤ n
   pub most : n ≤ 16
@@ -73,7 +76,7 @@ pub record Manned (n : ℕ) (weighs peak idlers : ℕ) (workers : List Worker) (
   pub highest : peak ≡ s.tally.peak
   pub idle : Crewed (idle_in s.workers) n idlers
 
-pub record Done (p : Plan) (progress pool rows : List ℕ) (s : State) : Type 0 where
+pub record Done (p : Plan) (progress : Progress) (pool : Pool) (rows : List ℕ) (s : State) : Type 0 where
   pub progressed : Progressed p s.next (unspent p) progress
   pub rowed : Rowed p s.next s.rows rows
   pub pooled : Pooled p s.next s.workers pool
@@ -89,23 +92,23 @@ pub record Begun (p : Plan) (n r : ℕ) (s : State) : Type 0 where
   pub left : pool p n ≡ rounds fuel p n (turns p r n s.workers s)
   pub enough : work p ≤ fuel + r
 
-pub fitted : {n actions : ℕ} {plan entering : List ℕ} {q : Plan} → PoolGiven n actions plan entering q → Fitted q n plan
+pub fitted : {n : ℕ} {plan : Sheet} {entering : List ℕ} {q : Plan} → PoolGiven n plan entering q → Fitted q n plan
 fitted g = record { planned = g.given.planned; some = g.some; most = g.most }
 
-pub record Throughout (n actions : ℕ) (plan entering : List ℕ) (A : Plan → Type 0) : Type 0 where
-  pub given : Some (PoolGiven n actions plan entering)
-  pub all : PoolGiven n actions plan entering ⇒ A
+pub record Throughout (n : ℕ) (plan : Sheet) (entering : List ℕ) (A : Plan → Type 0) : Type 0 where
+  pub given : Some (PoolGiven n plan entering)
+  pub all : PoolGiven n plan entering ⇒ A
 
-module _ {n actions : ℕ} {plan entering : List ℕ} {A : Plan → Type 0} (t : Throughout n actions plan entering A) where
+module _ {n : ℕ} {plan : Sheet} {entering : List ℕ} {A : Plan → Type 0} (t : Throughout n plan entering A) where
   pub one_of : (p : Plan) × Fitted p n plan × A p
   one_of = let (p, g) = t.given in (p, fitted g, t.all p g)
 
-  pub go_on : {B : Plan → Type 0} → ((p : Plan) → Fitted p n plan → A p → B p) → Throughout n actions plan entering B
+  pub go_on : {B : Plan → Type 0} → ((p : Plan) → Fitted p n plan → A p → B p) → Throughout n plan entering B
   go_on f = record { given = t.given; all = λ p g. f p (fitted g) (t.all p g) }
 
 module _ (p : Plan) (n : ℕ) where
   -- r rounds are done, and the taking behind them
-  pub record Between (r weighs peak idlers : ℕ) (workers : List Worker) (ends progress pool rows : List ℕ) : Type 0 where
+  pub record Between (r weighs peak idlers : ℕ) (workers : List Worker) (ends : List ℕ) (progress : Progress) (pool : Pool) (rows : List ℕ) : Type 0 where
     pub state : State
     pub begun : Begun p n (suc r) state
     pub timed : Timed p n r ends state
@@ -113,7 +116,7 @@ module _ (p : Plan) (n : ℕ) where
     pub done : Done p progress pool rows state
 
   -- round r comes next
-  pub record Waits (r weighs peak idlers : ℕ) (workers : List Worker) (ends progress pool rows : List ℕ) : Type 0 where
+  pub record Waits (r weighs peak idlers : ℕ) (workers : List Worker) (ends : List ℕ) (progress : Progress) (pool : Pool) (rows : List ℕ) : Type 0 where
     pub past : ℕ
     pub is : r ≡ suc past
     pub stands : Between past weighs peak idlers workers ends progress pool rows
@@ -138,7 +141,7 @@ module _ (p : Plan) (n : ℕ) where
   due_in s w = eqb (rest_of p s w) 1
 
   -- the workers below `past` have had their turns in round suc r, and `left` is the set of those of the others whose actions end in it
-  pub record InTurns (r left weighs peak idlers : ℕ) (workers : List Worker) (ends progress pool rows : List ℕ) : Type 0 where
+  pub record InTurns (r left weighs peak idlers : ℕ) (workers : List Worker) (ends : List ℕ) (progress : Progress) (pool : Pool) (rows : List ℕ) : Type 0 where
     pub round : ℕ
     pub is : r ≡ suc round
     pub state : State
@@ -155,7 +158,7 @@ module _ (p : Plan) (n : ℕ) where
   after_takes r k s = takes p k (over r s)
 
   -- the workers below `past` have taken, and `left` is the set of those of the others who were idle as the taking began
-  pub record InTakes (r left weighs peak idlers : ℕ) (workers : List Worker) (ends progress pool rows : List ℕ) : Type 0 where
+  pub record InTakes (r left weighs peak idlers : ℕ) (workers : List Worker) (ends : List ℕ) (progress : Progress) (pool : Pool) (rows : List ℕ) : Type 0 where
     pub state : State
     pub begun : Begun p n r state
     pub on : ended p (over r state) ≡ false

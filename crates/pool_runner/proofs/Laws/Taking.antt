@@ -28,6 +28,9 @@ use Rattle.runs.specs.declared.worker.Worker.{Worker}
 use Rattle.runs.specs.declared.worker.Worker.TheVariants.{Idle, Holding, Waiting}
 use Rattle.runs.specs.State.{holds}
 use Rattle.runs.proofs.Laws.Coursed.{hands_in, hands_of, hands_is}
+use Rattle.plan.specs.declared.sheet.Sheet.{Sheet}
+use Rattle.pool_set.specs.declared.Pool.{Pool}
+use Rattle.turns.specs.declared.progress.Progress.{Progress}
 use Rattle.pools.specs.State.{State, next_of, spent_of, worker_of}
 use Rattle.pools.specs.Take.{lowest, waits, given, giving, take, takes}
 use Rattle.pools.specs.Trace.{taking, Trace}
@@ -55,11 +58,11 @@ use Rattle.plan.proofs.Laws.Spawning.{cost_in_range_lem}
 use Rattle.pool_turns.proofs.Laws.Sending.{put_here, put_other}
 use Rattle.pool_runner.proofs.Laws.Standing.{Fitted, rest_in, rest_of, slot, Between, InTakes, over}
 
-module _ {p : Plan} {n : ℕ} {plan : List ℕ} (g : Fitted p n plan) where
+module _ {p : Plan} {n : ℕ} {plan : Sheet} (g : Fitted p n plan) where
   ok : Accepted p
   ok = g.planned.rules
 
-  module _ {r left weighs peak idlers : ℕ} {workers : List Worker} {ends progress pool rows : List ℕ}
+  module _ {r left weighs peak idlers : ℕ} {workers : List Worker} {ends : List ℕ} {progress : Progress} {pool : Pool} {rows : List ℕ}
       (z : InTakes p n r left weighs peak idlers workers ends progress pool rows) where
     abbrev ended_in : State
     ended_in = over p n r z.state
@@ -184,10 +187,10 @@ module _ {p : Plan} {n : ℕ} {plan : List ℕ} (g : Fitted p n plan) where
           cost_range : (1 ≤ cost) × (cost ≤ 15)
           cost_range = omega (arith, is, cost_in_range_lem p ok.range j takes_found.0 (next_of now j) free.living.left)
 
-          pub takes_note : (r < 65536) × (cost ≤ 15) × (w < 16) × (length ends ≡ 16)
-          takes_note = (omega (arith, begun_early g z.begun), cost_range.1, takes_known.1, z.timed.long)
+          pub takes_note : (r < 65536) × (cost ≤ 15) × (w < 16)
+          takes_note = (omega (arith, begun_early g z.begun), cost_range.1, takes_known.1)
 
-          pub takes_next : {pool' : List ℕ} → Put j false pool pool' → {idlers' : ℕ} → Marked w false idlers idlers' → {ends' : List ℕ}
+          pub takes_next : {pool' : Pool} → Put j false pool pool' → {idlers' : ℕ} → Marked w false idlers idlers' → {ends' : List ℕ}
               → Noted r cost w ends ends' → {left' : ℕ} → Rest left left' → {x : ℕ} → x ≡ j
               → InTakes p n r left' weighs peak idlers' (set workers w (Holding x)) ends' progress pool' rows
           unfolding given
@@ -218,7 +221,6 @@ module _ {p : Plan} {n : ℕ} {plan : List ℕ} (g : Fitted p n plan) where
                   progressed = d.progressed;
                   rowed = d.rowed;
                   pooled = record {
-                    long = put.long;
                     waiting = λ y h. by_cases (ℕ_discrete y j)
                         (λ u. rw u (put_here put takes_found.1 ∙ sym out))
                         (λ u. put_other put y (omega (arith, jobs_range p ok)) u ∙ d.pooled.waiting y h ∙ sym (waits_on y h u));

@@ -1,9 +1,9 @@
 -- `run_pool` meets its contract. Each loop's invariant says, of every plan that the run may have been given, how the objects stand for a
 -- state of its run (L/Standing), and what the marks tell of the calendar; the laws of L/Marks, L/Rounds and L/Taking lead from one to the
 -- next. The measure of the rounds is what is left of 30,720, that of the other loops the set that is left.
-use mathlib.Core.Path.{refl, sym, ◌∙◌}
+use mathlib.Core.Path.{◌≡◌, refl, sym, ◌∙◌}
 use native.Mathlib.Omega.{arith}
-use Rattle.rounds.proofs.Laws.Beginning.{in_few}
+use lib.ListN.{length}
 use Rattle.pool_runner.proofs.Laws.Standing.{fitted, one_of, go_on}
 use Rattle.pool_runner.proofs.Laws.Beginning.{first_note, first_between}
 use Rattle.pool_runner.proofs.Laws.Noting.{marks_none}
@@ -13,22 +13,20 @@ use Rattle.pool_runner.proofs.Laws.Rounds.{turns_note, turns_next, turns_work, t
 use Rattle.pool_runner.proofs.Laws.Taking.{takes_known, takes_having, takes_note, takes_next, takes_none, takes_round}
 use Rattle.pool_runner.proofs.run.run_pool.Goals as goal
 
-pub start_progress-requires : goal.start_progress-requires
-start_progress-requires c = let (p, g) = c.requires.0 in (in_few g.given, g.given.whole, refl)
-
 pub note-marks-requires : goal.note-marks-requires
 note-marks-requires c =
-    let (p, g) = c.requires.0 in
+    let (p, g) = c.requires in
     let (is, some, few) = first_note g c.cost_at.ensures.0 in
-    (omega arith, few, omega arith, refl)
+    (omega arith, few, omega arith)
 
 pub loop-w-init : goal.loop-w-init
 loop-w-init c =
-    let f = c.frame_of-weight.ensures.0 in (
+    let f = c.frame_of-weight.ensures.0 in
+    let long : length c.args.rows.now ≡ 2048 = omega arith in (
       record {
-        given = c.requires.0;
-        all = λ p g. first_between g c.requires.1 c.start_progress.ensures c.cost_at.ensures.0 c.note-marks.ensures.0 f
-            c.others-idlers.ensures;
+        given = c.requires;
+        all = λ p g. rw (c.start-progress.ensures, c.new-pool.ensures)
+            (first_between g long c.cost_at.ensures.0 c.note-marks.ensures.0 f c.others-idlers.ensures);
       },
       c.note-marks.ensures.1 marks_none,
     )

@@ -8,7 +8,7 @@ use Rattle.pool_runner.proofs.run.run_pool.Given as goal
 
 abbrev pub invariant-loop-left : goal.invariant-loop-left
 invariant-loop-left l =
-    Throughout l.n l.actions l.plan l.entering (λ p. InTurns p l.n l.r l.left l.weight l.peak l.idlers l.workers l.ends l.progress l.pool l.rows) × Marks l.r l.marks l.ends
+    Throughout l.n l.plan l.entering (λ p. InTurns p l.n l.r l.left l.weight l.peak l.idlers l.workers l.ends l.progress l.pool l.rows) × Marks l.r l.marks l.ends
 
 abbrev pub decreases-loop-left : goal.decreases-loop-left
 decreases-loop-left l =
@@ -16,7 +16,7 @@ decreases-loop-left l =
 
 abbrev pub invariant-loop-left-2 : goal.invariant-loop-left-2
 invariant-loop-left-2 l =
-    Throughout l.n l.actions l.plan l.entering (λ p. InTakes p l.n l.r l.left l.weight l.peak l.idlers l.workers l.ends l.progress l.pool l.rows) × Marks l.r l.marks l.ends
+    Throughout l.n l.plan l.entering (λ p. InTakes p l.n l.r l.left l.weight l.peak l.idlers l.workers l.ends l.progress l.pool l.rows) × Marks l.r l.marks l.ends
 
 abbrev pub decreases-loop-left-2 : goal.decreases-loop-left-2
 decreases-loop-left-2 l =
@@ -24,7 +24,7 @@ decreases-loop-left-2 l =
 
 abbrev pub invariant-loop-w : goal.invariant-loop-w
 invariant-loop-w l =
-    Throughout l.n l.actions l.plan l.entering (λ p. Between p l.n l.r l.weight l.peak l.idlers l.workers l.ends l.progress l.pool l.rows) × Marks l.r l.marks l.ends
+    Throughout l.n l.plan l.entering (λ p. Between p l.n l.r l.weight l.peak l.idlers l.workers l.ends l.progress l.pool l.rows) × Marks l.r l.marks l.ends
 
 abbrev pub decreases-loop-w : goal.decreases-loop-w
 decreases-loop-w l =
