@@ -85,7 +85,8 @@ abbrev pub Acted : ℕ → ℕ → Turned → Progress → List Deque → Moment
 Acted j w after progress deques m =
     After w after progress deques m.setting.plan (finished m.setting.plan m.round w j m.state)
 
-pub record Turning (x : Worker) (r w weighs : ℕ) (plan : Sheet) (progress : Progress) (deques : List Deque) (rows : List ℕ) (m : Moment) : Type 0 where
+pub record Turning (x : Worker) (r w weighs : ℕ) (plan : Sheet) (progress : Progress) (deques : List Deque) (rows : List ℕ) (m : Moment)
+    : Type 0 where
   pub run : At (turning w) m
   pub now_in : r ≡ m.round
   pub known : w < m.setting.workers
@@ -97,6 +98,7 @@ pub record Turning (x : Worker) (r w weighs : ℕ) (plan : Sheet) (progress : Pr
   pub dequed : Dequed deques m.state.deques
   pub rowed : Rowed m.setting.plan m.state.next m.state.rows rows
 
-pub record TurnTaken (x : Worker) (w : ℕ) (after : Turned) (progress : Progress) (deques : List Deque) (rows : List ℕ) (m : Moment) : Type 0 where
+pub record TurnTaken (x : Worker) (w : ℕ) (after : Turned) (progress : Progress) (deques : List Deque) (rows : List ℕ) (m : Moment)
+    : Type 0 where
   pub left : After w after progress deques m.setting.plan (turn_of m.setting.plan m.round w x m.state)
   pub rowed : let t = turn_of m.setting.plan m.round w x m.state in Rowed m.setting.plan t.next t.rows rows

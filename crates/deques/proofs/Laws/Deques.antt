@@ -108,7 +108,8 @@ module _ {ds : List (List ℕ)} {deques : List Deque} where
   fitting_in {w} p = record { stacked = p.dequed.holds w p.known; small = p.small; below = p.below }
 
   -- one of the deques has changed, and the others stay
-  changed_in : Dequed deques ds → {w : ℕ} → w < 16 → {deque : Deque} {d : List ℕ} → Stacked deque d → Dequed (set deques w deque) (set ds w d)
+  changed_in : Dequed deques ds → {w : ℕ} → w < 16 → {deque : Deque} {d : List ℕ} → Stacked deque d
+      → Dequed (set deques w deque) (set ds w d)
   changed_in q {w} h {deque} {d} s = record {
     sixteen = simp length-set q.sixteen;
     long = simp length-set q.long;
@@ -124,6 +125,6 @@ module _ {ds : List (List ℕ)} {deques : List Deque} where
       → TookBottom w x (set deques w deque) ds
   bottom_in q h (is, s) = (is, changed_in q h s)
 
-  pub top_in : {v : ℕ} (held : Bool) {x : Result ℕ Miss} {deque : Deque} → Dequed deques ds → v < 16 → TopTaken held x deque (get_or ds v [])
-      → TookTop v held x (set deques v deque) ds
+  pub top_in : {v : ℕ} (held : Bool) {x : Result ℕ Miss} {deque : Deque} → Dequed deques ds → v < 16
+      → TopTaken held x deque (get_or ds v []) → TookTop v held x (set deques v deque) ds
   top_in held q h (is, s) = (is, changed_in q h s)

@@ -81,7 +81,8 @@ module _ {S : Setting} {plan : Sheet} (g : Fitted S plan) where
           rounds_on S k s b.on ∙ ap (rounds k S) (round_last S r s (rounds_known fit b.trace) over)
           ∙ rounds_stop S k (after_turns S r n s) over
 
-  pub turns_begin : {r : ℕ} {a : Account} {workers : List Worker} {cursor : ℕ} {lines : Lines} {progress : Progress} {deques : List Deque} {rows : List ℕ}
+  pub turns_begin : {r : ℕ} {a : Account} {workers : List Worker} {cursor : ℕ}
+      {lines : Lines} {progress : Progress} {deques : List Deque} {rows : List ℕ}
       → Between S r a workers cursor lines progress deques rows
       → InTurns S (r + 1) a.idlers a.holders 0 a workers cursor lines progress deques rows
   unfolding turns
@@ -99,11 +100,13 @@ module _ {S : Setting} {plan : Sheet} (g : Fitted S plan) where
         dequed = z.dequed;
       })
 
-  pub between_early : {r : ℕ} {a : Account} {workers : List Worker} {cursor : ℕ} {lines : Lines} {progress : Progress} {deques : List Deque} {rows : List ℕ}
+  pub between_early : {r : ℕ} {a : Account} {workers : List Worker} {cursor : ℕ}
+      {lines : Lines} {progress : Progress} {deques : List Deque} {rows : List ℕ}
       → Between S r a workers cursor lines progress deques rows → r < 30720
   between_early z = (run_counts (begun_run z.begun)).0
 
-  module _ {r idle left past : ℕ} {a : Account} {workers : List Worker} {cursor : ℕ} {lines : Lines} {progress : Progress} {deques : List Deque} {rows : List ℕ}
+  module _ {r idle left past : ℕ} {a : Account} {workers : List Worker} {cursor : ℕ}
+      {lines : Lines} {progress : Progress} {deques : List Deque} {rows : List ℕ}
       (z : InTurns S r idle left past a workers cursor lines progress deques rows) where
     pub turns_early : r ≤ 30720
     turns_early = (run_counts (begun_run z.begun)).0
@@ -257,8 +260,8 @@ module _ {S : Setting} {plan : Sheet} (g : Fitted S plan) where
             dequed = rw rest.deques z.dequed;
           }
 
-pub turns_worker : {m r idle left past cursor w : ℕ} {choices : List ℕ} {plan : Sheet} {entering : List ℕ} {lines : Lines} {progress : Progress} {deques : List Deque} {rows : List ℕ} {a : Account}
-    {workers : List Worker}
+pub turns_worker : {m r idle left past cursor w : ℕ} {choices : List ℕ} {plan : Sheet} {entering : List ℕ} {a : Account}
+    {workers : List Worker} {lines : Lines} {progress : Progress} {deques : List Deque} {rows : List ℕ}
     → Throughout m choices plan entering (λ S. InTurns S r idle left past a workers cursor lines progress deques rows)
     → Lowest left w → w < 16
 turns_worker t low = let (p, f, z) = one_of t in (turns_known f z low).2

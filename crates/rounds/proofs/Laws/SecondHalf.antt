@@ -90,7 +90,8 @@ module _ {S : Setting} {plan : Sheet} (g : Fitted S plan) where
           enough = omega arith;
         }
 
-  module _ {r left : ℕ} {a : Account} {workers : List Worker} {cursor : ℕ} {lines : Lines} {progress : Progress} {deques : List Deque} {rows : List ℕ}
+  module _ {r left : ℕ} {a : Account} {workers : List Worker} {cursor : ℕ}
+      {lines : Lines} {progress : Progress} {deques : List Deque} {rows : List ℕ}
       (z : InLays S r left a workers cursor lines progress deques rows) where
     -- the state before the request
     abbrev now_laid : State
@@ -226,7 +227,8 @@ module _ {S : Setting} {plan : Sheet} (g : Fitted S plan) where
       dequed = rw (none_served e, lays_deques S r z.state.workers (half S r z.state) z.past) z.dequed;
     }
 
-  module _ {r left : ℕ} {a : Account} {workers : List Worker} {cursor : ℕ} {lines : Lines} {progress : Progress} {deques : List Deque} {rows : List ℕ}
+  module _ {r left : ℕ} {a : Account} {workers : List Worker} {cursor : ℕ}
+      {lines : Lines} {progress : Progress} {deques : List Deque} {rows : List ℕ}
       (z : InServes S r left a workers cursor lines progress deques rows) where
     -- the state before the service
     abbrev now_served : State

@@ -106,7 +106,8 @@ pub record Throughout (n : ℕ) (choices : List ℕ) (plan : Sheet) (entering : 
   pub given : Some (RunGiven n choices plan entering)
   pub all : RunGiven n choices plan entering ⇒ (λ p. A (setting p n choices))
 
-module _ {n : ℕ} {choices : List ℕ} {plan : Sheet} {entering : List ℕ} {A : Setting → Type 0} (t : Throughout n choices plan entering A) where
+module _ {n : ℕ} {choices : List ℕ} {plan : Sheet} {entering : List ℕ} {A : Setting → Type 0}
+    (t : Throughout n choices plan entering A) where
   pub one_of : (p : Plan) × Fitted (setting p n choices) plan × A (setting p n choices)
   one_of = let (p, g) = t.given in (p, fitted g, t.all p g)
 

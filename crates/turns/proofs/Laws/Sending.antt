@@ -31,7 +31,8 @@ use Rattle.turns.proofs.Laws.Held.{held_sound, held_act, held_job, held_room}
 abbrev pub deed_of : Moment → ℕ → Deed
 deed_of m j = record { plan = m.setting.plan; next = m.state.next; spent = fresh_of m.state j }
 
-module _ {k j w : ℕ} {plan : Sheet} {progress : Progress} {deques : List Deque} {m : Moment} (g : Sending k j w plan progress deques m) where
+module _ {k j w : ℕ} {plan : Sheet} {progress : Progress} {deques : List Deque} {m : Moment}
+    (g : Sending k j w plan progress deques m) where
   abbrev p : Plan
   p = m.setting.plan
 

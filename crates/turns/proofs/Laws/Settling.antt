@@ -92,7 +92,8 @@ module _ {k j w : ℕ} {plan : Sheet} {m : Moment} (a : Held k j w plan m) where
       go false y q = found_low x d q
 
 -- the worker is about to act
-module _ {k j w weighs : ℕ} {plan : Sheet} {progress : Progress} {deques : List Deque} {m : Moment} (g : Acting k j w weighs plan progress deques m) where
+module _ {k j w weighs : ℕ} {plan : Sheet} {progress : Progress} {deques : List Deque} {m : Moment}
+    (g : Acting k j w weighs plan progress deques m) where
   abbrev a : Held k j w plan m
   a = g.sending.held
 
@@ -126,7 +127,8 @@ module _ {k j w weighs : ℕ} {plan : Sheet} {progress : Progress} {deques : Lis
         let z = act_child.0 in
         omega (arith, g.weighed, weight_small (p a) (ok a) (s a).next, a.planned.laid.frames c z, frame_range (p a) (ok a) c z)
 
-    pub act_spawns : (t : Turned) {progress' : Progress} {deques' deques'' : List Deque} → t.worker ≡ Holding c → t.weight ≡ weighs + frame_of plan c
+    pub act_spawns : (t : Turned) {progress' : Progress} {deques' deques'' : List Deque} → t.worker ≡ Holding c
+        → t.weight ≡ weighs + frame_of plan c
         → Sent j w progress' deques' m → Pushed w j deques'' (aboves j w m) → Acted j w t progress' deques'' m
     act_spawns t h z sent d =
         let above = above_of (p a) (s a) w j in
@@ -136,7 +138,8 @@ module _ {k j w weighs : ℕ} {plan : Sheet} {progress : Progress} {deques : Lis
         sent.progressed (rw (set-set, get_or-set_same (s a).deques w above [] (stored a)) at d)
 
 -- 3. it spawns none
-module _ {k j w weighs : ℕ} {plan : Sheet} {progress : Progress} {deques : List Deque} {m : Moment} (g : Settling k j w weighs plan progress deques m) where
+module _ {k j w weighs : ℕ} {plan : Sheet} {progress : Progress} {deques : List Deque} {m : Moment}
+    (g : Settling k j w weighs plan progress deques m) where
   abbrev p' : Plan
   p' = m.setting.plan
 

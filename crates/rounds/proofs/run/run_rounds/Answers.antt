@@ -15,7 +15,8 @@ pub loop-w-init : goal.loop-w-init
 loop-w-init c =
     record {
       given = c.requires;
-      all = λ p g. rw (c.opened-a.ensures, c.start-progress.ensures, c.new-lines.ensures) (first_between g c.told-rows c.frame_of.ensures.0);
+      all = λ p g. rw (c.opened-a.ensures, c.start-progress.ensures, c.new-lines.ensures)
+          (first_between g c.told-rows c.frame_of.ensures.0);
     }
 
 pub overflow_add-r : goal.overflow_add-r

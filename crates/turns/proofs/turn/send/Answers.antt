@@ -24,7 +24,8 @@ push-requires c =
 
 pub returns-then-finish : goal.returns-then-finish
 returns-then-finish c m g =
-    send_wakes g (c.finish.ensures _ (send_finishing g)) c.if-finish.true c.parent_of.ensures.0 (λ p. pushed_in p (c.push.ensures _ (fitting_in p)))
+    send_wakes g (c.finish.ensures _ (send_finishing g)) c.if-finish.true c.parent_of.ensures.0
+    (λ p. pushed_in p (c.push.ensures _ (fitting_in p)))
 
 pub returns-else-finish : goal.returns-else-finish
 returns-else-finish c m g = send_still g (c.finish.ensures _ (send_finishing g)) c.if-finish.false
