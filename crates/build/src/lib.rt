@@ -77,7 +77,7 @@ pub fn build(input: &[u8]) -> Result<Counts, Refusal>
     if input.len() < 3 {
         return Err(Refusal::RanOut);
     }
-    let count = usize::from(input[1]) * 256 + usize::from(input[2]);
+    let count = usize::from(u16::from_be_bytes([input[1], input[2]]));
     if 4096 < count {
         return Err(Refusal::Choices);
     }

@@ -34,7 +34,7 @@ pub struct DwCount {
 }
 
 #[repr(C)]
-#[derive(Clone, Copy)]
+#[derive(Clone, Copy, Default)]
 pub struct DwMeasures {
     pub refused: u32,
     pub total: u32,
@@ -46,7 +46,7 @@ pub struct DwMeasures {
 }
 
 #[repr(C)]
-#[derive(Clone, Copy)]
+#[derive(Clone, Copy, Default)]
 pub struct DwTally {
     pub refused: u32,
     pub rounds: u32,
@@ -91,12 +91,7 @@ impl From<Result<Measures, Refusal>> for DwMeasures {
         match r {
             Err(cause) => DwMeasures {
                 refused: cause_number(cause),
-                total: 0,
-                work: 0,
-                longest: 0,
-                path: 0,
-                parallel: 0,
-                rest: 0,
+                ..DwMeasures::default()
             },
             Ok(m) => DwMeasures {
                 refused: 0,
@@ -119,14 +114,7 @@ impl From<Result<Tally, Refusal>> for DwTally {
         match r {
             Err(cause) => DwTally {
                 refused: cause_number(cause),
-                rounds: 0,
-                actions: 0,
-                idle: 0,
-                requests: 0,
-                steals: 0,
-                bare: 0,
-                idle_victim: 0,
-                peak: 0,
+                ..DwTally::default()
             },
             Ok(t) => DwTally {
                 refused: 0,

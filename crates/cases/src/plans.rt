@@ -46,7 +46,7 @@ fn back(rt: &impl Print, plan: &[u8], rows: &[u16], n: usize) -> io::Result<()> 
     Ok(())
 }
 
-// The form of a plan: its first byte.
+// The form of a plan: its first byte, or 0, which is refused as every number but 1 and 2 is.
 pub fn form_of(plan: &[u8]) -> u32 {
     plan.first().map_or(0, |form| u32::from(*form))
 }

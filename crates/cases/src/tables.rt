@@ -5,7 +5,7 @@ use crate::told::refused;
 use plan_table::{plan_to_table, table_to_plan};
 use std::io;
 
-// The form stands in `rest`.
+// The form stands in `rest`: where none does it is 0, which is refused as every number but 1 and 2 is.
 pub fn case(rt: &impl Print, input: &[u8], rest: Option<&[u8]>) -> io::Result<()> {
     let form = rest.map_or(0, number);
     let mut rows = [NUMBER; NUMBERS];

@@ -7,7 +7,7 @@ use crate::rows::{Rows, row_of};
 use plan::sheet::Sheet;
 
 // How many blocks behind that of its own last round one that clashes with a row may end: one, but in form 1, where an action takes
-// one round and a block is one round, none.
+// one round and a block is one round, none. It is a number, since places and shifts are worked out from it.
 pub fn more_of(form: u32) -> usize
     ensures { (result ≡ more_of form) × (result ≤ 1) }
 {

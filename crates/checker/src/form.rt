@@ -58,7 +58,7 @@ fn bytes_at(schedule: &[u8], k: usize) -> u32
     requires { 5 + 2 * k < length schedule.now }
     ensures { (result ≡ pair schedule.now k) × (result < 65536) }
 {
-    u32::from(schedule[4 + 2 * k]) * 256 + u32::from(schedule[5 + 2 * k])
+    u32::from(u16::from_be_bytes([schedule[4 + 2 * k], schedule[5 + 2 * k]]))
 }
 
 // The bits of row k, which are there, as one number.
@@ -76,7 +76,7 @@ fn row_at(width: usize, schedule: &[u8], k: usize) -> u32
     field.value
 }
 
-// Reads the rows, unless one has a round of 0.
+// Reads the rows, unless one has a round of 0: a truth value, for the caller has one refusal.
 fn read_rows(width: usize, schedule: &[u8], actions: usize, rows: &mut Rows) -> bool
     requires { (width ≤ 20) × (actions ≤ 2048) × (32 + width * actions ≤ 8 * length schedule.now) × (length rows.old ≡ 2048) }
     ensures { WordsTold width schedule.now actions rows.new result }

@@ -14,7 +14,8 @@ use crate::senders::line_up;
 use plan::sheet::Sheet;
 
 // Where the walk over the actions stands: the job, the place where its actions end, and the round that the span of the action at
-// hand must begin after, where that is of the job: the last round of the action before it there, or of the job's spawn, or 0.
+// hand must begin after, where that is of the job: the last round of the action before it there, or of the job's spawn, or 0,
+// since rounds begin at 1.
 #[derive(Clone, Copy)]
 struct Standing {
     job: usize,

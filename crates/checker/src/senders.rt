@@ -7,7 +7,8 @@ ghost use Rattle.checker.specs.Senders.{line_of, Sending, Senders};
 use crate::chains::Lines;
 use plan::sheet::Sheet;
 
-// The line that action k stands in: that of the action that its join enters, or one behind all those where it sends none.
+// The line that action k stands in: that of the action that its join enters, or one behind all those where it sends none,
+// which is never asked for: so each action is lined up, and none is passed over.
 // Nothing is known of what stands as job 0's parent, so that any number of 16 bits may stand there: the remainder keeps it an
 // index, and what is looked up there is not used, since job 0 sends no join.
 fn line_of(k: usize, plan: &Sheet) -> usize

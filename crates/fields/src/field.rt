@@ -19,19 +19,11 @@ pub struct Window {
     pub held: usize,
 }
 
-// Four bytes as one number.
-fn joined(a: u64, b: u64, c: u64, d: u64) -> u64
-    requires { (a < 256) × (b < 256) × (c < 256) × (d < 256) }
-    ensures { result ≡ a * 16777216 + b * 65536 + c * 256 + d }
-{
-    a * 16777216 + b * 65536 + c * 256 + d
-}
-
 // Byte i, or 0 behind the end.
-fn byte_or_0(s: &[u8], i: usize) -> u64
-    ensures { (result ≡ get_or s.now i 0) × (result < 256) }
+fn byte_or_0(s: &[u8], i: usize) -> u8
+    ensures { result ≡ get_or s.now i 0 }
 {
-    u64::from(s.get(i).copied().unwrap_or(0))
+    s.get(i).copied().unwrap_or(0)
 }
 
 // How many bits there are from byte i on, where less than a window is left.
@@ -49,22 +41,17 @@ pub fn window_at(s: &[u8], i: usize) -> Window
 {
     if i + 4 <= s.len() {
         return Window {
-            bits: joined(
-                u64::from(s[i]),
-                u64::from(s[i + 1]),
-                u64::from(s[i + 2]),
-                u64::from(s[i + 3]),
-            ),
+            bits: u64::from(u32::from_be_bytes([s[i], s[i + 1], s[i + 2], s[i + 3]])),
             held: 32,
         };
     }
     Window {
-        bits: joined(
+        bits: u64::from(u32::from_be_bytes([
             byte_or_0(s, i),
             byte_or_0(s, i + 1),
             byte_or_0(s, i + 2),
             byte_or_0(s, i + 3),
-        ),
+        ])),
         held: bits_left(s, i),
     }
 }
@@ -111,6 +98,15 @@ pub struct Sink {
     pub bits: usize,
 }
 
+impl Sink {
+    // Nothing is written yet.
+    pub const EMPTY: Sink = Sink {
+        bytes: 0,
+        held: 0,
+        bits: 0,
+    };
+}
+
 // The byte at the top of 32 bits.
 fn top_byte(held: u64) -> u8
     requires { held < 4294967296 }
@@ -153,14 +149,7 @@ pub fn put(out: &mut [u8], sink: Sink, value: u64, width: usize) -> Sink
 {
     let bits = sink.bits + width;
     let held = sink.held + value * power(32 - bits);
-    flush(
-        out,
-        Sink {
-            bytes: sink.bytes,
-            held,
-            bits,
-        },
-    )
+    flush(out, Sink { held, bits, ..sink })
 }
 
 // Fills the last byte with zero bits, and tells how many bytes were written.

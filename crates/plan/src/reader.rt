@@ -157,7 +157,8 @@ pub fn filled(s: &[u8], at: usize) -> bool
 }
 
 // Reads the plan that the bytes hold into its arrays, or tells why the bytes are turned down: 1, 2 and 3 as the fields are read,
-// then 6, 4, 5. `entering` then has how many joins enter each action.
+// then 6, 4, 5. `entering` then has how many joins enter each action. Both are the caller's own, lent, in three lines that stand at each
+// entry: runs alone go on to use `entering`.
 pub fn read_into(s: &[u8], plan: &mut Sheet, entering: &mut [u8; 2048]) -> Result<(), Refusal>
     requires { Blank plan.old × Unentered entering.old }
     ensures { ReadInto s.now result plan.new entering.new }

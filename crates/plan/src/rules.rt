@@ -1,4 +1,5 @@
-// The spawn rules and the join rules of a plan, over its arrays (document 01, "Plan").
+// The spawn rules and the join rules of a plan, over its arrays (document 01, "Plan"). These functions answer a truth value: each has one
+// refusal, which the caller names, and the definitions are tests.
 ghost use Rattle.std.specs.Prelude.{suc, ◌≤◌, ◌<◌, ◌≡◌, length, T};
 ghost use Rattle.plan.specs.Contract.{Some, ◌⇒◌};
 ghost use Rattle.plan.specs.Plan.{total};
@@ -65,7 +66,8 @@ fn spawns_kept(plan: &mut Sheet) -> bool
     true
 }
 
-// Every job but 0 was spawned.
+// Every job but 0 was spawned. A loop and no `all`, as in `lasts_send`: a closure would have a contract of its own, which says what the
+// loop's invariant does.
 fn all_spawned(plan: &Sheet) -> bool
     requires { plan.now.jobs ≤ 256 }
     ensures { AllTold plan.now result }

@@ -8,8 +8,11 @@ ghost use Rattle.plan.specs.Sheet.{with_action, with_frame, with_first, with_spa
 // frames, the places of first actions, that of the end with them, the parents, and the positions of the spawns, plus 1, or 0 where
 // none is noted. The arrays have a fixed size (no heap), and a new plan is all zeros.
 // The form is a number and no enum: plans, tables and schedules have it as a number, and `table_to_plan`, `encode`, `schedule_length` and
-// `write_schedule` promise an answer for others than 1 and 2 too. A child, a target and a spawn are numbers plus 1 and no Options: these
-// are the numbers of the open table and of the bytes, and writers, tables and pairs hand them on as they stand.
+// `write_schedule` promise an answer for others than 1 and 2 too. What differs by form tests it where it
+// differs: there are two forms, and a step that is stored would be no plainer.
+// A child, a target and a spawn are numbers plus 1 and no Options: children and targets are the numbers of the open table and of the bytes,
+// and writers, tables and pairs hand them on as they stand; a spawn is kept as a target is, so that the later has the larger number.
+// Each kind has an array of its own and no struct an action: children or targets alone are walked (`note` in src/rules.rt).
 #[derive(Drop)]
 pub struct Sheet {
     pub form: u32,

@@ -30,7 +30,7 @@ fn read_as(form: u32, s: &[u8], plan: &mut Sheet) -> Result<(), Refusal>
     read_into(s, plan, &mut entering)
 }
 
-// Whether every action costs 1.
+// Whether every action costs 1: a loop, as in `plan`'s rules.
 fn costs_one(plan: &Sheet) -> bool
     requires { Some (PlanIn plan.now) }
     ensures { PlanIn plan.now ⇒ (λ p. result ≡ costs_fit 1 p) }

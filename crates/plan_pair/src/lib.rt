@@ -71,7 +71,7 @@ fn lay_jobs(plan: &Sheet, d: usize, from: usize, sheet: &mut Sheet)
     }
 }
 
-// Lays the new root, where the first plan has so many jobs.
+// Lays the new root, where the first plan has so many jobs: a line for each of its five actions.
 fn lay_root(frame: u16, jobs: usize, sheet: &mut Sheet)
     requires { jobs ≤ 256 }
     ensures { sheet.new ≡ with_job sheet.old 0 0 (new_root frame jobs) }
@@ -93,7 +93,7 @@ fn within(frame: u32, jobs: usize, actions: usize) -> bool
     1 <= frame && frame <= 65535 && jobs <= 256 && actions <= 2048
 }
 
-// The form and the counts of a plan that was laid.
+// The form and the counts of a plan that was laid; the plan itself, of 20 KB, is not handed on.
 #[derive(Clone, Copy)]
 struct Laid {
     form: u32,

@@ -93,9 +93,10 @@ fn put_header(out: &mut [u8], sink: Sink, frame: u32, size: usize) -> Sink
     requires { Sound out.old sink × (frame < 65536) × (size < 256) × Room out.old sink 24 }
     ensures { Put out.old sink (bits_of 16 frame ++ bits_of 8 size) out.new result }
 {
-    put(out, sink, 256 * frame as u64 + size as u64, 24)
+    put(out, sink, 256 * u64::from(frame) + size as u64, 24)
 }
 
+// Two calls, for each lays down more or less: of a sink that is either, the proof would have to tell both stories at one call.
 fn put_action(out: &mut [u8], sink: Sink, form: u32, k: usize, plan: &Sheet) -> Sink
     requires { Sound out.old sink × Writable plan.now k × Room out.old sink (length (action_bits form plan.now k)) }
     ensures { Put out.old sink (action_bits form plan.now k) out.new result }
@@ -129,16 +130,7 @@ fn write_plan(out: &mut [u8], form: u32, plan: &Sheet) -> usize
     ensures { RuledIn plan.now
         ⇒ (λ p. (result ≡ length (plan_bytes form p)) × (out.new ≡ plan_bytes form p ++ drop (length (plan_bytes form p)) out.old)) }
 {
-    let mut sink = put(
-        out,
-        Sink {
-            bytes: 0,
-            held: 0,
-            bits: 0,
-        },
-        form as u64,
-        8,
-    );
+    let mut sink = put(out, Sink::EMPTY, u64::from(form), 8);
     sink = put(out, sink, plan.jobs as u64, 9);
     for k in 0..plan.actions {
         sink = put_action(out, sink, form, k, plan);

@@ -15,7 +15,8 @@ use scheduler::length::schedule_length;
 use scheduler::write::write_schedule;
 
 // Runs the plan that was read from a pool and writes its schedule in its form: the counts of the run, or why there was none.
-// `entering` has how many joins enter each action.
+// `entering` has how many joins enter each action. `run_read` of `scheduler` has these steps too, and the choices: which run is meant would
+// have to be handed on as a function with a contract of its own.
 fn pool_read(
     workers: u32,
     plan: &Sheet,

@@ -18,7 +18,7 @@ use turns::rows::Rows;
 // Whose actions end in which round: the set of those of round r stands at r % 16, for no action takes more than 15.
 type Calendar = [u64; 16];
 
-// Worker w works on an action of that cost from the round after `round` on, or on none where the cost is 0. Of the set of marks, d is a
+// Worker w works on an action of that cost from the round after `round` on, or on none where the cost is 0 (`rounds_of`). Of the set of marks, d is a
 // member where actions end d rounds after that one.
 fn note(marks: u64, ends: &mut Calendar, round: usize, cost: usize, w: usize) -> u64
     requires { (round < 65536) × (cost ≤ 15) × (w < 16) }
@@ -59,7 +59,8 @@ fn counted(n: usize, rounds: usize, worked: u32, peak: u32) -> Tally
 
 // Runs the plan by n workers: the counts. The rows of its schedule are then in `rows`; `entering` has how many joins enter each of
 // the actions. It begins behind the first taking, in which worker 0 takes job 0. Rounds in which no action ends are passed over: in
-// them nobody takes a job or lets one go.
+// them nobody takes a job or lets one go. The outer loop ends where job 0 does, at no round that is known before, and the walks go over
+// sets from the lowest worker up: no index is counted.
 pub fn run_pool(n: usize, plan: &Sheet, entering: &[u8; 2048], rows: &mut Rows) -> Tally
     requires { Some (PoolGiven n plan.now entering.now) }
     ensures { PoolGiven n plan.now entering.now ⇒ PoolLeft n result rows.new }

@@ -33,7 +33,7 @@ impl Pool {
         self.ready[j / 64] = with(self.ready[j / 64], j % 64);
     }
 
-    // Job j goes out of the set.
+    // Job j goes out of the set. Two methods, as a set has `with` and `without`: one would be told which.
     pub fn remove(&mut self, j: usize)
         requires { j < 256 }
         ensures { Put j false self.old self.new }

@@ -1,4 +1,6 @@
-// A worker's turn in a run from a pool (document 02, L1 and L5), with its row of the schedule.
+// A worker's turn in a run from a pool (document 02, L1 and L5), with its row of the schedule. The steps have the names of those of
+// `turns` and stand apart: where a woken parent, a spawner and an heir go differs in each, so that a trait over deques and pool would have
+// a function for each step.
 ghost use Rattle.std.specs.Prelude.{◌≡◌, get_or};
 ghost use Rattle.plan.specs.Contract.{Some, ◌⇒◌};
 ghost use Rattle.plan.specs.Plan.{action};
@@ -137,7 +139,7 @@ pub fn next_cost(j: usize, plan: &Sheet, progress: &Progress) -> usize
     plan.cost_at(plan.first_of(j) + progress.done_of(j))
 }
 
-// How many rounds the next action of the job that a worker has takes, or 0 where it has none.
+// How many rounds the next action of the job that a worker has takes, or 0 where it has none, as the definition says.
 pub fn rounds_of(worker: Worker, plan: &Sheet, progress: &Progress) -> usize
     requires { Some (Leaving worker plan.now progress.now) }
     ensures { Leaving worker plan.now progress.now ⇒ (λ d. result ≡ cost_of d.plan d.next worker) }

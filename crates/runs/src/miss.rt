@@ -1,5 +1,5 @@
 // Why taking the top of a victim's deque gives no job (document 02, L2): the miss is bare if the victim holds a job at that moment, and of
-// an idle victim if it holds none. Their order makes `bare` the 1 of the two.
+// an idle victim if it holds none.
 #[derive(Clone, Copy, PartialEq, Eq)]
 pub enum Miss {
     IdleVictim,

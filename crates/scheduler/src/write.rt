@@ -17,15 +17,16 @@ fn write_header(schedule: &mut [u8], form: u32, n: usize, actions: usize)
     schedule[3] = (actions % 2 * 128) as u8;
 }
 
-// Writes the rows of a schedule of form 1, two bytes each: 12 bits of round and 4 of worker.
+// Writes the rows of a schedule of form 1, two bytes each: 12 bits of round and 4 of worker. Whole bytes go out as they are, and need no
+// sink.
 fn write_narrow(out: &mut [u8], actions: usize, rows: &Rows)
     requires { (actions ≤ 2048) × (2 * actions ≤ length out.old) × Words 16 actions rows.now }
     ensures { RowsWritten 16 actions rows.now out.old out.new }
 {
     for k in 0..actions {
-        let x = rows[k];
-        out[2 * k] = (x / 256) as u8;
-        out[2 * k + 1] = (x % 256) as u8;
+        let [high, low] = (rows[k] as u16).to_be_bytes();
+        out[2 * k] = high;
+        out[2 * k + 1] = low;
     }
 }
 
@@ -34,11 +35,7 @@ fn write_wide(out: &mut [u8], actions: usize, rows: &Rows)
     requires { (actions ≤ 2048) × (rows_length 20 actions ≤ length out.old) × Words 20 actions rows.now }
     ensures { RowsWritten 20 actions rows.now out.old out.new }
 {
-    let mut sink = Sink {
-        bytes: 0,
-        held: 0,
-        bits: 0,
-    };
+    let mut sink = Sink::EMPTY;
     for k in 0..actions {
         sink = put(out, sink, u64::from(rows[k]), 20);
     }

@@ -26,6 +26,7 @@ impl Progress {
         }
     }
 
+    // One accessor for each array, since each promises its own word of the definitions.
     // How many actions of job j are done.
     pub fn done_of(&self, j: usize) -> usize
         requires { j < 256 }

@@ -4,4 +4,4 @@ use Rattle.plan_writer.proofs.put_header.Goals as goal
 
 pub returns : goal.returns
 returns c =
-    rw (← header_field c.args.frame c.args.size c.requires.1 c.requires.2) c.put.ensures
+    rw (← header_field c.args.frame c.args.size c.requires.1 c.requires.2, ← c.from.ensures) c.put.ensures

@@ -26,7 +26,7 @@ room s = plan_room s.requires.1.given s.args.form (length s.args.out.now) s.requ
 
 -- all that is written at the loop's head
 written : (l : At-loop-k) → Put l.args.out.now empty ((bits_of 8 l.args.form ++ bits_of 9 l.args.plan.now.jobs) ++ before l.args.form l.args.plan.now l.loop-k.k) l.loop-k.out l.loop-k.sink
-written l = put_both (put_both l.put-sink.ensures l.put-sink-2.ensures) l.loop-k.invariant
+written l = put_both (put_both (rw l.from.ensures at l.put-sink.ensures) l.put-sink-2.ensures) l.loop-k.invariant
 
 reach : (l : At-loop-k) → (8 * l.loop-k.sink.bytes + l.loop-k.sink.bits ≡ 17 + length (before l.args.form l.args.plan.now l.loop-k.k)) × (length l.loop-k.out ≡ length l.args.out.now)
 reach l = let w = written l in (omega (arith, put_length (empty_sound _) w), w.same)
@@ -34,7 +34,7 @@ reach l = let w = written l in (omega (arith, put_length (empty_sound _) w), w.s
 pub put-sink-requires : goal.put-sink-requires
 put-sink-requires c = record {
   sound = empty_sound _;
-  width_bound = (omega arith, c.requires.1.byte, omega (arith, room (goal.at.put-sink-requires c).Start));
+  width_bound = (omega arith, rw c.from.ensures c.requires.1.byte, omega (arith, room (goal.at.put-sink-requires c).Start));
 }
 
 pub put-sink-requires-2 : goal.put-sink-requires-2

@@ -15,36 +15,32 @@ use Rattle.fields.proofs.Laws.Bits.{append_binary, bits_of_binary, number_append
 use Rattle.turns.specs.Rows.{row_at}
 use Rattle.scheduler.specs.Written.{words_bits, rows_length, Words, RowsWritten, Doubled}
 
-module _ {rows l m : List ℕ} {k : ℕ} (w : Doubled k rows l m) (room : 2 * k + 2 ≤ length l) where
+module _ {rows l m : List ℕ} {k a b : ℕ} (w : Doubled k rows l m) (room : 2 * k + 2 ≤ length l)
+    (high : a ≡ row_at rows k / 256) (low : b ≡ row_at rows k % 256) where
   abbrev stored : List ℕ
-  stored = set (set m (2 * k) (get_or rows k 0 / 256)) (2 * k + 1) (get_or rows k 0 % 256)
+  stored = set (set m (2 * k) a) (2 * k + 1) b
 
   apart : (i : ℕ) → i ≢ 2 * k → i ≢ 2 * k + 1 → get_or stored i 0 ≡ get_or m i 0
-  apart i f g =
-      get_or-set_other (set m (2 * k) (get_or rows k 0 / 256)) (2 * k + 1) i (get_or rows k 0 % 256) 0 g
-      ∙ get_or-set_other m (2 * k) i (get_or rows k 0 / 256) 0 f
+  apart i f g = get_or-set_other (set m (2 * k) a) (2 * k + 1) i b 0 g ∙ get_or-set_other m (2 * k) i a 0 f
 
-  here_high : get_or stored (2 * k) 0 ≡ get_or rows k 0 / 256
+  here_high : get_or stored (2 * k) 0 ≡ row_at rows k / 256
   here_high =
-      get_or-set_other (set m (2 * k) (get_or rows k 0 / 256)) (2 * k + 1) (2 * k) (get_or rows k 0 % 256) 0 (omega arith)
-      ∙ get_or-set_same m (2 * k) (get_or rows k 0 / 256) 0 (omega (arith, w.long))
+      get_or-set_other (set m (2 * k) a) (2 * k + 1) (2 * k) b 0 (omega arith)
+      ∙ get_or-set_same m (2 * k) a 0 (omega (arith, w.long)) ∙ high
 
-  here_down : get_or stored (2 * k + 1) 0 ≡ get_or rows k 0 % 256
-  here_down =
-      get_or-set_same (set m (2 * k) (get_or rows k 0 / 256)) (2 * k + 1) (get_or rows k 0 % 256) 0
-      (lt-length-set m (2 * k) (get_or rows k 0 / 256) (omega (arith, w.long)))
+  here_down : get_or stored (2 * k + 1) 0 ≡ row_at rows k % 256
+  here_down = get_or-set_same (set m (2 * k) a) (2 * k + 1) b 0 (lt-length-set m (2 * k) a (omega (arith, w.long))) ∙ low
 
   behind : drop (2 * k + 2) stored ≡ drop (2 * k + 2) l
   behind =
-      drop-set-lt (2 * k + 2) (set m (2 * k) (get_or rows k 0 / 256)) (2 * k + 1) (get_or rows k 0 % 256) (omega arith)
-      ∙ (drop-set-lt (2 * k + 2) m (2 * k) (get_or rows k 0 / 256) (omega arith)
+      drop-set-lt (2 * k + 2) (set m (2 * k) a) (2 * k + 1) b (omega arith)
+      ∙ (drop-set-lt (2 * k + 2) m (2 * k) a (omega arith)
       ∙ (sym (drop-drop 2 (2 * k) m) ∙ (ap (drop 2) w.kept ∙ drop-drop 2 (2 * k) l)))
 
   pub rows_step : Doubled (k + 1) rows l stored
   rows_step =
       record {
-        long = length-set (set m (2 * k) (get_or rows k 0 / 256)) (2 * k + 1) (get_or rows k 0 % 256)
-            ∙ (length-set m (2 * k) (get_or rows k 0 / 256) ∙ w.long);
+        long = length-set (set m (2 * k) a) (2 * k + 1) b ∙ (length-set m (2 * k) a ∙ w.long);
         high = below_more _ k (λ i h. apart (2 * i) (omega arith) (omega arith) ∙ w.high i h) here_high;
         down = below_more _ k (λ i h. apart (2 * i + 1) (omega arith) (omega arith) ∙ w.down i h) here_down;
         kept = let e : 2 * (k + 1) ≡ 2 * k + 2 = omega arith in rw e behind;

@@ -6,7 +6,8 @@ use Rattle.scheduler.proofs.write.write_narrow.Goals as goal
 
 pub loop-k-preserved : goal.loop-k-preserved
 loop-k-preserved c =
-    rows_step c.loop-k.invariant (omega arith)
+    let small = c.requires.2 c.loop-k.k c.loop-k-test.true in
+    rows_step c.loop-k.invariant (omega arith) (rw c.to_be_bytes.ensures (omega (arith, small))) (rw c.to_be_bytes.ensures (omega arith))
 
 pub returns : goal.returns
 returns c =
