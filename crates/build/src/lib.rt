@@ -12,8 +12,8 @@ use plan::sheet::Sheet;
 use plan_measure::measure_read;
 use scheduler::run::run_read;
 
-// The twelve counts that are printed, in their order: of the run's tally and of the plan's measures, in one struct, for document 01's cases have
-// them in one.
+// The twelve counts that are printed, in their order: of the run's tally and of the plan's measures, in one struct, for document 01's
+// cases have them in one.
 #[derive(Clone, Copy, PartialEq, Eq)]
 pub struct Counts {
     pub rounds: u32,

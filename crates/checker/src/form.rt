@@ -45,8 +45,8 @@ fn header(form: u32, schedule: &[u8], actions: usize) -> Option<usize>
     Some(workers.value as usize)
 }
 
-// How many bits a row has: its round and, in the last four, its worker. A number for each form, as `more_of` is: one function for both would be
-// told which.
+// How many bits a row has: its round and, in the last four, its worker. A number for each form, as `more_of` is: one function for
+// both would be told which.
 fn row_width(form: u32) -> usize
     ensures { (result ≡ round_bits form + 4) × (result ≤ 20) }
 {

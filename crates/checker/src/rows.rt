@@ -1,5 +1,6 @@
-// The rows of a schedule, each as one number: 16 times its round, and its worker (document 01, "Schedule"). The runner has an array of the same
-// type; the checker knows nothing of the runner. One number of 32 bits is a schedule's own row, and half of a struct of two.
+// The rows of a schedule, each as one number: 16 times its round, and its worker (document 01, "Schedule"). The runner has an array
+// of the same type; the checker knows nothing of the runner. One number of 32 bits is a schedule's own row, and half of a struct of
+// two.
 ghost use Rattle.std.specs.Prelude.{◌<◌, ◌≡◌};
 ghost use Rattle.checker.specs.Chains.{entry};
 

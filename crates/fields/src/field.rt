@@ -89,8 +89,8 @@ pub fn cut(s: &[u8], at: usize, width: usize) -> Option<Field>
     })
 }
 
-// What is written of a row of fields: the whole bytes, and the bits that do not fill one yet, at the top of 32. The buffer is lent beside it and
-// not held in it: callers hand it on, and a contract says what stands in it before and after.
+// What is written of a row of fields: the whole bytes, and the bits that do not fill one yet, at the top of 32. The buffer is lent
+// beside it and not held in it: callers hand it on, and a contract says what stands in it before and after.
 #[derive(Clone, Copy)]
 pub struct Sink {
     pub bytes: usize,

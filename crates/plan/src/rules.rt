@@ -48,8 +48,8 @@ fn spawn_rule(k: usize, plan: &mut Sheet) -> bool
     true
 }
 
-// No action breaks a rule of its own spawn. The same walk over those that send a join is `joins_kept`; one of them writes the plan's arrays and
-// the other the counts of joins, so that one walk of both would have to be told which.
+// No action breaks a rule of its own spawn. The same walk over those that send a join is `joins_kept`; one of them writes the plan's
+// arrays and the other the counts of joins, so that one walk of both would have to be told which.
 fn spawns_kept(plan: &mut Sheet) -> bool
     requires { Some (LaidIn plan.old) }
     ensures same_form { plan.new.form ≡ plan.old.form }

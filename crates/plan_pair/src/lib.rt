@@ -1,5 +1,5 @@
-// Two plans under a new root, to be built together (document 02, L9). The result is laid out in the arrays of one plan: the first plan as soon as
-// that is read, then the second, then the new root. That it keeps all rules is proved and not tested.
+// Two plans under a new root, to be built together (document 02, L9). The result is laid out in the arrays of one plan: the first
+// plan as soon as that is read, then the second, then the new root. That it keeps all rules is proved and not tested.
 #![tactic(auto)]
 
 ghost use Rattle.std.specs.Prelude.{◌≡◌, ◌+◌, ◌≤◌, ◌<◌, length, take};
