@@ -20,6 +20,16 @@ def flat(s):
     s = re.sub(r'\s+', ' ', s).strip()
     return re.sub(r'\(\s+', '(', re.sub(r',?\s+\)', ')', s))
 
+# functions that several files of a crate have: those are told with their file
+def shared(c):
+    seen = {}
+    for f in files(c, r'/src/.*\.rt$'):
+        for name in re.findall(r'(?m)^(?:pub )?fn (\w+)', text(c, f)):
+            seen.setdefault((f.split('/')[1], name), set()).add(f)
+    return {k for k, fs in seen.items() if len(fs) > 1}
+
+several = shared(old) | shared(new)
+
 # functions and types of src/: crate::item -> text
 def code(c):
     out = {}
@@ -44,7 +54,9 @@ def code(c):
                     i += 1
                     head.append(lines[i])
                 public = m.group(1) or m.group(2) or (own and ' for ' in own)
-                name = f'{crate} {own + "::" if own else ""}{m.group(3)}'
+                stem = f.split('/')[-1][:-3]
+                within = own or (stem if (crate, m.group(3)) in several else None)
+                name = f'{crate} {within + "::" if within else ""}{m.group(3)}'
                 out[name] = (flat('\n'.join(head)).rstrip('{ ').strip(), bool(public), f)
             elif k:
                 head = [l]

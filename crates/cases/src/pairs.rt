@@ -1,5 +1,7 @@
 // Two plans are put under a new root. The file has the lengths of both, each in two bytes, the high one first, both plans, and then
 // what is to be written. The frame stands in `rest`, and behind a space the room, where not the whole buffer is lent.
+ghost use Rattle.std.specs.Prelude.{◌<◌};
+
 use crate::buffers::{BYTE, BYTES, kept};
 use crate::parts::{first_word, number, room};
 use crate::plans;
@@ -29,7 +31,9 @@ pub fn case(rt: &impl Print, input: &[u8], rest: Option<&[u8]>) -> io::Result<()
     }
 }
 
-fn length(high: u8, low: u8) -> usize {
+pub fn length(high: u8, low: u8) -> usize
+    ensures { result < 65536 }
+{
     usize::from(u16::from_be_bytes([high, low]))
 }
 

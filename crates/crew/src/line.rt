@@ -5,7 +5,7 @@ ghost use Rattle.crew.specs.Line.{Lined, without, no_lines, waiting_at, LiningUp
 
 // The line of each victim, four bits a worker, the oldest request lowest, and how many stand in it. The memory is fixed: sixteen
 // workers are all that can stand in a line.
-#[derive(Drop)]
+#[derive(Clone, Copy, PartialEq, Eq)]
 pub struct Lines {
     lines: [u64; 16],
     counts: [u64; 16],

@@ -10,7 +10,7 @@ use runs::worker::Worker;
 
 // One deque: the place of its top job, how many jobs it has, and the places of its jobs, the top one first and the bottom one last.
 // Its memory is fixed: there are 256 places.
-#[derive(Clone, Copy)]
+#[derive(Clone, Copy, PartialEq, Eq)]
 pub struct Deque {
     top: u8,
     len: u8,

@@ -30,6 +30,7 @@ fn note(row: &[u16], list: &mut [u16; 2048]) -> usize
 fn spawn_rule(k: usize, plan: &mut Sheet) -> bool
     requires { Some (SpawnAt k plan.old) }
     ensures same_form { plan.new.form ≡ plan.old.form }
+    ensures same_counts { (plan.new.jobs ≡ plan.old.jobs) × (plan.new.actions ≡ plan.old.actions) }
     ensures told { SpawnAt k plan.old ⇒ SpawnTold (suc k) result plan.new }
 {
     let c = plan.child_at(k) - 1;
@@ -53,6 +54,7 @@ fn spawn_rule(k: usize, plan: &mut Sheet) -> bool
 fn spawns_kept(plan: &mut Sheet) -> bool
     requires { Some (LaidIn plan.old) }
     ensures same_form { plan.new.form ≡ plan.old.form }
+    ensures same_counts { (plan.new.jobs ≡ plan.old.jobs) × (plan.new.actions ≡ plan.old.actions) }
     ensures told { LaidIn plan.old ⇒ (λ p. SpawnTold (total p) result plan.new p) }
 {
     let mut list = [0u16; 2048];
@@ -85,6 +87,7 @@ fn all_spawned(plan: &Sheet) -> bool
 pub fn spawn_rules(plan: &mut Sheet) -> bool
     requires { Some (LaidIn plan.old) }
     ensures same_form { plan.new.form ≡ plan.old.form }
+    ensures same_counts { (plan.new.jobs ≡ plan.old.jobs) × (plan.new.actions ≡ plan.old.actions) }
     ensures told { LaidIn plan.old ⇒ (λ p. (result ≡ spawn_rules p) × (T result → SpawnedIn plan.new p)) }
 {
     spawns_kept(plan) && all_spawned(plan)
@@ -149,7 +152,9 @@ fn lasts_send(plan: &Sheet) -> bool
 }
 
 // Whether joins go to later actions of the parent, not right after a spawn, at most 8 into one, and every last action but
-// job 0's sends one. Where they do, `entering` tells of each action how many enter it.
+// job 0's sends one. Where they do, `entering` tells of each action how many enter it. It is part of its callers, so that its list of
+// 4 KB takes the place of that of the spawn rules and `check` stays below 64 KiB of stack.
+#[inline(always)]
 pub fn join_rules(plan: &Sheet, entering: &mut [u8; 2048]) -> bool
     requires { Some (SpawnedIn plan.now) × Unentered entering.old }
     ensures { SpawnedIn plan.now

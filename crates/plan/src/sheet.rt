@@ -13,7 +13,7 @@ ghost use Rattle.plan.specs.Sheet.{with_action, with_frame, with_first, with_spa
 // A child, a target and a spawn are numbers plus 1 and no Options: children and targets are the numbers of the open table and of the bytes,
 // and writers, tables and pairs hand them on as they stand; a spawn is kept as a target is, so that the later has the larger number.
 // Each kind has an array of its own and no struct an action: children or targets alone are walked (`note` in src/rules.rt).
-#[derive(Drop)]
+#[derive(Clone, Copy, PartialEq, Eq)]
 pub struct Sheet {
     pub form: u32,
     pub jobs: usize,

@@ -8,10 +8,10 @@ use crew::set::{has, lowest, with, without};
 
 // The ready jobs as a set, job j as bit j % 64 of word j / 64, and the count of living children of each job. The memory is fixed:
 // there are 256 jobs.
-#[derive(Drop)]
+#[derive(Clone, Copy, PartialEq, Eq)]
 pub struct Pool {
     ready: [u64; 4],
-    children: [u16; 256],
+    children: [u64; 256],
 }
 
 impl Pool {

@@ -65,9 +65,10 @@ pub fn with_miss(t: Tally, miss: Miss) -> Tally
     requires { Countable t }
     ensures { result ≡ with_service t (Err miss) }
 {
+    let bare = u32::from(miss == Miss::Bare);
     Tally {
-        bare: t.bare + u32::from(miss == Miss::Bare),
-        idle_victim: t.idle_victim + u32::from(miss == Miss::IdleVictim),
+        bare: t.bare + bare,
+        idle_victim: t.idle_victim + (1 - bare),
         ..t
     }
 }

@@ -7,7 +7,7 @@ use plan::sheet::Sheet;
 
 // Of 256 jobs how many actions are done, and how many rounds were spent on each one's next action; of 2,048 actions how many joins
 // each one misses. The arrays have a fixed size.
-#[derive(Drop)]
+#[derive(Clone, Copy, PartialEq, Eq)]
 pub struct Progress {
     pub done: [u8; 256],
     pub spent: [u8; 256],

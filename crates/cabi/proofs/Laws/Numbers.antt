@@ -9,7 +9,7 @@ use lib.ListN.{take}
 use Rattle.plan.specs.declared.refusal.Refusal.{Refusal}
 use Rattle.plan.specs.declared.refusal.Refusal.TheVariants.{RanOut, Form, Range, Spawn, Join, Fill, Workers, Choices, Short, Table, Schedule, Rule}
 use Rattle.plan.specs.declared.refusal.Refusal.TheVariants.{Name, Round, Cost, Changes, Pair, Deadline, Windows, Clock}
-use Rattle.plan.specs.Refusal.{accepted, number_of}
+use Rattle.plan.specs.Refusal.{Outcome, accepted, number_of}
 use Rattle.plan.specs.Plan.{Plan, total}
 use Rattle.plan.specs.Reader.{Read, read_plan}
 use Rattle.plan_measure.specs.declared.Measures.{Measures}
@@ -81,6 +81,11 @@ paired_count frame s t a l claim r e = count_claim (λ n. Result frame s t (take
 pub measures_divided : (r : Returned Measures Refusal) → MeasuresDivided r → (d : DwMeasures) → d ≡ measures_of (told r) → Divided d
 measures_divided (Err cause) divided d e z = absurd (number_some cause (sym (ap (λ (d : DwMeasures). d.refused) e) ∙ z))
 measures_divided (Ok m) divided d e z = rw e (divided m refl)
+
+-- what it answered, with its numbers
+pub measures_accepted : (o : Outcome Measures) (r : Returned Measures Refusal) → told r ≡ o → MeasuresDivided r → (m : Measures) → r ≡ Ok m
+    → (measures_of (accepted m) ≡ measures_of o) × Divided (measures_of (accepted m))
+measures_accepted o r ensures divided m e = (rw (← ensures, e), λ z. divided m e)
 
 -- what an entry that runs answered and left, with the numbers that stand for it
 pub tallies : (w : Result') (r : Returned Tally Refusal) (l : List ℕ) → record { answer = ran_of r; schedule = l } ≡ w → (d : DwTally) → d ≡ tally_of (ran_of r)

@@ -95,11 +95,11 @@ module _ (p : Plan) (k : ℕ) (plan : Sheet) (g : SpawnAt k plan p) where
     allowed t = spawn_fits_lem (length p) (here p k) (s - 1) (spawn_allowed p t k g.here) spawn_here
 
     -- the child is no job
-    pub refused_many : plan.jobs ≤ s - 1 → SpawnTold (suc k) false plan p
+    pub refused_many : {after : Sheet} → plan.jobs ≤ s - 1 → SpawnTold (suc k) false after p
     refused_many m = told_no (λ t. omega (arith, allowed t, g.recorded.jobs))
 
     -- the child is not above its parent
-    pub refused_older : (q : ℕ) → q ≡ job_at plan k → s - 1 ≤ q → SpawnTold (suc k) false plan p
+    pub refused_older : {after : Sheet} (q : ℕ) → q ≡ job_at plan k → s - 1 ≤ q → SpawnTold (suc k) false after p
     refused_older q o m = told_no (λ t. omega (arith, allowed t, lies.owners k g.here))
 
     module _ (b : s - 1 < plan.jobs) where
@@ -107,7 +107,7 @@ module _ (p : Plan) (k : ℕ) (plan : Sheet) (g : SpawnAt k plan p) where
       known = omega (arith, g.recorded.jobs)
 
       -- the child was spawned before
-      pub refused_twice : (d : ℕ) → d ≡ spawn_of plan (s - 1) → d ≢ 0 → SpawnTold (suc k) false plan p
+      pub refused_twice : {after : Sheet} (d : ℕ) → d ≡ spawn_of plan (s - 1) → d ≢ 0 → SpawnTold (suc k) false after p
       refused_twice d i m =
           told_no
           (λ t. omega (

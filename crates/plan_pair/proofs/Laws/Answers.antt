@@ -32,15 +32,15 @@ use Rattle.plan_pair.proofs.Laws.Pairing.{part_size, part_cost, Whose, top, mine
 use Rattle.plan_pair.proofs.Laws.Accepting.{fits_told, pair_accepted}
 use Rattle.plan_pair.proofs.Laws.Together.{together}
 
-form_first : (a b : ℕ) → (a ≡ 1 → ⊥) → 2 ≡ pair_form a b
+pub form_first : (a b : ℕ) → (a ≡ 1 → ⊥) → 2 ≡ pair_form a b
 unfolding pair_form
 form_first a b f = rw (pair_form, ne_eqb a 1 f)
 
-form_second : (a b : ℕ) → a ≡ 1 → (b ≡ 1 → ⊥) → 2 ≡ pair_form a b
+pub form_second : (a b : ℕ) → a ≡ 1 → (b ≡ 1 → ⊥) → 2 ≡ pair_form a b
 unfolding pair_form
 form_second a b e f = rw (e, pair_form, ne_eqb b 1 f)
 
-form_one : (a b : ℕ) → a ≡ 1 → b ≡ 1 → 1 ≡ pair_form a b
+pub form_one : (a b : ℕ) → a ≡ 1 → b ≡ 1 → 1 ≡ pair_form a b
 unfolding pair_form
 form_one a b e f = rw (e, f)
 

@@ -69,7 +69,7 @@ joins-preserved c =
     let f = walk_falls _ _ _ _ _ _ _ _ l w (omega arith) in (
       c.joins.invariant.0,
       omega (arith, c.back_from-sender.ensures, ap plus_one c.in-Some-sender.is),
-      rw c.back_from-sender.ensures (walk_next _ _ _ _ _ _ _ _ l w (omega arith)
+      rw (← c.back_from-sender.ensures) at (walk_next _ _ _ _ _ _ _ _ l w (omega arith)
           (omega (arith, c.if-first-row_of.false, c.row_of.ensures.0, c.in-Some.ensures.2))),
     )
 

@@ -11,6 +11,7 @@ use Rattle.plan.proofs.rules.spawn_rules.Goals as goal
 pub returns-else-spawns_kept : goal.returns-else-spawns_kept
 returns-else-spawns_kept c = record {
   same_form = c.spawns_kept.ensures.same_form;
+  same_counts = c.spawns_kept.ensures.same_counts;
   told = λ p g.
       let k = c.spawns_kept in
       rw c.if-spawns_kept.false (sym (false_of (spawn_rules p) ((k.ensures.told p g).broken (not_passed k.result c.if-spawns_kept.false))), λ x. absurd x);
@@ -26,6 +27,7 @@ all_spawned-requires c =
 pub returns-then-spawns_kept : goal.returns-then-spawns_kept
 returns-then-spawns_kept c = record {
   same_form = c.spawns_kept.ensures.same_form;
+  same_counts = c.spawns_kept.ensures.same_counts;
   told = λ p g.
       let k = c.spawns_kept in
       spawns_told p _ ((k.ensures.told p g).kept (passed k.result c.if-spawns_kept.true)) _ c.all_spawned.ensures;

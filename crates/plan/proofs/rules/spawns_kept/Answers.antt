@@ -54,7 +54,7 @@ slice_bounds-k-items-end c =
     omega (arith, length-take l.result l.new.list, held _ x.0 x.1 _ _ l.ensures)
 
 pub loop-k-init : goal.loop-k-init
-loop-k-init c = (refl, λ p g. recorded_start _ p g)
+loop-k-init c = (refl, λ p g. recorded_start _ p g, (refl, refl))
 
 -- the place is one of those listed
 listed : (c : After-from) → c.loop-k.k-index < c.note-count.result
@@ -77,6 +77,7 @@ spawn_rule-requires c = let x = c.requires in (x.0, next (goal.at.spawn_rule-req
 pub returns-then-not-spawn_rule : goal.returns-then-not-spawn_rule
 returns-then-not-spawn_rule c = record {
   same_form = c.spawn_rule.ensures.same_form ∙ c.loop-k.invariant.0;
+  same_counts = (c.spawn_rule.ensures.same_counts.0 ∙ c.loop-k.invariant.2.0, c.spawn_rule.ensures.same_counts.1 ∙ c.loop-k.invariant.2.1);
   told = λ p g.
       told_no ((c.spawn_rule.ensures.told p (next (goal.at.returns-then-not-spawn_rule c).After-from p g)).broken (not_passed c.spawn_rule.result c.if-not-spawn_rule.true));
 }
@@ -87,11 +88,13 @@ loop-k-preserved c = (
   λ p g.
       rw (← upto_more _ _ _ c.from.ensures)
       ((c.spawn_rule.ensures.told p (next (goal.at.loop-k-preserved c).After-from p g)).kept (passed c.spawn_rule.result c.if-not-spawn_rule.false)),
+  (c.spawn_rule.ensures.same_counts.0 ∙ c.loop-k.invariant.2.0, c.spawn_rule.ensures.same_counts.1 ∙ c.loop-k.invariant.2.1),
 )
 
 pub returns : goal.returns
 returns c = record {
   same_form = c.loop-k.invariant.0;
+  same_counts = c.loop-k.invariant.2;
   told = λ p g.
       let l = c.note-count in
       let e : c.loop-k.k-index ≡ l.result = omega (arith, length-take l.result l.new.list, held _ p g _ _ l.ensures) in

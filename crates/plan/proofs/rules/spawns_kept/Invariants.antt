@@ -10,3 +10,4 @@ use Rattle.plan.proofs.rules.spawns_kept.Given as goal
 abbrev pub invariant-loop-k : goal.invariant-loop-k
 invariant-loop-k l =
     (l.plan.form ≡ l.initial.plan.form) × ((p : Plan) → LaidIn l.initial.plan p → Recorded (upto l.k-items l.k-index) l.plan p)
+    × ((l.plan.jobs ≡ l.initial.plan.jobs) × (l.plan.actions ≡ l.initial.plan.actions))
